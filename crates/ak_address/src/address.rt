@@ -1,0 +1,100 @@
+ghost use Rattle.std.specs.Prelude.{◌≡◌, IfOk};
+ghost use Rattle.std.specs.Cmp.{IsTotalOrder};
+ghost use Rattle.std.specs.FinMap.{IsAntisymmetric};
+ghost use Rattle.ak_address.specs.Unique.{address_cmp, unique_cmp};
+
+use crate::text::Text;
+use std::alloc::{AllocError, Global};
+use std::cmp::Ordering;
+use std::marker::Model;
+
+/// Where a process is reached: a host of 1 to 64 bytes out of letters, digits, `.`, `-` and `_`, and a
+/// port from 1 on. Both are invariants of the type.
+#[derive(Debug, Drop)]
+pub struct Address {
+    pub host: Text,
+    pub port: u16,
+}
+
+impl Model for Address {
+    ghost use Rattle.ak_address.specs.Unique.{Endpoint, coded_address, IsAddress};
+
+    ghost Value = { Endpoint };
+
+    ghost coded = { coded_address };
+
+    ghost view = { λ a. record { host = a.host; port = a.port } };
+
+    ghost invariant = { λ a. IsAddress (record { host = a.host; port = a.port }) };
+}
+
+impl Address {
+    /// The order of addresses: by the bytes of the host, then by the port (Akka orders members by host and port;
+    /// that hosts are compared by bytes is this project's choice). Takes no memory.
+    pub fn compare(&self, other: &Address) -> Ordering
+        ensures { result ≡ address_cmp self.now other.now }
+    {
+        let hosts = self.host.bytes().cmp(other.host.bytes());
+        if hosts.is_eq() {
+            return self.port.cmp(&other.port);
+        }
+        hosts
+    }
+
+    /// An equal address. Only memory can fail.
+    pub fn copy(&self, alloc: Global) -> Result<Address, AllocError>
+        ensures { IfOk result (λ copy. copy ≡ self.now) }
+    {
+        let host = self.host.copy(alloc)?;
+        let port = self.port;
+        Ok(Address { host, port })
+    }
+}
+
+/// One process: its address, and a uid from 1 to 9223372036854775807. A process that starts again at
+/// an address has another uid. The ranges are invariants of the type.
+#[derive(Debug, Drop)]
+pub struct Unique {
+    pub address: Address,
+    pub uid: u64,
+}
+
+impl Model for Unique {
+    ghost use Rattle.ak_address.specs.Unique.{Process, coded_unique, IsUnique};
+
+    ghost Value = { Process };
+
+    ghost coded = { coded_unique };
+
+    ghost view = { λ u. record { address = u.address; uid = u.uid } };
+
+    ghost invariant = { λ u. IsUnique (record { address = u.address; uid = u.uid }) };
+}
+
+impl Unique {
+    /// The order of processes: by address, then by uid (Akka's order of unique addresses). Takes no memory.
+    pub fn compare(&self, other: &Unique) -> Ordering
+        ensures { result ≡ unique_cmp self.now other.now }
+    {
+        let addresses = self.address.compare(&other.address);
+        if addresses.is_eq() {
+            return self.uid.cmp(&other.uid);
+        }
+        addresses
+    }
+
+    /// An equal unique. Only memory can fail.
+    pub fn copy(&self, alloc: Global) -> Result<Unique, AllocError>
+        ensures { IfOk result (λ copy. copy ≡ self.now) }
+    {
+        let address = self.address.copy(alloc)?;
+        let uid = self.uid;
+        Ok(Unique { address, uid })
+    }
+}
+
+/// The orders of addresses and of processes are total, and only equal ones tie.
+pub fn orders_are_total()
+    ensures addresses { IsTotalOrder address_cmp × IsAntisymmetric address_cmp }
+    ensures uniques { IsTotalOrder unique_cmp × IsAntisymmetric unique_cmp }
+{}
