@@ -1,0 +1,139 @@
+-- A node of the cluster: its state, and what one event makes of it (Akka's Cluster Specification, "Membership Lifecycle",
+-- "Joining"; the messages and their order are this project's choice).
+use Rattle.std.specs.Prelude.{◌≡◌, ℕ, ◌+◌, Bool, true, false, ◌&&◌, ◌||◌, not, nat_le, ◌==◌, List, [], ◌∷◌, ◌++◌, Option, Some, None, Result, Ok, Err, if◌then◌else◌}
+use Rattle.std.specs.FinMap.{FinMap}
+use Rattle.ak_address.specs.Uniques.{UniqueSet, has, union, how_many, in_order}
+use Rattle.std.specs.List.{list_any}
+use Rattle.std.specs.Ordering.{is_eq}
+use Rattle.ak_address.specs.Unique.{Endpoint, Process, address_cmp, unique_cmp}
+use Rattle.ak_clock.specs.Version.{count, relation, is_same}
+use Rattle.ak_clock.specs.declared.version.Relation as clock
+use Rattle.ak_driver.specs.declared.member.Effect.{Effect}
+use Rattle.ak_driver.specs.declared.member.Effect.TheVariants.{Joined}
+use Rattle.ak_driver.specs.declared.gossip.Received as received
+use Rattle.ak_driver.specs.declared.gossip.GossipFault as fault
+use Rattle.ak_driver.specs.declared.wire.Message.{Message}
+use Rattle.ak_driver.specs.declared.wire.Message as message
+use Rattle.ak_driver.specs.declared.wire.Envelope.{Envelope}
+use Rattle.ak_schedule.specs.Settings.{Setup}
+use Rattle.ak_driver.specs.declared.node.State.{State}
+use Rattle.ak_driver.specs.declared.node.NodeEvent.{NodeEvent}
+use Rattle.ak_driver.specs.declared.node.NodeEvent as event
+use Rattle.ak_driver.specs.declared.node.Action.{Action}
+use Rattle.ak_driver.specs.declared.node.Action as action
+use Rattle.ak_driver.specs.Gossip.{GossipState, nothing_known, updated, receive}
+
+-- a process starts, and knows nothing
+abbrev pub started : Process → Setup → State
+started me settings = record { me = me; settings = settings; steps = 0; gossip = nothing_known; founder = false; target = None }
+
+-- a node is a member where it is one of what it knows
+abbrev pub is_member : State → Bool
+is_member n = has n.gossip.members n.me
+
+-- what a rule makes of a state, and what it does
+abbrev pub Outcome : Type 0
+Outcome = State × List Action
+
+abbrev pub nothing : State → Outcome
+nothing n = (n, [])
+
+abbrev pub refused : ℕ → State → Outcome
+refused why n = (n, action.TheVariants.Refused why ∷ [])
+
+-- a message to one process, and to whichever process is at an address
+abbrev pub to_process : State → Process → Message → Action
+to_process n to what = action.TheVariants.Send (record { from = n.me; to = to.address; uid = to.uid; message = what })
+
+abbrev pub to_address : State → Endpoint → Message → Action
+to_address n to what = action.TheVariants.Send (record { from = n.me; to = to; uid = 0; message = what })
+
+-- the node makes one update, by these effects
+abbrev pub update : List Effect → State → Outcome
+update effects n =
+    (record n { gossip = updated n.me effects n.gossip },
+    action.TheVariants.Update (count n.gossip.version n.me + 1) effects ∷ [])
+
+-- then the node answers with what it knows
+abbrev pub and_sends : (GossipState → Message) → Process → Outcome → Outcome
+and_sends what to o = (o.0, o.1 ++ to_process o.0 to (what o.0.gossip) ∷ [])
+
+-- founding: the node becomes the first member
+abbrev pub found : State → Outcome
+found n = if is_member n then nothing n else update (Joined n.me ∷ []) (record n { founder = true })
+
+-- the node asks to join, through an address
+abbrev pub join : Endpoint → State → Outcome
+join target n =
+    if is_member n then nothing n
+    else (record n { target = Some target }, to_address n target message.TheVariants.Join ∷ [])
+
+abbrev pub is_listed : List Endpoint → Endpoint → Bool
+is_listed listed a = list_any (λ b. is_eq (address_cmp b a)) listed
+
+-- another member is at the address of this one
+abbrev pub is_taken : Process → UniqueSet → Bool
+is_taken who members = list_any (λ m. is_eq (address_cmp m.address who.address)) (in_order members)
+
+-- a view that holds this many uniques admits no further process
+abbrev pub most_at_join : ℕ
+most_at_join = 64
+
+-- A process asks to join. (What happens where another member is at its address comes with downing; no run of a world reaches it.)
+abbrev pub on_join : Process → State → Outcome
+on_join from n =
+    if not (is_member n) then refused 3 n
+    else (if not (is_listed n.settings.listed from.address) then refused 4 n
+    else (if has n.gossip.members from then and_sends message.TheVariants.Welcome from (nothing n)
+    else (if is_taken from n.gossip.members then nothing n
+    else (if nat_le most_at_join (how_many n.gossip.members) then refused 6 n
+    else and_sends message.TheVariants.Welcome from (update (Joined from ∷ []) n)))))
+
+-- the sender of a gossip is answered, but where it is known to know what the node knows
+abbrev pub is_answered : Process → GossipState → received.Received → Bool
+is_answered me incoming received.TheVariants.Same = not (has incoming.seen me)
+is_answered me incoming received.TheVariants.Newer = true
+is_answered me incoming received.TheVariants.Older = true
+is_answered me incoming received.TheVariants.Merged = true
+
+abbrev pub on_received : Process → GossipState → State → Result (received.Received × GossipState) fault.GossipFault → Outcome
+on_received from incoming n (Err (fault.TheVariants.ForeignCount own theirs)) = refused 5 n
+on_received from incoming n (Err (fault.TheVariants.TooManyUniques union)) = refused 6 n
+on_received from incoming n (Err fault.TheVariants.NoMemory) = nothing n
+on_received from incoming n (Ok r) =
+    let known = nothing (record n { gossip = r.1 }) in
+    if is_answered n.me incoming r.0 then and_sends message.TheVariants.Gossip from known else known
+
+-- a gossip that does not know of the node is passed over
+abbrev pub on_gossip : Process → GossipState → State → Outcome
+on_gossip from incoming n =
+    if has incoming.members n.me
+    then on_received from incoming n (receive n.me n.gossip incoming)
+    else nothing n
+
+abbrev pub on_message : Process → Message → State → Outcome
+on_message from message.TheVariants.Join n = on_join from n
+on_message from (message.TheVariants.Welcome g) n = on_gossip from g n
+on_message from (message.TheVariants.Gossip g) n = on_gossip from g n
+
+-- a packet is for this process, or for whichever is at its address
+abbrev pub is_for : Process → Envelope → Bool
+is_for me e = is_eq (address_cmp e.to me.address) && (e.uid == 0 || e.uid == me.uid)
+
+abbrev pub rule : NodeEvent → State → Outcome
+rule event.TheVariants.Found n = found n
+rule (event.TheVariants.Join target) n = join target n
+rule (event.TheVariants.Packet e) n =
+    if is_for n.me e then on_message e.from e.message n else (n, action.TheVariants.Dead ∷ [])
+
+-- the view is shown where the version is another than before
+abbrev pub is_other : FinMap unique_cmp ℕ → FinMap unique_cmp ℕ → Bool
+is_other old new = not (is_same (relation old new))
+
+abbrev pub closed : State → Outcome → Outcome
+closed before o =
+    if is_other before.gossip.version o.0.gossip.version then (o.0, o.1 ++ action.TheVariants.View ∷ []) else o
+
+-- one event given to a node: its rule, and then the closing
+abbrev pub step : NodeEvent → State → Outcome
+step e n = closed n (rule e (record n { steps = n.steps + 1 }))

@@ -1,0 +1,20 @@
+-- Words of the contracts of a node's calls.
+use Rattle.std.specs.Prelude.{◌≡◌, ℕ, ◌≤◌, Bool, List}
+use Rattle.ak_clock.specs.Version.{count}
+use Rattle.ak_driver.specs.declared.node.State.{State}
+use Rattle.ak_driver.specs.declared.node.Action.{Action}
+use Rattle.ak_driver.specs.Node.{Outcome}
+
+-- a node's state; a spent node has met want of memory
+pub record Machine : Type 0 where
+  pub state : State
+  pub spent : Bool
+
+-- what a rule makes of a state is this state, with these actions
+pub record Does (outcome : Outcome) (state : State) (actions : List Action) : Type 0 where
+  pub state_after : state ≡ outcome.0
+  pub actions_done : actions ≡ outcome.1
+
+-- a node made at most one update in each of its steps
+abbrev pub IsOwnCount : State → Type 0
+IsOwnCount n = count n.gossip.version n.me ≤ n.steps

@@ -1,0 +1,121 @@
+-- What a replay of a recorded schedule prints, and its status: a relation over the schedule's lines, by the grammar of a line
+-- and the rules of the world.
+use Rattle.std.specs.Prelude.{◌≡◌, ℕ, ◌+◌, ◌<◌, ◌≤◌, ◌⊎◌, List, [], ◌∷◌, ◌++◌, codes, slice_get, Result, Ok, Err, IfSome}
+use Rattle.std.specs.Fmt.{decimal}
+use Rattle.ak_schedule.specs.Line.{lines, IsPassedOver}
+use Rattle.ak_schedule.specs.Settings.{Setup}
+use Rattle.ak_schedule.specs.Schedule.{headers, SetsHeader, SpellsEvent}
+use Rattle.ak_schedule.specs.declared.settings.Strategy.TheVariants.{DownAll}
+use Rattle.ak_schedule.specs.declared.event.Event.{Event}
+use Rattle.ak_driver.specs.declared.world.Refused.{Refused}
+use Rattle.ak_driver.specs.World.{WorldState, Done, empty_world, happens}
+use Rattle.ak_driver.specs.StepText.{step_text, summary_text}
+
+-- a schedule may have this many lines, and events
+abbrev pub most_lines : ℕ
+most_lines = 200000
+
+abbrev pub most_events : ℕ
+most_events = 50000
+
+abbrev pub header_count : ℕ
+header_count = 9
+
+-- how far a replay has come
+pub record Progress : Type 0 where
+  -- the number of the next line, from 1 on
+  pub line : ℕ
+  -- how many headers were read, and what they set
+  pub headers : ℕ
+  pub setup : Setup
+  pub world : WorldState
+  pub steps : ℕ
+
+-- why a line is refused
+pub data Code : Type 0 where
+  S1 : Code
+  S12 : Code
+  S13 : Code
+
+abbrev pub code_text : Code → List ℕ
+code_text S1 = codes "S1"
+code_text S12 = codes "S12"
+code_text S13 = codes "S13"
+
+abbrev pub refusal_text : Code → ℕ → List ℕ
+refusal_text code line = codes "error 4 " ++ code_text code ++ codes " line " ++ decimal line ++ 10 ∷ []
+
+-- what one line does
+pub data Judgement : Type 0 where
+  Passes : Judgement
+  Sets : Setup → Judgement
+  Steps : Event → Done → Judgement
+  Refuses : Code → Judgement
+
+-- a header, or an event, is wanted of a line that is not passed over
+pub record WantsHeader (p : Progress) (line : List ℕ) : Type 0 where
+  pub in_limit : p.line ≤ most_lines
+  pub not_passed : IsPassedOver line → ⊥
+  pub heading : p.headers < header_count
+
+pub record WantsEvent (p : Progress) (line : List ℕ) : Type 0 where
+  pub in_limit : p.line ≤ most_lines
+  pub not_passed : IsPassedOver line → ⊥
+  pub running : header_count ≤ p.headers
+
+-- the line sets the next header
+abbrev pub SetsNext : Progress → List ℕ → Setup → Type 0
+SetsNext p line setup = IfSome (slice_get headers p.headers) (λ which. SetsHeader which line p.setup setup)
+
+-- the line is an event that is no longer taken, for there were as many as there may be
+abbrev pub IsPastEvents : Progress → List ℕ → Type 0
+IsPastEvents p line = WantsEvent p line × (most_events ≤ p.steps)
+
+-- no header where one is wanted
+abbrev pub IsNoHeader : Progress → List ℕ → Type 0
+IsNoHeader p line = WantsHeader p line × ((setup : Setup) → SetsNext p line setup → ⊥)
+
+-- the line spells an event that the world refuses
+abbrev pub IsInvalid : Progress → List ℕ → Type 0
+IsInvalid p line =
+    WantsEvent p line × (p.steps < most_events) × (event : Event) × (why : Refused) × SpellsEvent line event × (happens p.setup event p.world ≡ Err why)
+
+abbrev pub Judged : Progress → List ℕ → Judgement → Type 0
+Judged p line Passes = (p.line ≤ most_lines) × IsPassedOver line
+Judged p line (Sets setup) = WantsHeader p line × SetsNext p line setup
+Judged p line (Steps event done) = WantsEvent p line × (p.steps < most_events) × SpellsEvent line event × (happens p.setup event p.world ≡ Ok done)
+Judged p line (Refuses S12) = (most_lines < p.line) ⊎ IsPastEvents p line
+Judged p line (Refuses S1) = WantsEvent p line × (p.steps < most_events) × ((event : Event) → SpellsEvent line event → ⊥)
+Judged p line (Refuses S13) = IsNoHeader p line ⊎ IsInvalid p line
+
+-- a replay goes on behind a line, or ends there
+abbrev pub GoesOn : Progress → Judgement → (Progress → ℕ → List ℕ → Type 0) → ℕ → List ℕ → Type 0
+GoesOn p Passes Rest status text = Rest (record p { line = p.line + 1 }) status text
+GoesOn p (Sets setup) Rest status text = Rest (record p { line = p.line + 1; headers = p.headers + 1; setup = setup }) status text
+GoesOn p (Steps event done) Rest status text =
+    (rest : List ℕ)
+    × Rest (record p { line = p.line + 1; steps = p.steps + 1; world = done.world }) status rest
+    × (text ≡ step_text p.world (p.steps + 1) event done ++ rest)
+GoesOn p (Refuses code) Rest status text = (status ≡ 4) × (text ≡ refusal_text code p.line)
+
+-- behind the last line: the summary, or a header is missing
+abbrev pub Ends : Progress → ℕ → List ℕ → Type 0
+Ends p status text =
+    ((header_count ≤ p.headers) × (status ≡ 0) × (text ≡ summary_text p.steps p.world))
+    ⊎ ((p.headers < header_count) × (status ≡ 4) × (text ≡ refusal_text S13 p.line))
+
+-- what a replay of these lines prints, and its status
+abbrev pub Replays : Progress → List (List ℕ) → ℕ → List ℕ → Type 0
+Replays p [] status text = Ends p status text
+Replays p (line ∷ lines) status text = (judgement : Judgement) × Judged p line judgement × GoesOn p judgement (λ q. Replays q lines) status text
+
+-- before the first line nothing is set; each value is replaced by its header
+abbrev pub unset : Setup
+unset = record { listed = []; strategy = DownAll; margin = 1; deadline = 1; stable = 1; shards = 1; buffer = 1; threshold = 1; limit = 1 }
+
+abbrev pub at_start : Progress
+at_start = record { line = 1; headers = 0; setup = unset; world = empty_world; steps = 0 }
+
+-- the bytes of a schedule have this replay text and status
+abbrev pub IsReplay : List ℕ → ℕ → List ℕ → Type 0
+IsReplay bytes status text = Replays at_start (lines bytes) status text

@@ -1,0 +1,150 @@
+//! What a node knows of the cluster, and what it makes of a gossip that comes (Akka's Cluster Specification,
+//! "Gossip" and "Gossip Convergence").
+
+ghost use Rattle.std.specs.Prelude.{◌≡◌, ℕ, ◌<◌, IfOk, OnOk, OnErr};
+
+ghost use Rattle.ak_clock.specs.Version.{count};
+ghost use Rattle.ak_driver.specs.Gossip.{GossipState, nothing_known, updated, receive};
+ghost use Rattle.ak_driver.specs.GossipWords.{Receives};
+
+use crate::member::{Effect, Effects};
+use ak_address::{Unique, Uniques};
+use ak_clock::{Relation, Version};
+use std::alloc::{AllocError, Global};
+use std::marker::Model;
+
+/// How a gossip that was taken was related to what the node knew.
+#[derive(Clone, Copy, Debug, PartialEq, Eq)]
+pub enum Received {
+    /// Both knew the same.
+    Same,
+    /// The gossip knew all that the node knew, and more.
+    Newer,
+    /// The node knew all that the gossip knew, and more.
+    Older,
+    /// Each knew what the other did not.
+    Merged,
+}
+
+/// Why a gossip is refused.
+#[derive(Clone, Copy, Debug, PartialEq, Eq)]
+pub enum GossipFault {
+    /// It counts more updates of the receiving node than the node made.
+    ForeignCount { own: u64, theirs: u64 },
+    /// Together with it the node would hold more than 128 uniques.
+    TooManyUniques { union: u32 },
+    NoMemory,
+}
+
+/// What a node knows: the version of what it has seen, the members after that, and which nodes are known
+/// to know exactly the same.
+#[derive(Debug, Drop)]
+pub struct Gossip {
+    version: Version,
+    members: Uniques,
+    seen: Uniques,
+}
+
+impl Model for Gossip {
+    ghost use Rattle.ak_driver.specs.Gossip.{GossipState, coded_gossip};
+
+    ghost Value = { GossipState };
+
+    ghost coded = { coded_gossip };
+
+    ghost view = { λ g. record { version = g.version; members = g.members; seen = g.seen } };
+}
+
+impl Gossip {
+    /// Nothing is known. Takes no memory.
+    pub fn empty(alloc: Global) -> Gossip
+        ensures { result ≡ nothing_known }
+    {
+        Gossip {
+            version: Version::empty(alloc),
+            members: Uniques::empty(alloc),
+            seen: Uniques::empty(alloc),
+        }
+    }
+
+    /// How many updates of each author are known.
+    pub fn version(&self) -> &Version
+        ensures { result.now ≡ self.now.version }
+    {
+        &self.version
+    }
+
+    /// The members after the known updates.
+    pub fn members(&self) -> &Uniques
+        ensures { result.now ≡ self.now.members }
+    {
+        &self.members
+    }
+
+    /// Which nodes are known to know exactly this.
+    pub fn seen(&self) -> &Uniques
+        ensures { result.now ≡ self.now.seen }
+    {
+        &self.seen
+    }
+
+    /// An equal gossip. Only memory can fail.
+    pub fn copy(&self, alloc: Global) -> Result<Gossip, AllocError>
+        ensures { IfOk result (λ copy. copy ≡ self.now) }
+    {
+        let version = self.version.copy(alloc)?;
+        let members = self.members.copy(alloc)?;
+        let seen = self.seen.copy(alloc)?;
+        Ok(Gossip {
+            version,
+            members,
+            seen,
+        })
+    }
+
+    /// The author makes an update by these effects and answers its number; only the author has seen it then.
+    /// An error leaves the gossip as it was; only memory can fail.
+    pub fn update(&mut self, alloc: Global, author: &Unique, effects: &Effects) -> Result<u64, AllocError>
+        requires { count self.old.version author.now < 2 ^ 62 }
+        ensures number { IfOk result (λ number. number ≡ count self.old.version author.now + 1) }
+        ensures ok { OnOk result (self.new ≡ updated author.now effects.now self.old) }
+        ensures err { OnErr result (self.new ≡ self.old) }
+    {
+        let mut seen = Uniques::empty(alloc);
+        seen.insert(alloc, author)?;
+        let mut members = self.members.copy(alloc)?;
+        apply(alloc, &mut members, effects.as_slice())?;
+        let number = self.version.bump(alloc, author)?;
+        self.members = members;
+        self.seen = seen;
+        Ok(number)
+    }
+
+    /// Takes in a gossip that came to the node `me`, or refuses it: `ForeignCount` exactly where it counts more
+    /// updates of `me` than are known here, and else `TooManyUniques` exactly where both together hold more than
+    /// 128 uniques. After an error the gossip is as it was.
+    pub fn receive(
+        &mut self,
+        alloc: Global,
+        me: &Unique,
+        incoming: &Gossip,
+    ) -> Result<Received, GossipFault>
+        ensures { Receives me.now self.old incoming.now result self.new }
+    {
+        let own = self.version.count(me);
+        let theirs = incoming.version.count(me);
+        if own < theirs {
+            return Err(GossipFault::ForeignCount { own, theirs });
+        }
+        let union = size_of_both(&self.members, &incoming.members);
+        if MOST_UNIQUES < union {
+            return Err(GossipFault::TooManyUniques { union });
+        }
+        match self.version.compare(&incoming.version) {
+            Relation::Same => self.take_same(alloc, me, incoming),
+            Relation::Before => self.take_newer(alloc, me, incoming),
+            Relation::After => Ok(Received::Older),
+            Relation::Concurrent => self.take_both(alloc, me, incoming),
+        }
+    }
+}

@@ -1,0 +1,82 @@
+//! The reading of a schedule, as far as its limits on lines let it go.
+
+use ak_outside::{Read, Source};
+use std::alloc::{AllocError, Global};
+
+/// A schedule may have this many lines.
+pub const MOST_LINES: u32 = 200_000;
+
+/// Why the input was not read.
+#[derive(Debug, Drop)]
+pub enum Unread {
+    Failed,
+    NoMemory,
+}
+
+// How many lines have ended, how many bytes the next one has so far, and whether a limit is passed: a line
+// of more than 4,096 bytes without its CR, or a line after the last that may be.
+struct Extent {
+    lines: u32,
+    bytes: u32,
+    past: bool,
+}
+
+// A line may have this many bytes, and then one CR.
+const MOST_BYTES: u32 = 4096;
+
+impl Extent {
+    fn new() -> Extent {
+        Extent {
+            lines: 0,
+            bytes: 0,
+            past: false,
+        }
+    }
+
+    // One more byte.
+    fn take(&mut self, byte: u8) {
+        if self.past {
+            return;
+        }
+        if self.lines == MOST_LINES {
+            self.past = true;
+            return;
+        }
+        if byte == b'\n' {
+            self.lines += 1;
+            self.bytes = 0;
+            return;
+        }
+        if self.bytes > MOST_BYTES || (self.bytes == MOST_BYTES && byte != b'\r') {
+            self.past = true;
+            return;
+        }
+        self.bytes += 1;
+    }
+
+    fn take_all(&mut self, bytes: &[u8]) {
+        'bytes: for byte in bytes {
+            self.take(*byte);
+        }
+    }
+}
+
+/// Reads the input to its end, or until a line is longer than may be or there are more lines than may be: so an
+/// endless input ends too. After the first failed read no other is asked.
+pub fn read_all<S: Source>(alloc: Global, input: &mut S) -> Result<Vec<u8>, Unread> {
+    let mut bytes = Vec::new(alloc);
+    let mut buffer = vec![in alloc; 0; 65536]?;
+    let mut extent = Extent::new();
+    'reads: while !extent.past {
+        match input.read(&mut buffer) {
+            Read::Failed => return Err(Unread::Failed),
+            Read::Got(0) => return Ok(bytes),
+            Read::Got(count) => {
+                let piece = &buffer[..count];
+                bytes.extend_from_slice(piece)?;
+                extent.take_all(piece);
+            }
+        }
+    }
+    Ok(bytes)
+}

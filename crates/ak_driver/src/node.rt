@@ -1,0 +1,410 @@
+//! A node of the cluster: a pure machine that is given one event at a time and answers with its actions
+//! (Akka's Cluster Specification, "Membership Lifecycle"; the messages are this project's choice).
+
+ghost use Rattle.std.specs.Prelude.{◌≡◌, ℕ, ◌+◌, ◌<◌, ◌^◌, Bool, true, false, [], ◌∷◌, ◌++◌, length, slice_get, IfOk, OnOk, OnErr, IsErr, IsTrue, ◌↔◌, Option, None};
+ghost use Rattle.std.specs.Option.{option_copied};
+
+ghost use Rattle.ak_clock.specs.Version.{count};
+ghost use Rattle.ak_driver.specs.Node as rules;
+ghost use Rattle.ak_driver.specs.NodeWords.{Does};
+
+use crate::gossip::{Gossip, GossipFault, Received};
+use crate::member::{Effect, Effects};
+use crate::wire::{Envelope, Message};
+use ak_address::{Address, Unique, Uniques};
+use ak_clock::Relation;
+use ak_schedule::Settings;
+use std::alloc::{AllocError, Global};
+use std::marker::Model;
+
+/// What may happen to a node.
+#[derive(Debug, Drop)]
+pub enum NodeEvent {
+    /// It founds the cluster.
+    Found,
+    /// It joins the cluster through an address.
+    Join(Address),
+    /// A packet arrives.
+    Packet(Envelope),
+}
+
+/// What a node does in a step.
+#[derive(Debug, Drop)]
+pub enum Action {
+    /// It sends a packet.
+    Send(Envelope),
+    /// It makes an update: the number of it among the node's own, and its effects.
+    Update(u64, Effects),
+    /// What it knows has another version than before the step.
+    View,
+    /// It refuses what it was asked, by the number of the reason: 3 it is no member, 4 the address is not
+    /// listed, 5 a gossip counts more of its updates than it made, 6 there would be too many uniques.
+    Refused(u8),
+    /// The packet is not for it.
+    Dead,
+}
+
+/// The actions of a step, in order.
+#[derive(Debug, Drop)]
+pub struct Actions {
+    list: Vec<Action>,
+}
+
+impl Model for Actions {
+    ghost use Rattle.std.specs.Prelude.{List};
+    ghost use Rattle.ak_driver.specs.declared.node.Action.{Action};
+
+    ghost Value = { List Action };
+
+    ghost view = { λ a. a.list.items };
+}
+
+impl Actions {
+    /// No action. Takes no memory.
+    pub fn empty(alloc: Global) -> Actions
+        ensures { result ≡ [] }
+    {
+        Actions {
+            list: Vec::new(alloc),
+        }
+    }
+
+    /// Adds an action at the end. An error leaves the list as it was; only memory can fail.
+    pub fn push(&mut self, action: Action) -> Result<(), AllocError>
+        ensures ok { OnOk result (self.new ≡ self.old ++ action ∷ []) }
+        ensures err { OnErr result (self.new ≡ self.old) }
+    {
+        self.list.push(action)?;
+        Ok(())
+    }
+
+    /// How many actions there are.
+    pub fn len(&self) -> usize
+        ensures { result ≡ length self.now }
+    {
+        self.list.len()
+    }
+
+    /// The action at a place from 0 on, and None past the end.
+    pub fn at(&self, place: usize) -> Option<&Action>
+        ensures { option_copied result ≡ slice_get self.now place }
+    {
+        self.list.get(place)
+    }
+
+    /// The actions, in order.
+    pub fn as_slice(&self) -> &[Action]
+        ensures { result.now ≡ self.now }
+    {
+        &self.list
+    }
+}
+
+/// A view that holds this many uniques admits no further process.
+const MOST_AT_JOIN: usize = 64;
+
+const NOT_MEMBER: u8 = 3;
+const UNLISTED: u8 = 4;
+const FOREIGN_COUNT: u8 = 5;
+const TOO_MANY_UNIQUES: u8 = 6;
+
+/// The state of a node, as plain data.
+#[derive(Debug, Drop)]
+pub struct State {
+    /// The process that it is.
+    pub me: Unique,
+    pub settings: Settings,
+    /// How many events it was given.
+    pub steps: u64,
+    pub gossip: Gossip,
+    /// It founded the cluster.
+    pub founder: bool,
+    /// The address through which it joins.
+    pub target: Option<Address>,
+}
+
+// One action alone.
+fn one(alloc: Global, action: Action) -> Result<Actions, AllocError>
+    ensures { IfOk result (λ actions. actions ≡ action ∷ []) }
+{
+    let mut actions = Actions::empty(alloc);
+    actions.push(action)?;
+    Ok(actions)
+}
+
+// Another member is at the address of this process.
+fn is_taken(who: &Unique, members: &Uniques) -> bool
+    ensures { result ≡ rules.is_taken who.now members.now }
+{
+    let mut place = 0;
+    'members: while let Some(member) = members.at(place) {
+        if member.address.compare(&who.address).is_eq() {
+            return true;
+        }
+        place += 1;
+    }
+    false
+}
+
+impl State {
+    fn is_member(&self) -> bool
+        ensures { result ≡ rules.is_member self.now }
+    {
+        self.gossip.members().contains(&self.me)
+    }
+
+    fn to_process(&self, alloc: Global, to: &Unique, message: Message) -> Result<Action, AllocError>
+        ensures { IfOk result (λ action. action ≡ rules.to_process self.now to.now message) }
+    {
+        let from = self.me.copy(alloc)?;
+        let address = to.address.copy(alloc)?;
+        let uid = to.uid;
+        Ok(Action::Send(Envelope {
+            from,
+            to: address,
+            uid,
+            message,
+        }))
+    }
+
+    // An update by one effect.
+    fn update(&mut self, alloc: Global, effect: Effect) -> Result<Actions, AllocError>
+        requires { count self.old.gossip.version self.old.me < 2 ^ 62 }
+        ensures { IfOk result (λ actions. Does (rules.update (effect ∷ []) self.old) self.new actions) }
+    {
+        let mut effects = Effects::empty(alloc);
+        effects.push(effect)?;
+        let number = self.gossip.update(alloc, &self.me, &effects)?;
+        one(alloc, Action::Update(number, effects))
+    }
+
+    fn found(&mut self, alloc: Global) -> Result<Actions, AllocError>
+        requires { count self.old.gossip.version self.old.me < 2 ^ 62 }
+        ensures { IfOk result (λ actions. Does (rules.found self.old) self.new actions) }
+    {
+        if self.is_member() {
+            return Ok(Actions::empty(alloc));
+        }
+        self.founder = true;
+        let me = self.me.copy(alloc)?;
+        self.update(alloc, Effect::Joined(me))
+    }
+
+    fn join(&mut self, alloc: Global, target: Address) -> Result<Actions, AllocError>
+        ensures { IfOk result (λ actions. Does (rules.join target self.old) self.new actions) }
+    {
+        if self.is_member() {
+            return Ok(Actions::empty(alloc));
+        }
+        let from = self.me.copy(alloc)?;
+        let to = target.copy(alloc)?;
+        self.target = Some(target);
+        one(
+            alloc,
+            Action::Send(Envelope {
+                from,
+                to,
+                uid: 0,
+                message: Message::Join,
+            }),
+        )
+    }
+
+    // Adds the answer that a join gets.
+    fn welcome(&self, alloc: Global, to: &Unique, actions: &mut Actions) -> Result<(), AllocError>
+        ensures { OnOk result (actions.new ≡ actions.old ++ rules.to_process self.now to.now (Message.Welcome self.now.gossip) ∷ []) }
+    {
+        let gossip = self.gossip.copy(alloc)?;
+        let action = self.to_process(alloc, to, Message::Welcome(gossip))?;
+        actions.push(action)
+    }
+
+    // Adds the answer that a gossip gets.
+    fn answer(&self, alloc: Global, to: &Unique, actions: &mut Actions) -> Result<(), AllocError>
+        ensures { OnOk result (actions.new ≡ actions.old ++ rules.to_process self.now to.now (Message.Gossip self.now.gossip) ∷ []) }
+    {
+        let gossip = self.gossip.copy(alloc)?;
+        let action = self.to_process(alloc, to, Message::Gossip(gossip))?;
+        actions.push(action)
+    }
+
+    // A process asks to join (Akka's Cluster Specification, "Joining": any member admits it).
+    fn on_join(&mut self, alloc: Global, from: &Unique) -> Result<Actions, AllocError>
+        requires { count self.old.gossip.version self.old.me < 2 ^ 62 }
+        ensures { IfOk result (λ actions. Does (rules.on_join from.now self.old) self.new actions) }
+    {
+        if !self.is_member() {
+            return one(alloc, Action::Refused(NOT_MEMBER));
+        }
+        if !self.settings.is_listed(&from.address) {
+            return one(alloc, Action::Refused(UNLISTED));
+        }
+        if self.gossip.members().contains(from) {
+            let mut actions = Actions::empty(alloc);
+            self.welcome(alloc, from, &mut actions)?;
+            return Ok(actions);
+        }
+        if is_taken(from, self.gossip.members()) {
+            return Ok(Actions::empty(alloc));
+        }
+        if self.gossip.members().len() >= MOST_AT_JOIN {
+            return one(alloc, Action::Refused(TOO_MANY_UNIQUES));
+        }
+        let joined = from.copy(alloc)?;
+        let mut actions = self.update(alloc, Effect::Joined(joined))?;
+        self.welcome(alloc, from, &mut actions)?;
+        Ok(actions)
+    }
+
+    // A gossip arrives (Akka's Cluster Specification, "Gossip": the receiver answers where it knows what the sender may not).
+    fn on_gossip(&mut self, alloc: Global, from: &Unique, incoming: &Gossip) -> Result<Actions, AllocError>
+        ensures { IfOk result (λ actions. Does (rules.on_gossip from.now incoming.now self.old) self.new actions) }
+    {
+        if !incoming.members().contains(&self.me) {
+            return Ok(Actions::empty(alloc));
+        }
+        let known_there = incoming.seen().contains(&self.me);
+        match self.gossip.receive(alloc, &self.me, incoming) {
+            Err(GossipFault::ForeignCount { own: _, theirs: _ }) => one(alloc, Action::Refused(FOREIGN_COUNT)),
+            Err(GossipFault::TooManyUniques { union: _ }) => one(alloc, Action::Refused(TOO_MANY_UNIQUES)),
+            Err(GossipFault::NoMemory) => Err(AllocError),
+            Ok(received) => {
+                let mut actions = Actions::empty(alloc);
+                if received == Received::Same && known_there {
+                    return Ok(actions);
+                }
+                self.answer(alloc, from, &mut actions)?;
+                Ok(actions)
+            }
+        }
+    }
+
+    fn on_packet(&mut self, alloc: Global, envelope: &Envelope) -> Result<Actions, AllocError>
+        requires { count self.old.gossip.version self.old.me < 2 ^ 62 }
+        ensures { IfOk result (λ actions. Does (rules.rule (NodeEvent.Packet envelope.now) self.old) self.new actions) }
+    {
+        if !is_for(&self.me, envelope) {
+            return one(alloc, Action::Dead);
+        }
+        match &envelope.message {
+            Message::Join => self.on_join(alloc, &envelope.from),
+            Message::Welcome(gossip) => self.on_gossip(alloc, &envelope.from, gossip),
+            Message::Gossip(gossip) => self.on_gossip(alloc, &envelope.from, gossip),
+        }
+    }
+
+    fn rule(&mut self, alloc: Global, event: NodeEvent) -> Result<Actions, AllocError>
+        requires { count self.old.gossip.version self.old.me < 2 ^ 62 }
+        ensures { IfOk result (λ actions. Does (rules.rule event self.old) self.new actions) }
+    {
+        match event {
+            NodeEvent::Found => self.found(alloc),
+            NodeEvent::Join(target) => self.join(alloc, target),
+            NodeEvent::Packet(envelope) => self.on_packet(alloc, &envelope),
+        }
+    }
+
+    // One event: its rule, and then the closing, which shows the view where the version is another.
+    fn step(&mut self, alloc: Global, event: NodeEvent) -> Result<Actions, AllocError>
+        requires { count self.old.gossip.version self.old.me < 2 ^ 62 }
+        requires { self.old.steps < 2 ^ 62 }
+        ensures { IfOk result (λ actions. Does (rules.step event self.old) self.new actions) }
+    {
+        let before = self.gossip.version().copy(alloc)?;
+        self.steps += 1;
+        let mut actions = self.rule(alloc, event)?;
+        match before.compare(self.gossip.version()) {
+            Relation::Same => {}
+            _ => actions.push(Action::View)?,
+        }
+        Ok(actions)
+    }
+}
+
+/// A packet is for this process, or for whichever is at its address.
+pub fn is_for(me: &Unique, envelope: &Envelope) -> bool
+    ensures { result ≡ rules.is_for me.now envelope.now }
+{
+    if !envelope.to.compare(&me.address).is_eq() {
+        return false;
+    }
+    envelope.uid == 0 || envelope.uid == me.uid
+}
+
+/// A node. After want of memory it is spent: it knows nothing, and each later step answers want of memory.
+#[derive(Debug, Drop)]
+pub struct Node {
+    state: State,
+    spent: bool,
+}
+
+impl Model for Node {
+    ghost use Rattle.std.specs.Prelude.{◌≤◌};
+    ghost use Rattle.ak_driver.specs.NodeWords.{Machine, IsOwnCount};
+
+    ghost Value = { Machine };
+
+    ghost view = { λ n. record { state = n.state; spent = n.spent } };
+
+    ghost invariant = { λ n. IsOwnCount n.state };
+}
+
+impl Node {
+    /// A process that starts, and knows nothing yet. Only memory can fail.
+    pub fn start(alloc: Global, me: Unique, settings: &Settings) -> Result<Node, AllocError>
+        ensures { IfOk result (λ node. node ≡ record { state = rules.started me settings.now; spent = false }) }
+    {
+        let settings = settings.copy(alloc)?;
+        let state = State {
+            me,
+            settings,
+            steps: 0,
+            gossip: Gossip::empty(alloc),
+            founder: false,
+            target: None,
+        };
+        Ok(Node {
+            state,
+            spent: false,
+        })
+    }
+
+    /// Gives the node one event, and answers its actions. After want of memory the node is spent.
+    pub fn step(&mut self, alloc: Global, event: NodeEvent) -> Result<Actions, AllocError>
+        requires { self.old.state.steps < 2 ^ 62 }
+        ensures ok { IfOk result (λ actions. Does (rules.step event self.old.state) self.new.state actions) }
+        ensures alive { OnOk result (self.old.spent ≡ false) × OnOk result (self.new.spent ≡ false) }
+        ensures spent { OnErr result (self.new.spent ≡ true) }
+    {
+        if self.spent {
+            return Err(AllocError);
+        }
+        let result = self.state.step(alloc, event);
+        if result.is_err() {
+            self.state.gossip = Gossip::empty(alloc);
+            self.spent = true;
+        }
+        result
+    }
+
+    /// The process that it is.
+    pub fn me(&self) -> &Unique
+        ensures { result.now ≡ self.now.state.me }
+    {
+        &self.state.me
+    }
+
+    /// How many events it was given.
+    pub fn steps(&self) -> u64
+        ensures { result ≡ self.now.state.steps }
+    {
+        self.state.steps
+    }
+
+    /// What it knows.
+    pub fn gossip(&self) -> &Gossip
+        ensures { result.now ≡ self.now.state.gossip }
+    {
+        &self.state.gossip
+    }
+}

@@ -1,0 +1,240 @@
+//! The replay of a recorded schedule: reads it whole, applies one line at a time, and prints each step.
+
+use crate::input::{MOST_LINES, Unread, read_all};
+use crate::report::print_bytes;
+use crate::world::{Refused, World, print_step, print_summary};
+use ak_address::print_number;
+use ak_outside::{Sink, Source, Status, write_all};
+use ak_schedule::{Draft, Event, LineFault, is_passed_over, next_line, read_line};
+use std::alloc::{AllocError, Global};
+use std::mem;
+
+/// A schedule may have this many events.
+const MOST_EVENTS: u64 = 50_000;
+
+// Text is written in pieces of about this many bytes.
+const PIECE: usize = 1 << 16;
+
+// Why a line is refused.
+#[derive(Clone, Copy, Debug, PartialEq, Eq)]
+enum Code {
+    // It spells no event.
+    Malformed,
+    // It is past a limit on lines or events.
+    PastLimit,
+    // It is no header where one is wanted, or an event that is not built or that the world refuses.
+    NotBuilt,
+}
+
+impl Code {
+    fn text(&self) -> &'static [u8] {
+        match self {
+            Code::Malformed => b"S1",
+            Code::PastLimit => b"S12",
+            Code::NotBuilt => b"S13",
+        }
+    }
+}
+
+// Why a replay goes no further.
+#[derive(Clone, Copy, Debug, PartialEq, Eq)]
+enum Stop {
+    Refused(Code),
+    NoMemory,
+}
+
+impl From<AllocError> for Stop {
+    fn from(_error: AllocError) -> Stop {
+        Stop::NoMemory
+    }
+}
+
+// Headers are read, and then events are applied.
+#[derive(Drop)]
+enum Stage {
+    Heading(Draft),
+    Running(World),
+}
+
+// How far a replay has come: the number of the next line, from 1 on, and how many events were applied.
+#[derive(Drop)]
+struct Replay {
+    stage: Stage,
+    line: u64,
+    steps: u64,
+}
+
+impl Replay {
+    fn new(alloc: Global) -> Replay {
+        Replay {
+            stage: Stage::Heading(Draft::new(alloc)),
+            line: 1,
+            steps: 0,
+        }
+    }
+
+    // What one line does.
+    fn turn(&mut self, alloc: Global, line: &[u8], out: &mut Vec<u8>) -> Result<(), Stop> {
+        if self.line > u64::from(MOST_LINES) {
+            return Err(Stop::Refused(Code::PastLimit));
+        }
+        if !is_passed_over(line) {
+            self.advance(alloc, line, out)?;
+        }
+        self.line += 1;
+        Ok(())
+    }
+
+    fn advance(&mut self, alloc: Global, line: &[u8], out: &mut Vec<u8>) -> Result<(), Stop> {
+        match &mut self.stage {
+            Stage::Heading(draft) => {
+                if heading(alloc, draft, line)? {
+                    self.open(alloc);
+                }
+                Ok(())
+            }
+            Stage::Running(world) => {
+                if self.steps >= MOST_EVENTS {
+                    return Err(Stop::Refused(Code::PastLimit));
+                }
+                running(alloc, world, self.steps + 1, line, out)?;
+                self.steps += 1;
+                Ok(())
+            }
+        }
+    }
+
+    // The headers are whole: the world begins.
+    fn open(&mut self, alloc: Global) {
+        let stage = mem::replace(&mut self.stage, Stage::Heading(Draft::new(alloc)));
+        self.stage = match stage {
+            Stage::Heading(draft) => match draft.finish() {
+                Ok(settings) => Stage::Running(World::new(alloc, settings)),
+                Err(draft) => Stage::Heading(draft),
+            },
+            Stage::Running(world) => Stage::Running(world),
+        };
+    }
+
+    // Behind the last line: the summary, or a header is missing.
+    fn finish(&self, alloc: Global, out: &mut Vec<u8>) -> Result<(), Stop> {
+        match &self.stage {
+            Stage::Heading(_) => Err(Stop::Refused(Code::NotBuilt)),
+            Stage::Running(world) => {
+                print_summary(alloc, world, self.steps, out)?;
+                Ok(())
+            }
+        }
+    }
+}
+
+// One header line; true where it was the last.
+fn heading(alloc: Global, draft: &mut Draft, line: &[u8]) -> Result<bool, Stop> {
+    match draft.header(alloc, line) {
+        Ok(whole) => Ok(whole),
+        Err(LineFault::NoMemory) => Err(Stop::NoMemory),
+        Err(_) => Err(Stop::Refused(Code::NotBuilt)),
+    }
+}
+
+// One event line: the event is read, applied and printed.
+fn running(
+    alloc: Global,
+    world: &mut World,
+    number: u64,
+    line: &[u8],
+    out: &mut Vec<u8>,
+) -> Result<(), Stop> {
+    let event = match read_line(alloc, line) {
+        Ok(event) => event,
+        Err(LineFault::NoMemory) => return Err(Stop::NoMemory),
+        Err(_) => return Err(Stop::Refused(Code::Malformed)),
+    };
+    let step = match world.apply(alloc, &event) {
+        Ok(step) => step,
+        Err(Refused::NoMemory) => return Err(Stop::NoMemory),
+        Err(_) => return Err(Stop::Refused(Code::NotBuilt)),
+    };
+    print_step(alloc, world, number, &event, &step, out)?;
+    Ok(())
+}
+
+// The line that says which line is refused, and why.
+fn print_refusal(alloc: Global, code: Code, line: u64, out: &mut Vec<u8>) -> Result<(), AllocError> {
+    let mut text = Vec::new(alloc);
+    print_bytes(b"error 4 ", &mut text)?;
+    print_bytes(code.text(), &mut text)?;
+    print_bytes(b" line ", &mut text)?;
+    print_number(line, &mut text)?;
+    print_bytes(b"\n", &mut text)?;
+    print_bytes(&text, out)
+}
+
+// Writes what was printed, and answers the status unless the sink fails.
+fn written<W: Sink>(output: &mut W, text: &[u8], status: Status) -> Status {
+    if write_all(output, text) {
+        status
+    } else {
+        Status::Write
+    }
+}
+
+// Whole steps stand in the output, and then the line on memory.
+fn out_of_memory<W: Sink>(output: &mut W, text: &[u8]) -> Status {
+    if !write_all(output, text) {
+        return Status::Write;
+    }
+    written(output, b"error 7 memory\n", Status::Memory)
+}
+
+// Writes what was printed and how the replay ended.
+fn ended<W: Sink>(
+    alloc: Global,
+    end: Result<(), Stop>,
+    line: u64,
+    out: &mut Vec<u8>,
+    output: &mut W,
+) -> Status {
+    match end {
+        Ok(()) => written(output, out, Status::Done),
+        Err(Stop::NoMemory) => out_of_memory(output, out),
+        Err(Stop::Refused(code)) => match print_refusal(alloc, code, line, out) {
+            Ok(()) => written(output, out, Status::Schedule),
+            Err(_) => out_of_memory(output, out),
+        },
+    }
+}
+
+// Replays these bytes.
+fn replay<W: Sink>(alloc: Global, bytes: &[u8], output: &mut W) -> Status {
+    let mut replay = Replay::new(alloc);
+    let mut out = Vec::new(alloc);
+    let mut rest = bytes;
+    'lines: while let Some((line, behind)) = next_line(rest) {
+        if let Err(stop) = replay.turn(alloc, line, &mut out) {
+            return ended(alloc, Err(stop), replay.line, &mut out, output);
+        }
+        rest = behind;
+        if out.len() >= PIECE {
+            if !write_all(output, &out) {
+                return Status::Write;
+            }
+            out.clear();
+        }
+    }
+    let end = replay.finish(alloc, &mut out);
+    ended(alloc, end, replay.line, &mut out, output)
+}
+
+/// Replays a recorded schedule: reads the whole input, prints each step and then the summary.
+///
+/// Answers `Done` where every line is accepted; `Schedule` where a line is refused, after the steps before it and a
+/// line that says which and why; `Read` where the source failed, and nothing else is read then; `Write` where the sink
+/// failed, and nothing else is written then; and `Memory`, after whole steps.
+pub fn run_replay<S: Source, W: Sink>(alloc: Global, input: &mut S, output: &mut W) -> Status {
+    match read_all(alloc, input) {
+        Ok(bytes) => replay(alloc, &bytes, output),
+        Err(Unread::Failed) => written(output, b"error 5 read\n", Status::Read),
+        Err(Unread::NoMemory) => written(output, b"error 7 memory\n", Status::Memory),
+    }
+}

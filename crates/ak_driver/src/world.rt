@@ -1,0 +1,391 @@
+//! A recorded world: the nodes that were started, every packet that was ever sent, and the history of the cluster.
+
+ghost use Rattle.std.specs.Prelude.{◌≡◌, ℕ, ◌+◌, ◌<◌, ◌≤◌, ◌^◌, ◌++◌, ◌∷◌, [], true, false, length, slice_get, IfOk, OnOk, OnErr, Option, None, Some};
+ghost use Rattle.std.specs.Option.{option_copied};
+ghost use Rattle.ak_driver.specs.World as rules;
+ghost use Rattle.ak_driver.specs.StepText as text;
+
+use crate::gossip::Gossip;
+use crate::history::History;
+use crate::node::{Action, Actions, Node, NodeEvent, is_for};
+use crate::report::{print_bytes, print_items};
+use crate::wire::Envelope;
+use ak_address::{Address, Unique, print_number};
+use ak_schedule::{Event, Settings, print_event};
+use std::alloc::{AllocError, AllocFailed, Global};
+use std::marker::Model;
+
+/// Why a world refuses an event. The first reason that applies is the answer.
+#[derive(Clone, Copy, Debug, PartialEq, Eq)]
+pub enum Refused {
+    /// The address of a process that starts, or through which one joins, is not listed.
+    Unlisted,
+    /// The process was started before.
+    UniqueUsed,
+    /// A process runs at that address.
+    AddressInUse,
+    /// The cluster was founded before.
+    SecondFound,
+    /// The process that acts was never started.
+    UnknownNode,
+    /// There is no packet of that number: so many were sent.
+    NoPacket { sent: u64 },
+    /// The event is of a kind that is not built yet.
+    NotBuilt,
+    NoMemory,
+}
+
+/// What an event did: the acting node, by its start number from 0 on, or none for a delivery that reached nobody;
+/// the number of the first packet that it may have sent; and its actions.
+#[derive(Debug, Drop)]
+pub struct Step {
+    pub node: Option<u32>,
+    pub first_packet: u64,
+    pub actions: Actions,
+}
+
+// What a world is made of, without its list of events.
+#[derive(Debug, Drop)]
+pub(crate) struct Scene {
+    settings: Settings,
+    nodes: Vec<Node>,
+    packets: Vec<Envelope>,
+    history: History,
+    founded: bool,
+}
+
+// Which node the process is.
+fn node_of(nodes: &[Node], who: &Unique) -> Option<usize> {
+    nodes
+        .iter()
+        .position(|node| node.me().compare(who).is_eq())
+}
+
+// Which node the packet reaches.
+fn receiver_of(nodes: &[Node], envelope: &Envelope) -> Option<usize> {
+    nodes.iter().position(|node| is_for(node.me(), envelope))
+}
+
+// A node runs at the address.
+fn is_used(nodes: &[Node], address: &Address) -> bool {
+    nodes
+        .iter()
+        .any(|node| node.me().address.compare(address).is_eq())
+}
+
+impl Scene {
+    fn start(&mut self, alloc: Global, who: &Unique) -> Result<Step, Refused> {
+        if !self.settings.is_listed(&who.address) {
+            return Err(Refused::Unlisted);
+        }
+        if node_of(&self.nodes, who).is_some() {
+            return Err(Refused::UniqueUsed);
+        }
+        if is_used(&self.nodes, &who.address) {
+            return Err(Refused::AddressInUse);
+        }
+        self.start_node(alloc, who)
+    }
+
+    fn start_node(&mut self, alloc: Global, who: &Unique) -> Result<Step, Refused> {
+        let place = self.nodes.len();
+        let me = who.copy(alloc)?;
+        let node = Node::start(alloc, me, &self.settings)?;
+        self.nodes.push(node)?;
+        Ok(Step {
+            node: number_of(place),
+            first_packet: self.next_packet(),
+            actions: Actions::empty(alloc),
+        })
+    }
+
+    fn found(&mut self, alloc: Global, who: &Unique) -> Result<Step, Refused> {
+        if self.founded {
+            return Err(Refused::SecondFound);
+        }
+        let step = self.act(alloc, who, NodeEvent::Found)?;
+        self.founded = true;
+        Ok(step)
+    }
+
+    fn join(&mut self, alloc: Global, who: &Unique, target: &Address) -> Result<Step, Refused> {
+        if !self.settings.is_listed(target) {
+            return Err(Refused::Unlisted);
+        }
+        let target = target.copy(alloc)?;
+        self.act(alloc, who, NodeEvent::Join(target))
+    }
+
+    fn deliver(&mut self, alloc: Global, number: u64) -> Result<Step, Refused> {
+        let Some(envelope) = packet_at(&self.packets, number) else {
+            let sent = self.packets.len() as u64;
+            return Err(Refused::NoPacket { sent });
+        };
+        let Some(place) = receiver_of(&self.nodes, envelope) else {
+            return Ok(Step {
+                node: None,
+                first_packet: self.next_packet(),
+                actions: Actions::empty(alloc),
+            });
+        };
+        let envelope = envelope.copy(alloc)?;
+        self.give(alloc, place, NodeEvent::Packet(envelope))
+    }
+
+    // The process is given an event.
+    fn act(&mut self, alloc: Global, who: &Unique, event: NodeEvent) -> Result<Step, Refused> {
+        match node_of(&self.nodes, who) {
+            Some(place) => self.give(alloc, place, event),
+            None => Err(Refused::UnknownNode),
+        }
+    }
+
+    // The node at a place is given an event; what it sends and updates is kept.
+    fn give(&mut self, alloc: Global, place: usize, event: NodeEvent) -> Result<Step, Refused> {
+        let first_packet = self.next_packet();
+        let actions = self.nodes[place].step(alloc, event)?;
+        keep_packets(alloc, actions.as_slice(), &mut self.packets)?;
+        keep_entries(
+            alloc,
+            self.nodes[place].me(),
+            actions.as_slice(),
+            &mut self.history,
+        )?;
+        Ok(Step {
+            node: number_of(place),
+            first_packet,
+            actions,
+        })
+    }
+
+    // The number of the next packet that is sent.
+    fn next_packet(&self) -> u64 {
+        self.packets.len() as u64 + 1
+    }
+}
+
+// The packet of a number from 1 on.
+fn packet_at(packets: &[Envelope], number: u64) -> Option<&Envelope> {
+    if number == 0 {
+        return None;
+    }
+    let place = usize::try_from(number - 1).ok()?;
+    packets.get(place)
+}
+
+// A start number: fewer processes are started than have a number.
+fn number_of(place: usize) -> Option<u32> {
+    u32::try_from(place).ok()
+}
+
+// What the actions send is kept, each packet once.
+fn keep_packets(
+    alloc: Global,
+    actions: &[Action],
+    packets: &mut Vec<Envelope>,
+) -> Result<(), AllocError> {
+    'actions: for action in actions {
+        if let Action::Send(envelope) = action {
+            packets.push(envelope.copy(alloc)?)?;
+        }
+    }
+    Ok(())
+}
+
+// What the actions update is added to the history.
+fn keep_entries(
+    alloc: Global,
+    author: &Unique,
+    actions: &[Action],
+    history: &mut History,
+) -> Result<(), AllocError> {
+    'actions: for action in actions {
+        if let Action::Update(_, effects) = action {
+            history.push(alloc, author, effects.copy(alloc)?)?;
+        }
+    }
+    Ok(())
+}
+
+impl From<AllocError> for Refused {
+    ghost use Rattle.ak_driver.specs.declared.world.Refused.TheVariants.{NoMemory};
+
+    ghost from_gives = { λ _ e. e ≡ NoMemory };
+
+    fn from(_error: AllocError) -> Refused {
+        Refused::NoMemory
+    }
+}
+
+impl<T: Drop> From<AllocFailed<T>> for Refused {
+    ghost use Rattle.ak_driver.specs.declared.world.Refused.TheVariants.{NoMemory};
+
+    ghost from_gives = { λ _ e. e ≡ NoMemory };
+
+    fn from(_error: AllocFailed<T>) -> Refused {
+        Refused::NoMemory
+    }
+}
+
+/// A world: a settings' run of the events that it accepted. After want of memory it is spent, and each later event
+/// answers want of memory.
+#[derive(Debug, Drop)]
+pub struct World {
+    scene: Scene,
+    events: Vec<Event>,
+    spent: bool,
+}
+
+impl World {
+    /// The world in which nothing has happened. Takes no memory.
+    pub fn new(alloc: Global, settings: Settings) -> World {
+        let scene = Scene {
+            settings,
+            nodes: Vec::new(alloc),
+            packets: Vec::new(alloc),
+            history: History::empty(alloc),
+            founded: false,
+        };
+        World {
+            scene,
+            events: Vec::new(alloc),
+            spent: false,
+        }
+    }
+
+    /// Applies one event, or says why it is refused: the first reason of `Refused` that applies. A refusal leaves the
+    /// world as it was; after want of memory the world is spent.
+    pub fn apply(&mut self, alloc: Global, event: &Event) -> Result<Step, Refused> {
+        if self.spent {
+            return Err(Refused::NoMemory);
+        }
+        let result = self.happens(alloc, event);
+        match result {
+            Ok(step) => Ok(step),
+            Err(Refused::NoMemory) => {
+                self.spent = true;
+                Err(Refused::NoMemory)
+            }
+            Err(why) => {
+                let _ = self.events.pop();
+                Err(why)
+            }
+        }
+    }
+
+    fn happens(&mut self, alloc: Global, event: &Event) -> Result<Step, Refused> {
+        let accepted = event.copy(alloc)?;
+        self.events.push(accepted)?;
+        match event {
+            Event::Start(who) => self.scene.start(alloc, who),
+            Event::Found(who) => self.scene.found(alloc, who),
+            Event::Join(who, target) => self.scene.join(alloc, who, target),
+            Event::Deliver(number) => self.scene.deliver(alloc, *number),
+            _ => Err(Refused::NotBuilt),
+        }
+    }
+
+    /// Every update so far.
+    pub fn history(&self) -> &History {
+        &self.scene.history
+    }
+
+    /// The node of a start number from 0 on, and None where none has it.
+    pub fn node(&self, number: u32) -> Option<&Node> {
+        self.scene.nodes.get(number as usize)
+    }
+
+    /// How many packets were sent.
+    pub fn packets(&self) -> u64 {
+        self.scene.packets.len() as u64
+    }
+
+    /// The packet of a number from 1 on, and None where none has it.
+    pub fn packet(&self, number: u64) -> Option<&Envelope> {
+        packet_at(&self.scene.packets, number)
+    }
+}
+
+// What a delivered packet was, or that it reached nobody.
+fn print_arrival(
+    world: &World,
+    number: u64,
+    node: Option<&Node>,
+    out: &mut Vec<u8>,
+) -> Result<(), AllocError> {
+    if let Some(node) = node {
+        if let Some(envelope) = world.packet(number) {
+            print_bytes(b"  at ", out)?;
+            node.me().print_into(out)?;
+            print_bytes(b" ", out)?;
+            print_bytes(envelope.message.kind(), out)?;
+            print_bytes(b" from ", out)?;
+            envelope.from.print_into(out)?;
+            return print_bytes(b"\n", out);
+        }
+    }
+    print_bytes(b"  dead\n", out)
+}
+
+fn print_head(number: u64, event: &Event, out: &mut Vec<u8>) -> Result<(), AllocError> {
+    print_number(number, out)?;
+    print_bytes(b" ", out)?;
+    print_event(event, out)?;
+    print_bytes(b"\n", out)
+}
+
+/// Appends the text of a step: its number and event, what arrived, and an item for each action. The event is the last
+/// that the world accepted, and the step the one that it gave. An error leaves the text as it was; only memory can fail.
+pub fn print_step(
+    alloc: Global,
+    world: &World,
+    step_number: u64,
+    event: &Event,
+    step: &Step,
+    out: &mut Vec<u8>,
+) -> Result<(), AllocError> {
+    let mut text = Vec::new(alloc);
+    print_head(step_number, event, &mut text)?;
+    let node = acting(world, step);
+    if let Event::Deliver(number) = event {
+        print_arrival(world, *number, node, &mut text)?;
+    }
+    if let Some(node) = node {
+        print_items(
+            node.gossip(),
+            step.first_packet,
+            step.actions.as_slice(),
+            &mut text,
+        )?;
+    }
+    print_bytes(&text, out)
+}
+
+// The node that acted.
+fn acting<'a>(world: &'a World, step: &Step) -> Option<&'a Node> {
+    match step.node {
+        Some(number) => world.node(number),
+        None => None,
+    }
+}
+
+fn print_count(name: &[u8], count: u64, out: &mut Vec<u8>) -> Result<(), AllocError> {
+    print_bytes(name, out)?;
+    print_number(count, out)?;
+    print_bytes(b"\n", out)
+}
+
+/// Appends the summary of a replay of so many steps. An error leaves the text as it was; only memory can fail.
+pub fn print_summary(
+    alloc: Global,
+    world: &World,
+    steps: u64,
+    out: &mut Vec<u8>,
+) -> Result<(), AllocError> {
+    let mut text = Vec::new(alloc);
+    print_count(b"steps ", steps, &mut text)?;
+    print_count(b"packets ", world.packets(), &mut text)?;
+    print_count(b"history ", world.history().len() as u64, &mut text)?;
+    print_bytes(b"margin kept\ndoubles none\n", &mut text)?;
+    print_bytes(&text, out)
+}
