@@ -1,1 +1,4 @@
+pub mod Rows
+pub mod Table
 pub mod Unique
+pub mod Uniques

@@ -3,7 +3,14 @@
 #![tactic(auto)]
 
 mod address;
+mod table;
+#[cfg(test)]
+mod table_tests;
 mod text;
+mod uniques;
+mod values;
 
 pub use address::{Address, Unique, orders_are_total};
+pub use table::{Duplicate, Join, Table, joins_are_pointwise};
 pub use text::Text;
+pub use uniques::Uniques;
