@@ -5,7 +5,12 @@
 mod address;
 mod parse;
 mod print;
+mod table;
+#[cfg(test)]
+mod table_tests;
 mod text;
+mod uniques;
+mod values;
 
 pub use address::{Address, Unique, orders_are_total};
 pub use parse::{
@@ -13,4 +18,6 @@ pub use parse::{
     spellings_have_one_value,
 };
 pub use print::{print_number, texts_are_spellings};
+pub use table::{Duplicate, Join, Table, joins_are_pointwise};
 pub use text::Text;
+pub use uniques::Uniques;

@@ -1,0 +1,73 @@
+-- What a change of the sorted list behind a table makes of the table.
+use Rattle.std.proofs.Common.{◌≡◌, ℕ, Bool, true, false, cond, not, T, IsTrue, List, None, Result, Ok, Err, MatchResult, refl, sym, ap, ◌∙◌, subst}
+use Rattle.std.specs.Ordering.{is_eq, eq_by_cmp}
+use Rattle.std.specs.Cmp.{alike_right, eq_by_cmp_equiv}
+use Rattle.std.specs.FinMap as map
+use Rattle.std.specs.FinMap.Entries.{where_key, find-where_key, is_sorted-where_key}
+use Rattle.ak_address.specs.Unique.{Process, unique_cmp}
+use Rattle.ak_address.specs.Table.{joined}
+use Rattle.ak_address.specs.Rows.{place, woven}
+use Rattle.ak_address.proofs.Order.{unique_total, unique_exact}
+use Rattle.ak_address.proofs.Rows.{Stands, Goes, placed, sorted_woven}
+use Rattle.ak_address.proofs.TableLaws.{is_true, true_is, same_table, rows_of, rows_found, rows_sorted, rows_back, woven_joined, get-remove}
+
+turned : {A : Type 0} (b : Bool) (x y : A) → cond (not b) x y ≡ cond b y x
+turned true x y = refl
+turned false x y = refl
+
+-- a list in order that is seen as a table
+pub record IsBehind {X : Type 0} (es : List (Process × X)) (m : map.FinMap unique_cmp X) : Type 0 where
+  pub in_order : IsTrue (map.is_sorted unique_cmp es)
+  pub seen : map.from_sorted es ≡ m
+
+module _ {X : Type 0} where
+  pub behind_rows : (es : List (Process × X)) (m : map.FinMap unique_cmp X) → map.entries m ≡ es → IsBehind es m
+  behind_rows es m is = subst (λ l. IsBehind l m) is (record { in_order = rows_sorted m; seen = rows_back m })
+
+  module _ (es : List (Process × X)) (m : map.FinMap unique_cmp X) (b : IsBehind es m) where
+    pub rows : map.entries m ≡ es
+    rows = rows_of es b.in_order m b.seen
+
+    pub found_in : (q : Process) → map.find unique_cmp q es ≡ map.get m q
+    found_in q = rows_found es b.in_order m b.seen q
+
+    pub behind_put : (q : Process) (v : X) (fs : List (Process × X)) → map.put unique_cmp q v es ≡ fs → IsBehind fs (map.insert m q v)
+    behind_put q v fs is = behind_rows fs _ (map.entries-insert unique_total m q v ∙ ap (map.put unique_cmp q v) rows ∙ is)
+
+    pub behind_without : (q : Process) (fs : List (Process × X)) → where_key unique_cmp (λ x. not (eq_by_cmp unique_cmp q x)) es ≡ fs → IsBehind fs (map.remove m q)
+    behind_without q fs is =
+        let p : Process → Bool = λ x. not (eq_by_cmp unique_cmp q x) in
+        let in_order : T (map.is_sorted unique_cmp (where_key unique_cmp p es)) = is_sorted-where_key unique_cmp p es (is_true _ b.in_order) in
+        subst (λ l. IsBehind l (map.remove m q)) is (record {
+          in_order = true_is _ in_order;
+          seen = same_table _ _ (λ x.
+              map.get-from_sorted unique_cmp (where_key unique_cmp p es) x in_order
+              ∙ find-where_key unique_cmp p x (λ y t. ap (λ r. not (is_eq r)) (sym (alike_right unique_total x y q t))) es
+              ∙ turned (eq_by_cmp unique_cmp q x) _ _
+              ∙ ap (λ t. cond t None (map.find unique_cmp x es)) ((eq_by_cmp_equiv unique_total).symm q x)
+              ∙ ap (cond (eq_by_cmp unique_cmp x q) None) (found_in x)
+              ∙ sym (get-remove m q x));
+        })
+
+    -- what a search told of a key
+    told : (q : Process) (fs : List (Process × X)) (r : Result ℕ ℕ) → fs ≡ es → r ≡ place unique_cmp q fs → MatchResult r (Stands unique_cmp q es) (Goes unique_cmp q es)
+    told q fs r same is = subst (λ r. MatchResult r (Stands unique_cmp q es) (Goes unique_cmp q es)) (ap (place unique_cmp q) (sym same) ∙ sym is) (placed unique_cmp unique_total unique_exact q es (is_true _ b.in_order))
+
+    pub stands_at : (q : Process) (fs : List (Process × X)) (n : ℕ) → fs ≡ es → Ok n ≡ place unique_cmp q fs → Stands unique_cmp q es n
+    stands_at q fs n same is = told q fs (Ok n) same is
+
+    pub goes_at : (q : Process) (fs : List (Process × X)) (n : ℕ) → fs ≡ es → Err n ≡ place unique_cmp q fs → Goes unique_cmp q es n
+    goes_at q fs n same is = told q fs (Err n) same is
+
+    pub absent_in : (q : Process) (n : ℕ) → Goes unique_cmp q es n → map.get m q ≡ None
+    absent_in q n g = sym (found_in q) ∙ g.absent
+
+  pub behind_joined : (f : X → X → X) (es fs : List (Process × X)) (m n : map.FinMap unique_cmp X) → IsBehind es m → IsBehind fs n → (ws : List (Process × X)) → ws ≡ woven unique_cmp f es fs → IsBehind ws (joined f m n)
+  behind_joined f es fs m n b d ws is =
+      let ups = rows es m b in
+      let downs = rows fs n d in
+      let whole : ws ≡ woven unique_cmp f (map.entries m) (map.entries n) = is ∙ (λ i. woven unique_cmp f (sym ups i) (sym downs i)) in
+      subst (λ l. IsBehind l (joined f m n)) (sym whole) (record { in_order = in_order_of m n; seen = woven_joined f m n })
+    where
+      in_order_of : (m n : map.FinMap unique_cmp X) → IsTrue (map.is_sorted unique_cmp (woven unique_cmp f (map.entries m) (map.entries n)))
+      in_order_of m n = true_is _ (sorted_woven unique_cmp f unique_total (map.entries m) (map.entries_sorted m) (map.entries n) (map.entries_sorted n))

@@ -1,0 +1,97 @@
+ghost use Rattle.std.specs.Prelude.{◌≡◌, IfOk, OnOk, OnErr, IsOk, IsTrue, slice_get, option_copied};
+ghost use Rattle.ak_address.specs.Uniques.{no_one, has, with_one, without_one, how_many, in_order, union};
+
+use crate::address::Unique;
+use crate::table::Table;
+use std::alloc::{AllocError, Global};
+use std::marker::Model;
+
+/// A finite set of processes, in their order.
+#[derive(Drop)]
+pub struct Uniques {
+    table: Table<()>,
+}
+
+impl Model for Uniques {
+    ghost use Rattle.std.specs.FinSet as set;
+    ghost use Rattle.ak_address.specs.Unique.{coded_unique};
+    ghost use Rattle.ak_address.specs.Uniques.{UniqueSet};
+
+    ghost Value = { UniqueSet };
+
+    ghost coded = { set.code coded_unique };
+
+    ghost view = { λ s. s.table };
+}
+
+impl Uniques {
+    /// The set of no process. Takes no memory.
+    pub fn empty(alloc: Global) -> Uniques
+        ensures { result ≡ no_one }
+    {
+        let table = Table::empty(alloc);
+        Uniques { table }
+    }
+
+    /// Puts an equal process into the set. After an error the set is as it was; a process that is there
+    /// already takes no memory.
+    pub fn insert(&mut self, alloc: Global, who: &Unique) -> Result<(), AllocError>
+        ensures ok { OnOk result (self.new ≡ with_one self.old who.now) }
+        ensures err { OnErr result (self.new ≡ self.old) }
+        ensures present { IsTrue (has self.old who.now) → IsOk result }
+    {
+        if self.contains(who) {
+            return Ok(());
+        }
+        let who = who.copy(alloc)?;
+        self.table.insert(who, ())
+    }
+
+    /// Takes the process out, if it is there. Takes no memory.
+    pub fn remove(&mut self, who: &Unique)
+        ensures { self.new ≡ without_one self.old who.now }
+    {
+        self.table.remove(who);
+    }
+
+    /// Whether the process is in the set.
+    pub fn contains(&self, who: &Unique) -> bool
+        ensures { result ≡ has self.now who.now }
+    {
+        self.table.get(who).is_some()
+    }
+
+    /// How many processes it has.
+    pub fn len(&self) -> usize
+        ensures { result ≡ how_many self.now }
+    {
+        self.table.len()
+    }
+
+    /// The process at a place, from 0 on in the order of processes; none past the end.
+    pub fn at(&self, place: usize) -> Option<&Unique>
+        ensures { option_copied result ≡ slice_get (in_order self.now) place }
+    {
+        match self.table.at(place) {
+            Some((who, _)) => Some(who),
+            None => None,
+        }
+    }
+
+    /// Takes in the processes of another set. After an error the set is as it was; only memory can fail.
+    #[tactic(auto, unfolding(crate::specs::Uniques::union))]
+    pub fn merge(&mut self, alloc: Global, other: &Uniques) -> Result<(), AllocError>
+        ensures ok { OnOk result (self.new ≡ union self.old other.now) }
+        ensures err { OnErr result (self.new ≡ self.old) }
+    {
+        self.table.merge(alloc, &other.table)
+    }
+
+    /// An equal set. Only memory can fail.
+    pub fn copy(&self, alloc: Global) -> Result<Uniques, AllocError>
+        ensures { IfOk result (λ copy. copy ≡ self.now) }
+    {
+        let table = self.table.copy(alloc)?;
+        Ok(Uniques { table })
+    }
+}

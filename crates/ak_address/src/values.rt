@@ -1,0 +1,53 @@
+ghost use Rattle.std.specs.Prelude.{max};
+
+use crate::address::Unique;
+use crate::table::{Duplicate, Join};
+use std::alloc::{AllocError, Global};
+
+impl Duplicate for () {
+    fn copy(&self, alloc: Global) -> Result<(), AllocError> {
+        let _ = alloc;
+        Ok(())
+    }
+}
+
+impl Duplicate for u32 {
+    fn copy(&self, alloc: Global) -> Result<u32, AllocError> {
+        let _ = alloc;
+        Ok(*self)
+    }
+}
+
+impl Duplicate for u64 {
+    fn copy(&self, alloc: Global) -> Result<u64, AllocError> {
+        let _ = alloc;
+        Ok(*self)
+    }
+}
+
+impl Duplicate for Unique {
+    fn copy(&self, alloc: Global) -> Result<Unique, AllocError> {
+        Unique::copy(self, alloc)
+    }
+}
+
+/// A process that both sets have is in the set of both.
+impl Join for () {
+    ghost join = { λ _ _. tt };
+
+    fn join(&self, alloc: Global, other: &()) -> Result<(), AllocError> {
+        let _ = alloc;
+        let _ = other;
+        Ok(())
+    }
+}
+
+/// Two counts of one process come to the greater: counts only rise, so the greater is the newer.
+impl Join for u64 {
+    ghost join = { max };
+
+    fn join(&self, alloc: Global, other: &u64) -> Result<u64, AllocError> {
+        let _ = alloc;
+        Ok((*self).max(*other))
+    }
+}
