@@ -1,5 +1,5 @@
 -- The cause of a fault, and what a sink takes where it fails on the way. This project's choice.
-use Rattle.std.specs.Prelude.{ℕ, ◌+◌, ◌-◌, ◌^◌, ◌<◌, ◌≢◌, min, List, take, Option}
+use Rattle.std.specs.Prelude.{ℕ, ◌+◌, ◌-◌, ◌^◌, ◌<◌, ◌≤◌, ◌≢◌, min, List, length, take, Option}
 use Rattle.std.specs.Io.KnownBytes.{Appends}
 
 -- a count of faults rose, or stands at 2^64 - 1, where it stays
@@ -10,6 +10,8 @@ Rose old new = new ≢ 2 ^ 64 - 1 → old < new
 abbrev pub counted : ℕ → ℕ
 counted n = min (n + 1) (2 ^ 64 - 1)
 
--- known bytes grow by some first bytes of bs
-abbrev pub AppendsFront : Option (List ℕ) → Option (List ℕ) → List ℕ → Type 0
-AppendsFront old new bs = (n : ℕ) × Appends old new (take n bs)
+-- known bytes grow by a front of bs, its first `count` bytes
+pub record AppendsFront (old new : Option (List ℕ)) (bs : List ℕ) : Type 0 where
+  pub count : ℕ
+  pub within : count ≤ length bs
+  pub front : Appends old new (take count bs)
