@@ -25,6 +25,7 @@ impl<'a, R> Model for StdSource<'a, R> {
 }
 
 impl<'a, R: Input> StdSource<'a, R> {
+    /// Standard input as the runtime has it. It has not failed.
     pub fn new(rt: &'a R) -> Self
         ensures { result ≡ 0 }
     {
@@ -47,6 +48,7 @@ impl<'a, R: Input> Source for StdSource<'a, R> {
 
     ghost faults = { λ s. s };
 
+    /// One read of what is there. An interrupted one is tried again; another that fails is counted.
     fn read(&mut self, buffer: &mut [u8]) -> Read
         ensures count { self.old ≤ self.new }
         ensures cause { ReadCause self.old self.new result }
@@ -81,6 +83,7 @@ impl<'a, R> Model for StdSink<'a, R> {
 }
 
 impl<'a, R: Print> StdSink<'a, R> {
+    /// Standard output as the runtime has it. It has not failed.
     pub fn new(rt: &'a R) -> Self
         ensures { result ≡ 0 }
     {
@@ -103,6 +106,8 @@ impl<'a, R: Print> Sink for StdSink<'a, R> {
 
     ghost faults = { λ s. s };
 
+    /// One write, which has left the process when it returns. An interrupted one is tried again;
+    /// one that fails, or takes nothing of a piece that has bytes, is counted.
     fn write(&mut self, bytes: &[u8]) -> Wrote
         ensures count { self.old ≤ self.new }
         ensures cause { WriteCause self.old self.new result }

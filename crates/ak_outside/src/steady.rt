@@ -61,6 +61,7 @@ impl Source for SteadySource {
 pub struct SteadySink {}
 
 impl SteadySink {
+    /// A sink that has taken nothing.
     pub fn new() -> SteadySink {
         SteadySink {}
     }
@@ -71,6 +72,7 @@ impl Sink for SteadySink {
 
     ghost faults = { λ _. 0 };
 
+    /// Takes the whole piece.
     fn write(&mut self, bytes: &[u8]) -> Wrote
         ensures { result ≡ Wrote.Took (length bytes.now) }
     {

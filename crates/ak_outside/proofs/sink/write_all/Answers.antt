@@ -1,4 +1,4 @@
-use Rattle.std.proofs.Common.{arith, min, length, take, drop, ◌-◌}
+use Rattle.std.proofs.Common.{arith}
 use Rattle.std.proofs.lemmas.List.{length-take, length-drop}
 use Rattle.ak_outside.proofs.Fronts.{Appends-pieces}
 use Rattle.ak_outside.proofs.sink.write_all.Goals as goal
