@@ -1,0 +1,5 @@
+pub mod Outside
+pub mod Reads
+pub mod Writes
+pub mod Memory
+pub mod Codes

@@ -1,0 +1,26 @@
+-- What the answer of a write says of a sink. This project's choice.
+use Rattle.std.specs.Prelude.{◌≡◌, ℕ, ◌<◌, ◌≤◌, List, length, take, Option, ⊤}
+use Rattle.std.specs.Io.KnownBytes.{Appends, Keeps}
+use Rattle.ak_outside.specs.declared.sink.Wrote.{Wrote}
+use Rattle.ak_outside.specs.declared.sink.Wrote.TheVariants.{Took, Failed}
+use Rattle.ak_outside.specs.Outside.{Rose, counted}
+
+-- what was taken is some of the piece, and not nothing of a piece that has bytes
+abbrev pub FitsPiece : Wrote → List ℕ → Type 0
+FitsPiece (Took n) piece = (n ≤ length piece) × (0 < length piece → 0 < n)
+FitsPiece Failed piece = ⊤
+
+-- the bytes taken grow by the first of the piece; a failed write leaves them
+abbrev pub TakesFirst : Option (List ℕ) → Option (List ℕ) → Wrote → List ℕ → Type 0
+TakesFirst old new (Took n) piece = Appends old new (take n piece)
+TakesFirst old new Failed piece = Keeps old new
+
+-- a failed write has its cause
+abbrev pub WriteCause : ℕ → ℕ → Wrote → Type 0
+WriteCause old new (Took n) = ⊤
+WriteCause old new Failed = Rose old new
+
+-- the count is one more for a failed write, and stays at another
+abbrev pub WriteIsCounted : ℕ → ℕ → Wrote → Type 0
+WriteIsCounted old new (Took n) = new ≡ old
+WriteIsCounted old new Failed = new ≡ counted old
