@@ -1,5 +1,5 @@
 -- What a node knows of the cluster, and what it makes of a gossip that comes (Akka's Cluster Specification, "Gossip" and "Gossip convergence").
-use Rattle.std.specs.Prelude.{◌≡◌, ℕ, ◌+◌, Bool, nat_lt, List, Result, Ok, Err, if◌then◌else◌, refl}
+use Rattle.std.specs.Prelude.{◌≡◌, ℕ, ◌+◌, Bool, nat_lt, min, ◌^◌, ◌-◌, List, Result, Ok, Err, if◌then◌else◌, refl}
 use Rattle.std.specs.FinMap as map
 use Rattle.std.specs.FinSet as set
 use Rattle.std.specs.Coded.{Coded, code_by, coded×, coded_ℕ}
@@ -79,5 +79,5 @@ receive me own incoming =
     if nat_lt (count own.version me) (count incoming.version me)
     then Err (fault.TheVariants.ForeignCount (count own.version me) (count incoming.version me))
     else (if nat_lt most_uniques union
-        then Err (fault.TheVariants.TooManyUniques union)
-        else Ok (noted me (taken (relation own.version incoming.version) own incoming)))
+    then Err (fault.TheVariants.TooManyUniques (min union (2 ^ 32 - 1)))
+    else Ok (noted me (taken (relation own.version incoming.version) own incoming)))

@@ -6,3 +6,4 @@ pub mod NodeWords
 pub mod ReplayText
 pub mod StepText
 pub mod World
+pub mod WorldWords

@@ -6,7 +6,7 @@ use Rattle.ak_address.specs.Uniques.{UniqueSet, has, union, how_many, in_order}
 use Rattle.std.specs.List.{list_any}
 use Rattle.std.specs.Ordering.{is_eq}
 use Rattle.ak_address.specs.Unique.{Endpoint, Process, address_cmp, unique_cmp}
-use Rattle.ak_clock.specs.Version.{count, relation, is_same}
+use Rattle.ak_clock.specs.Version.{count, relation}
 use Rattle.ak_clock.specs.declared.version.Relation as clock
 use Rattle.ak_driver.specs.declared.member.Effect.{Effect}
 use Rattle.ak_driver.specs.declared.member.Effect.TheVariants.{Joined}
@@ -50,9 +50,10 @@ to_address n to what = action.TheVariants.Send (record { from = n.me; to = to; u
 
 -- the node makes one update, by these effects
 abbrev pub update : List Effect → State → Outcome
-update effects n =
-    (record n { gossip = updated n.me effects n.gossip },
-    action.TheVariants.Update (count n.gossip.version n.me + 1) effects ∷ [])
+update effects n = (
+  record n { gossip = updated n.me effects n.gossip },
+  action.TheVariants.Update (count n.gossip.version n.me + 1) effects ∷ [],
+)
 
 -- then the node answers with what it knows
 abbrev pub and_sends : (GossipState → Message) → Process → Outcome → Outcome
@@ -125,6 +126,12 @@ rule event.TheVariants.Found n = found n
 rule (event.TheVariants.Join target) n = join target n
 rule (event.TheVariants.Packet e) n =
     if is_for n.me e then on_message e.from e.message n else (n, action.TheVariants.Dead ∷ [])
+
+abbrev pub is_same : clock.Relation → Bool
+is_same clock.TheVariants.Same = true
+is_same clock.TheVariants.Before = false
+is_same clock.TheVariants.After = false
+is_same clock.TheVariants.Concurrent = false
 
 -- the view is shown where the version is another than before
 abbrev pub is_other : FinMap unique_cmp ℕ → FinMap unique_cmp ℕ → Bool

@@ -1,6 +1,6 @@
 -- What a replay of a recorded schedule prints, and its status: a relation over the schedule's lines, by the grammar of a line
 -- and the rules of the world.
-use Rattle.std.specs.Prelude.{◌≡◌, ℕ, ◌+◌, ◌<◌, ◌≤◌, ◌⊎◌, List, [], ◌∷◌, ◌++◌, codes, slice_get, Result, Ok, Err, IfSome}
+use Rattle.std.specs.Prelude.{◌≡◌, ℕ, ◌+◌, ◌<◌, ◌≤◌, ◌⊎◌, List, [], ◌∷◌, ◌++◌, codes, length, slice_get, Result, Ok, Err, IfSome}
 use Rattle.std.specs.Fmt.{decimal}
 use Rattle.ak_schedule.specs.Line.{lines, IsPassedOver}
 use Rattle.ak_schedule.specs.Settings.{Setup}
@@ -95,7 +95,7 @@ GoesOn p (Sets setup) Rest status text = Rest (record p { line = p.line + 1; hea
 GoesOn p (Steps event done) Rest status text =
     (rest : List ℕ)
     × Rest (record p { line = p.line + 1; steps = p.steps + 1; world = done.world }) status rest
-    × (text ≡ step_text p.world (p.steps + 1) event done ++ rest)
+    × (text ≡ step_text (length p.world.packets + 1) (p.steps + 1) event done ++ rest)
 GoesOn p (Refuses code) Rest status text = (status ≡ 4) × (text ≡ refusal_text code p.line)
 
 -- behind the last line: the summary, or a header is missing

@@ -108,12 +108,12 @@ shown None = nothing_known
 abbrev pub acting : Done → Option State
 acting done = option_and_then (slice_get done.world.nodes) done.node
 
--- The text of a step: its number and event, what arrived, and an item for each action. Packets are numbered from the first that was not sent before.
-abbrev pub step_text : WorldState → ℕ → Event → Done → List ℕ
-step_text before number event done =
+-- The text of a step: its number and event, what arrived, and an item for each action. The first packet that it may have sent has the number `first`.
+abbrev pub step_text : ℕ → ℕ → Event → Done → List ℕ
+step_text first number event done =
     decimal number ++ codes " " ++ event_text event ++ 10 ∷ []
-    ++ delivery_text event before (acting done)
-    ++ actions_text (shown (acting done)) (length before.packets + 1) done.actions
+    ++ delivery_text event done.world (acting done)
+    ++ actions_text (shown (acting done)) first done.actions
 
 -- The summary. (A margin that ends and an entity that is active on two nodes come with later rules.)
 abbrev pub summary_text : ℕ → WorldState → List ℕ

@@ -88,6 +88,10 @@ abbrev pub acts : NodeEvent → Option ℕ → WorldState → Result Done Refuse
 acts e (Some place) w = gives e place (slice_get w.nodes place) w
 acts e None w = Err refused.TheVariants.UnknownNode
 
+-- a schedule may start this many processes
+abbrev pub most_starts : ℕ
+most_starts = 64
+
 -- a process starts, with nothing known
 abbrev pub starts : Setup → Process → WorldState → Done
 starts setup u w =
@@ -107,8 +111,11 @@ delivers (Some e) w = arrives e (receiver_of e w) w
 delivers None w = Err (refused.TheVariants.NoPacket (length w.packets))
 
 -- the packet of a number from 1 on
+abbrev pub numbered : List Envelope → ℕ → Option Envelope
+numbered packets number = if number == 0 then None else slice_get packets (number - 1)
+
 abbrev pub packet_at : WorldState → ℕ → Option Envelope
-packet_at w number = if number == 0 then None else slice_get w.packets (number - 1)
+packet_at w number = numbered w.packets number
 
 -- What an event makes of a world, or the first reason why it is refused.
 abbrev pub happens : Setup → Event → WorldState → Result Done Refused
@@ -116,7 +123,8 @@ happens setup (Start u) w =
     if not (is_listed setup.listed u.address) then Err refused.TheVariants.Unlisted
     else (if list_any (is_process u) w.nodes then Err refused.TheVariants.UniqueUsed
     else (if is_used u.address w then Err refused.TheVariants.AddressInUse
-    else Ok (starts setup u w)))
+    else (if nat_le most_starts (length w.nodes) then Err refused.TheVariants.TooManyStarts
+    else Ok (starts setup u w))))
 happens setup (Found u) w =
     if w.founded then Err refused.TheVariants.SecondFound
     else acts event.TheVariants.Found (node_of u w) (record w { founded = true })

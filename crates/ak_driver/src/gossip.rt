@@ -1,13 +1,13 @@
 //! What a node knows of the cluster, and what it makes of a gossip that comes (Akka's Cluster Specification,
 //! "Gossip" and "Gossip Convergence").
 
-ghost use Rattle.std.specs.Prelude.{◌≡◌, ℕ, ◌<◌, IfOk, OnOk, OnErr};
-
+ghost use Rattle.std.specs.Prelude.{◌≡◌, ℕ, ◌<◌, ◌^◌, if◌then◌else◌, IfOk, OnOk, OnErr};
 ghost use Rattle.ak_clock.specs.Version.{count};
-ghost use Rattle.ak_driver.specs.Gossip.{GossipState, nothing_known, updated, receive};
+ghost use Rattle.ak_address.specs.Uniques.{has, with_one, those, union, how_many};
+ghost use Rattle.ak_driver.specs.Gossip.{GossipState, nothing_known, updated, seen_by, same, both, receive};
 ghost use Rattle.ak_driver.specs.GossipWords.{Receives};
 
-use crate::member::{Effect, Effects};
+use crate::member::{Effects, apply};
 use ak_address::{Unique, Uniques};
 use ak_clock::{Relation, Version};
 use std::alloc::{AllocError, Global};
@@ -38,7 +38,7 @@ pub enum GossipFault {
 
 /// What a node knows: the version of what it has seen, the members after that, and which nodes are known
 /// to know exactly the same.
-#[derive(Debug, Drop)]
+#[derive(Drop)]
 pub struct Gossip {
     version: Version,
     members: Uniques,
@@ -104,7 +104,12 @@ impl Gossip {
 
     /// The author makes an update by these effects and answers its number; only the author has seen it then.
     /// An error leaves the gossip as it was; only memory can fail.
-    pub fn update(&mut self, alloc: Global, author: &Unique, effects: &Effects) -> Result<u64, AllocError>
+    pub fn update(
+        &mut self,
+        alloc: Global,
+        author: &Unique,
+        effects: &Effects,
+    ) -> Result<u64, AllocError>
         requires { count self.old.version author.now < 2 ^ 62 }
         ensures number { IfOk result (λ number. number ≡ count self.old.version author.now + 1) }
         ensures ok { OnOk result (self.new ≡ updated author.now effects.now self.old) }
@@ -113,7 +118,7 @@ impl Gossip {
         let mut seen = Uniques::empty(alloc);
         seen.insert(alloc, author)?;
         let mut members = self.members.copy(alloc)?;
-        apply(alloc, &mut members, effects.as_slice())?;
+        apply(alloc, effects.as_slice(), &mut members)?;
         let number = self.version.bump(alloc, author)?;
         self.members = members;
         self.seen = seen;
@@ -136,15 +141,130 @@ impl Gossip {
         if own < theirs {
             return Err(GossipFault::ForeignCount { own, theirs });
         }
-        let union = size_of_both(&self.members, &incoming.members);
-        if MOST_UNIQUES < union {
-            return Err(GossipFault::TooManyUniques { union });
+        if self.members.len() + incoming.members.len() > MOST_UNIQUES {
+            let union = size_of_both(alloc, &self.members, &incoming.members)?;
+            if union > MOST_UNIQUES {
+                let union = u32::try_from(union).unwrap_or(u32::MAX);
+                return Err(GossipFault::TooManyUniques { union });
+            }
         }
         match self.version.compare(&incoming.version) {
-            Relation::Same => self.take_same(alloc, me, incoming),
-            Relation::Before => self.take_newer(alloc, me, incoming),
+            Relation::Same => Ok(self.take_same(alloc, me, incoming)?),
+            Relation::Before => Ok(self.take_newer(alloc, me, incoming)?),
             Relation::After => Ok(Received::Older),
-            Relation::Concurrent => self.take_both(alloc, me, incoming),
+            Relation::Concurrent => Ok(self.take_both(alloc, me, incoming)?),
         }
+    }
+
+    // Both know the same: who has seen it there, and is a member here, has seen it here.
+    fn take_same(
+        &mut self,
+        alloc: Global,
+        me: &Unique,
+        incoming: &Gossip,
+    ) -> Result<Received, AllocError>
+        ensures ok { OnOk result (self.new ≡ seen_by me.now (same self.old incoming.now)) }
+        ensures answer { IfOk result (λ r. r ≡ Received.Same) }
+        ensures err { OnErr result (self.new ≡ self.old) }
+    {
+        let mut seen = self.seen.copy(alloc)?;
+        add_members(alloc, &incoming.seen, &self.members, &mut seen)?;
+        add_member(alloc, me, &self.members, &mut seen)?;
+        self.seen = seen;
+        Ok(Received::Same)
+    }
+
+    // What came replaces what was known.
+    fn take_newer(
+        &mut self,
+        alloc: Global,
+        me: &Unique,
+        incoming: &Gossip,
+    ) -> Result<Received, AllocError>
+        ensures ok { OnOk result (self.new ≡ seen_by me.now incoming.now) }
+        ensures answer { IfOk result (λ r. r ≡ Received.Newer) }
+        ensures err { OnErr result (self.new ≡ self.old) }
+    {
+        let mut known = incoming.copy(alloc)?;
+        add_member(alloc, me, &known.members, &mut known.seen)?;
+        *self = known;
+        Ok(Received::Newer)
+    }
+
+    // Each knows what the other does not.
+    fn take_both(
+        &mut self,
+        alloc: Global,
+        me: &Unique,
+        incoming: &Gossip,
+    ) -> Result<Received, AllocError>
+        ensures ok { OnOk result (self.new ≡ seen_by me.now (both self.old incoming.now)) }
+        ensures answer { IfOk result (λ r. r ≡ Received.Merged) }
+        ensures err { OnErr result (self.new ≡ self.old) }
+    {
+        let mut version = self.version.copy(alloc)?;
+        version.merge(alloc, &incoming.version)?;
+        let mut members = self.members.copy(alloc)?;
+        members.merge(alloc, &incoming.members)?;
+        let mut seen = Uniques::empty(alloc);
+        add_member(alloc, me, &members, &mut seen)?;
+        self.version = version;
+        self.members = members;
+        self.seen = seen;
+        Ok(Received::Merged)
+    }
+}
+
+// A gossip may hold this many uniques.
+const MOST_UNIQUES: usize = 128;
+
+// How many processes are in either set.
+fn size_of_both(alloc: Global, one: &Uniques, other: &Uniques) -> Result<usize, AllocError>
+    ensures { IfOk result (λ size. size ≡ how_many (union one.now other.now)) }
+{
+    let mut both = one.copy(alloc)?;
+    both.merge(alloc, other)?;
+    Ok(both.len())
+}
+
+// Adds a process that is a member.
+fn add_member(
+    alloc: Global,
+    who: &Unique,
+    members: &Uniques,
+    seen: &mut Uniques,
+) -> Result<(), AllocError>
+    ensures { OnOk result (seen.new ≡ (if has members.now who.now then with_one seen.old who.now else seen.old)) }
+{
+    if members.contains(who) {
+        return seen.insert(alloc, who);
+    }
+    Ok(())
+}
+
+// Adds those that are members.
+fn add_members(
+    alloc: Global,
+    others: &Uniques,
+    members: &Uniques,
+    seen: &mut Uniques,
+) -> Result<(), AllocError>
+    ensures { OnOk result (seen.new ≡ union seen.old (those others.now (has members.now))) }
+{
+    'others: for place in 0..others.len() {
+        if let Some(who) = others.at(place) {
+            add_member(alloc, who, members, seen)?;
+        }
+    }
+    Ok(())
+}
+
+impl From<AllocError> for GossipFault {
+    ghost use Rattle.ak_driver.specs.declared.gossip.GossipFault.TheVariants.{NoMemory};
+
+    ghost from_gives = { λ _ e. e ≡ NoMemory };
+
+    fn from(_error: AllocError) -> GossipFault {
+        GossipFault::NoMemory
     }
 }

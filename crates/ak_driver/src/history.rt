@@ -4,14 +4,14 @@ ghost use Rattle.std.specs.Prelude.{◌≡◌, ◌+◌, [], ◌∷◌, reverse, 
 ghost use Rattle.std.specs.Option.{option_copied};
 ghost use Rattle.ak_driver.specs.History.{entries_of, view};
 
-use crate::member::{Effect, Effects};
+use crate::member::{Effects, apply};
 use ak_address::{Unique, Uniques};
 use ak_clock::Version;
 use std::alloc::{AllocError, Global};
 use std::marker::Model;
 
 /// One update: who made it, the author's number of it from 1 on, and what it did.
-#[derive(Debug, Drop)]
+#[derive(Drop)]
 pub struct Entry {
     pub author: Unique,
     pub number: u64,
@@ -19,7 +19,7 @@ pub struct Entry {
 }
 
 /// Every update of a run, in order. The entries of each author are numbered 1, 2, 3 and so on.
-#[derive(Debug, Drop)]
+#[derive(Drop)]
 pub struct History {
     list: Vec<Entry>,
 }
@@ -48,7 +48,12 @@ impl History {
 
     /// Adds an update of the author and answers its number, which is one more than the author has entries.
     /// An error leaves the history as it was; only memory can fail.
-    pub fn push(&mut self, alloc: Global, author: &Unique, effects: Effects) -> Result<u64, AllocError>
+    pub fn push(
+        &mut self,
+        alloc: Global,
+        author: &Unique,
+        effects: Effects,
+    ) -> Result<u64, AllocError>
         ensures number { IfOk result (λ number. number ≡ entries_of author.now self.old + 1) }
         ensures ok { IfOk result (λ number. self.new ≡ record { author = author.now; number = number; effects = effects } ∷ self.old) }
         ensures err { OnErr result (self.new ≡ self.old) }
@@ -84,7 +89,7 @@ impl History {
         let mut members = Uniques::empty(alloc);
         'entries: for entry in &self.list {
             if entry.number <= version.count(&entry.author) {
-                apply(alloc, &mut members, entry.effects.as_slice())?;
+                apply(alloc, entry.effects.as_slice(), &mut members)?;
             }
         }
         Ok(members)

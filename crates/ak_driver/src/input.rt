@@ -15,6 +15,7 @@ pub enum Unread {
 
 // How many lines have ended, how many bytes the next one has so far, and whether a limit is passed: a line
 // of more than 4,096 bytes without its CR, or a line after the last that may be.
+#[derive(Drop)]
 struct Extent {
     lines: u32,
     bytes: u32,
@@ -79,4 +80,14 @@ pub fn read_all<S: Source>(alloc: Global, input: &mut S) -> Result<Vec<u8>, Unre
         }
     }
     Ok(bytes)
+}
+
+impl From<AllocError> for Unread {
+    ghost use Rattle.ak_driver.specs.declared.input.Unread.TheVariants.{NoMemory};
+
+    ghost from_gives = { λ _ e. e ≡ NoMemory };
+
+    fn from(_error: AllocError) -> Unread {
+        Unread::NoMemory
+    }
 }

@@ -11,16 +11,15 @@ pub mod report;
 pub mod wire;
 pub mod world;
 
-pub use ak_outside::Status;
-pub use replay::run_replay;
-
 use ak_address::Text;
+pub use ak_outside::Status;
 use ak_outside::{Sink, Source, write_all};
+pub use replay::run_replay;
 use std::alloc::Global;
 
 // The one word is `replay`.
 fn is_replay(words: &[Text]) -> bool {
-    words.len() == 1 && words[0].bytes() == b"replay"
+    words.len() == 1 && words[0].bytes() == b"replay".as_slice()
 }
 
 /// Does what the words after the program's name ask for: `replay` alone replays the schedule in the input. Any other
@@ -36,6 +35,15 @@ pub fn run<S: Source, W: Sink>(
     }
     if write_all(output, b"error 2 usage\n") {
         Status::Usage
+    } else {
+        Status::Write
+    }
+}
+
+/// Answers that there was no memory for the words themselves.
+pub fn run_without_words<W: Sink>(output: &mut W) -> Status {
+    if write_all(output, b"error 7 memory\n") {
+        Status::Memory
     } else {
         Status::Write
     }

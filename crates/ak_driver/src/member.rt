@@ -3,14 +3,14 @@
 
 ghost use Rattle.std.specs.Prelude.{◌≡◌, [], ◌∷◌, ◌++◌, length, slice_get, IfOk, OnOk, OnErr, IsTrue, ◌↔◌};
 ghost use Rattle.std.specs.Option.{option_copied};
-
+ghost use Rattle.ak_driver.specs.History.{after_effects};
 
 use ak_address::{Unique, Uniques};
 use std::alloc::{AllocError, Global};
 use std::marker::Model;
 
 /// What an update does to one process.
-#[derive(Debug, Drop)]
+#[derive(Drop)]
 pub enum Effect {
     /// The process becomes a Joining member.
     Joined(Unique),
@@ -28,7 +28,7 @@ impl Effect {
 }
 
 /// A list of effects, in the order in which they are applied.
-#[derive(Debug, Drop)]
+#[derive(Drop)]
 pub struct Effects {
     list: Vec<Effect>,
 }
@@ -99,4 +99,20 @@ fn copied(alloc: Global, effects: &[Effect]) -> Result<Vec<Effect>, AllocError>
         copies.push(effect.copy(alloc)?)?;
     }
     Ok(copies)
+}
+
+/// Applies effects to the members, in order. Only memory can fail, and then some may have been applied.
+pub(crate) fn apply(
+    alloc: Global,
+    effects: &[Effect],
+    members: &mut Uniques,
+) -> Result<(), AllocError>
+    ensures { OnOk result (members.new ≡ after_effects effects.now members.old) }
+{
+    'effects: for effect in effects {
+        match effect {
+            Effect::Joined(who) => members.insert(alloc, who)?,
+        }
+    }
+    Ok(())
 }

@@ -3,7 +3,6 @@
 
 ghost use Rattle.std.specs.Prelude.{◌≡◌, ℕ, ◌+◌, ◌<◌, ◌^◌, Bool, true, false, [], ◌∷◌, ◌++◌, length, slice_get, IfOk, OnOk, OnErr, IsErr, IsTrue, ◌↔◌, Option, None};
 ghost use Rattle.std.specs.Option.{option_copied};
-
 ghost use Rattle.ak_clock.specs.Version.{count};
 ghost use Rattle.ak_driver.specs.Node as rules;
 ghost use Rattle.ak_driver.specs.NodeWords.{Does};
@@ -18,7 +17,7 @@ use std::alloc::{AllocError, Global};
 use std::marker::Model;
 
 /// What may happen to a node.
-#[derive(Debug, Drop)]
+#[derive(Drop)]
 pub enum NodeEvent {
     /// It founds the cluster.
     Found,
@@ -29,7 +28,7 @@ pub enum NodeEvent {
 }
 
 /// What a node does in a step.
-#[derive(Debug, Drop)]
+#[derive(Drop)]
 pub enum Action {
     /// It sends a packet.
     Send(Envelope),
@@ -45,7 +44,7 @@ pub enum Action {
 }
 
 /// The actions of a step, in order.
-#[derive(Debug, Drop)]
+#[derive(Drop)]
 pub struct Actions {
     list: Vec<Action>,
 }
@@ -53,8 +52,13 @@ pub struct Actions {
 impl Model for Actions {
     ghost use Rattle.std.specs.Prelude.{List};
     ghost use Rattle.ak_driver.specs.declared.node.Action.{Action};
+    ghost use Rattle.std.specs.Coded.{codes};
+    ghost use Rattle.ak_address.specs.Unique.{coded_address, coded_unique};
+    ghost use Rattle.ak_driver.specs.Gossip.{coded_gossip};
 
     ghost Value = { List Action };
+
+    ghost coded = { Prim.hlevel (codes, coded_address, coded_unique, coded_gossip) };
 
     ghost view = { λ a. a.list.items };
 }
@@ -104,12 +108,15 @@ impl Actions {
 const MOST_AT_JOIN: usize = 64;
 
 const NOT_MEMBER: u8 = 3;
+
 const UNLISTED: u8 = 4;
+
 const FOREIGN_COUNT: u8 = 5;
+
 const TOO_MANY_UNIQUES: u8 = 6;
 
 /// The state of a node, as plain data.
-#[derive(Debug, Drop)]
+#[derive(Drop)]
 pub struct State {
     /// The process that it is.
     pub me: Unique,
@@ -257,7 +264,12 @@ impl State {
     }
 
     // A gossip arrives (Akka's Cluster Specification, "Gossip": the receiver answers where it knows what the sender may not).
-    fn on_gossip(&mut self, alloc: Global, from: &Unique, incoming: &Gossip) -> Result<Actions, AllocError>
+    fn on_gossip(
+        &mut self,
+        alloc: Global,
+        from: &Unique,
+        incoming: &Gossip,
+    ) -> Result<Actions, AllocError>
         ensures { IfOk result (λ actions. Does (rules.on_gossip from.now incoming.now self.old) self.new actions) }
     {
         if !incoming.members().contains(&self.me) {
@@ -265,8 +277,14 @@ impl State {
         }
         let known_there = incoming.seen().contains(&self.me);
         match self.gossip.receive(alloc, &self.me, incoming) {
-            Err(GossipFault::ForeignCount { own: _, theirs: _ }) => one(alloc, Action::Refused(FOREIGN_COUNT)),
-            Err(GossipFault::TooManyUniques { union: _ }) => one(alloc, Action::Refused(TOO_MANY_UNIQUES)),
+            Err(GossipFault::ForeignCount { own: _, theirs: _ }) => one(
+                alloc,
+                Action::Refused(FOREIGN_COUNT),
+            ),
+            Err(GossipFault::TooManyUniques { union: _ }) => one(
+                alloc,
+                Action::Refused(TOO_MANY_UNIQUES),
+            ),
             Err(GossipFault::NoMemory) => Err(AllocError),
             Ok(received) => {
                 let mut actions = Actions::empty(alloc);
@@ -306,8 +324,8 @@ impl State {
 
     // One event: its rule, and then the closing, which shows the view where the version is another.
     fn step(&mut self, alloc: Global, event: NodeEvent) -> Result<Actions, AllocError>
-        requires { count self.old.gossip.version self.old.me < 2 ^ 62 }
-        requires { self.old.steps < 2 ^ 62 }
+        requires count { count self.old.gossip.version self.old.me < 2 ^ 62 }
+        requires steps { self.old.steps < 2 ^ 62 }
         ensures { IfOk result (λ actions. Does (rules.step event self.old) self.new actions) }
     {
         let before = self.gossip.version().copy(alloc)?;
@@ -332,7 +350,7 @@ pub fn is_for(me: &Unique, envelope: &Envelope) -> bool
 }
 
 /// A node. After want of memory it is spent: it knows nothing, and each later step answers want of memory.
-#[derive(Debug, Drop)]
+#[derive(Drop)]
 pub struct Node {
     state: State,
     spent: bool,
@@ -341,8 +359,14 @@ pub struct Node {
 impl Model for Node {
     ghost use Rattle.std.specs.Prelude.{◌≤◌};
     ghost use Rattle.ak_driver.specs.NodeWords.{Machine, IsOwnCount};
+    ghost use Rattle.std.specs.Coded.{codes};
+    ghost use Rattle.ak_address.specs.Unique.{coded_address, coded_unique};
+    ghost use Rattle.ak_schedule.specs.Settings.{coded_setup};
+    ghost use Rattle.ak_driver.specs.Gossip.{coded_gossip};
 
     ghost Value = { Machine };
+
+    ghost coded = { Prim.hlevel (codes, coded_address, coded_unique, coded_setup, coded_gossip) };
 
     ghost view = { λ n. record { state = n.state; spent = n.spent } };
 

@@ -160,7 +160,12 @@ fn running(
 }
 
 // The line that says which line is refused, and why.
-fn print_refusal(alloc: Global, code: Code, line: u64, out: &mut Vec<u8>) -> Result<(), AllocError> {
+fn print_refusal(
+    alloc: Global,
+    code: Code,
+    line: u64,
+    out: &mut Vec<u8>,
+) -> Result<(), AllocError> {
     let mut text = Vec::new(alloc);
     print_bytes(b"error 4 ", &mut text)?;
     print_bytes(code.text(), &mut text)?;
@@ -206,7 +211,7 @@ fn ended<W: Sink>(
 }
 
 // Replays these bytes.
-fn replay<W: Sink>(alloc: Global, bytes: &[u8], output: &mut W) -> Status {
+fn replay_bytes<W: Sink>(alloc: Global, bytes: &[u8], output: &mut W) -> Status {
     let mut replay = Replay::new(alloc);
     let mut out = Vec::new(alloc);
     let mut rest = bytes;
@@ -233,7 +238,7 @@ fn replay<W: Sink>(alloc: Global, bytes: &[u8], output: &mut W) -> Status {
 /// failed, and nothing else is written then; and `Memory`, after whole steps.
 pub fn run_replay<S: Source, W: Sink>(alloc: Global, input: &mut S, output: &mut W) -> Status {
     match read_all(alloc, input) {
-        Ok(bytes) => replay(alloc, &bytes, output),
+        Ok(bytes) => replay_bytes(alloc, &bytes, output),
         Err(Unread::Failed) => written(output, b"error 5 read\n", Status::Read),
         Err(Unread::NoMemory) => written(output, b"error 7 memory\n", Status::Memory),
     }

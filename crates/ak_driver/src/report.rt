@@ -2,7 +2,6 @@
 
 ghost use Rattle.std.specs.Prelude.{◌≡◌, ℕ, ◌+◌, ◌<◌, ◌^◌, ◌++◌, [], map, length, OnOk, OnErr};
 ghost use Rattle.ak_address.specs.Uniques.{in_order};
-
 ghost use Rattle.ak_driver.specs.StepText as text;
 
 use crate::gossip::Gossip;

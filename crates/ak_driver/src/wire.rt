@@ -8,7 +8,7 @@ use ak_address::{Address, Unique};
 use std::alloc::{AllocError, Global};
 
 /// What one node says to another.
-#[derive(Debug, Drop)]
+#[derive(Drop)]
 pub enum Message {
     /// The sender asks to become a member.
     Join,
@@ -43,7 +43,7 @@ impl Message {
 }
 
 /// A message with its sender and its receiver. A uid of 0 means any process at the address.
-#[derive(Debug, Drop)]
+#[derive(Drop)]
 pub struct Envelope {
     pub from: Unique,
     pub to: Address,

@@ -1,8 +1,9 @@
 //! A recorded world: the nodes that were started, every packet that was ever sent, and the history of the cluster.
 
-ghost use Rattle.std.specs.Prelude.{◌≡◌, ℕ, ◌+◌, ◌<◌, ◌≤◌, ◌^◌, ◌++◌, ◌∷◌, [], true, false, length, slice_get, IfOk, OnOk, OnErr, Option, None, Some};
-ghost use Rattle.std.specs.Option.{option_copied};
+ghost use Rattle.std.specs.Prelude.{◌≡◌, ℕ, ◌+◌, ◌-◌, ◌<◌, ◌≤◌, ◌^◌, ◌++◌, ◌∷◌, [], true, false, length, slice_get, IfOk, OnOk, OnErr, Option, None, Some};
+ghost use Rattle.std.specs.Option.{option_copied, option_map};
 ghost use Rattle.ak_driver.specs.World as rules;
+ghost use Rattle.ak_driver.specs.WorldWords.{Applies};
 ghost use Rattle.ak_driver.specs.StepText as text;
 
 use crate::gossip::Gossip;
@@ -30,6 +31,8 @@ pub enum Refused {
     UnknownNode,
     /// There is no packet of that number: so many were sent.
     NoPacket { sent: u64 },
+    /// As many processes were started as may be: 64.
+    TooManyStarts,
     /// The event is of a kind that is not built yet.
     NotBuilt,
     NoMemory,
@@ -37,15 +40,18 @@ pub enum Refused {
 
 /// What an event did: the acting node, by its start number from 0 on, or none for a delivery that reached nobody;
 /// the number of the first packet that it may have sent; and its actions.
-#[derive(Debug, Drop)]
+#[derive(Drop)]
 pub struct Step {
     pub node: Option<u32>,
     pub first_packet: u64,
     pub actions: Actions,
 }
 
+// A schedule may start this many processes.
+const MOST_STARTS: usize = 64;
+
 // What a world is made of, without its list of events.
-#[derive(Debug, Drop)]
+#[derive(Drop)]
 pub(crate) struct Scene {
     settings: Settings,
     nodes: Vec<Node>,
@@ -56,9 +62,7 @@ pub(crate) struct Scene {
 
 // Which node the process is.
 fn node_of(nodes: &[Node], who: &Unique) -> Option<usize> {
-    nodes
-        .iter()
-        .position(|node| node.me().compare(who).is_eq())
+    nodes.iter().position(|node| node.me().compare(who).is_eq())
 }
 
 // Which node the packet reaches.
@@ -83,6 +87,9 @@ impl Scene {
         }
         if is_used(&self.nodes, &who.address) {
             return Err(Refused::AddressInUse);
+        }
+        if self.nodes.len() >= MOST_STARTS {
+            return Err(Refused::TooManyStarts);
         }
         self.start_node(alloc, who)
     }
@@ -165,7 +172,9 @@ impl Scene {
 }
 
 // The packet of a number from 1 on.
-fn packet_at(packets: &[Envelope], number: u64) -> Option<&Envelope> {
+fn packet_at(packets: &[Envelope], number: u64) -> Option<&Envelope>
+    ensures { option_copied result ≡ rules.numbered packets.now number }
+{
     if number == 0 {
         return None;
     }
@@ -229,16 +238,34 @@ impl<T: Drop> From<AllocFailed<T>> for Refused {
 
 /// A world: a settings' run of the events that it accepted. After want of memory it is spent, and each later event
 /// answers want of memory.
-#[derive(Debug, Drop)]
+#[derive(Drop)]
 pub struct World {
     scene: Scene,
-    events: Vec<Event>,
-    spent: bool,
+    accepted: Vec<Event>,
+    is_spent: bool,
+}
+
+impl Model for World {
+    ghost use Rattle.std.specs.Coded.{codes};
+    ghost use Rattle.ak_address.specs.Unique.{coded_address, coded_unique};
+    ghost use Rattle.ak_schedule.specs.Settings.{coded_setup};
+    ghost use Rattle.ak_driver.specs.Gossip.{coded_gossip};
+    ghost use Rattle.ak_driver.specs.WorldWords.{Chronicle, state_of, IsChronicle};
+
+    ghost Value = { Chronicle };
+
+    ghost coded = { Prim.hlevel (codes, coded_address, coded_unique, coded_setup, coded_gossip) };
+
+    ghost view = { λ w. record { setup = w.scene.settings; state = state_of w.scene; events = w.accepted.items; spent = w.is_spent } };
+
+    ghost invariant = { λ w. IsChronicle w.scene.settings w.scene w.accepted.items w.is_spent };
 }
 
 impl World {
     /// The world in which nothing has happened. Takes no memory.
-    pub fn new(alloc: Global, settings: Settings) -> World {
+    pub fn new(alloc: Global, settings: Settings) -> World
+        ensures { result ≡ record { setup = settings; state = rules.empty_world; events = []; spent = false } }
+    {
         let scene = Scene {
             settings,
             nodes: Vec::new(alloc),
@@ -248,26 +275,31 @@ impl World {
         };
         World {
             scene,
-            events: Vec::new(alloc),
-            spent: false,
+            accepted: Vec::new(alloc),
+            is_spent: false,
         }
     }
 
     /// Applies one event, or says why it is refused: the first reason of `Refused` that applies. A refusal leaves the
     /// world as it was; after want of memory the world is spent.
-    pub fn apply(&mut self, alloc: Global, event: &Event) -> Result<Step, Refused> {
-        if self.spent {
+    pub fn apply(&mut self, alloc: Global, event: &Event) -> Result<Step, Refused>
+        requires { length self.old.events < 2 ^ 62 }
+        ensures applied { Applies event.now self.old result self.new }
+        ensures numbered { IfOk result (λ step. step.first_packet + length (rules.sent step.actions) < 2 ^ 64) }
+        ensures run { self.new.spent ≡ false → self.new.state ≡ rules.run self.new.setup self.new.events }
+    {
+        if self.is_spent {
             return Err(Refused::NoMemory);
         }
         let result = self.happens(alloc, event);
         match result {
             Ok(step) => Ok(step),
             Err(Refused::NoMemory) => {
-                self.spent = true;
+                self.is_spent = true;
                 Err(Refused::NoMemory)
             }
             Err(why) => {
-                let _ = self.events.pop();
+                let _ = self.accepted.pop();
                 Err(why)
             }
         }
@@ -275,7 +307,7 @@ impl World {
 
     fn happens(&mut self, alloc: Global, event: &Event) -> Result<Step, Refused> {
         let accepted = event.copy(alloc)?;
-        self.events.push(accepted)?;
+        self.accepted.push(accepted)?;
         match event {
             Event::Start(who) => self.scene.start(alloc, who),
             Event::Found(who) => self.scene.found(alloc, who),
@@ -286,22 +318,30 @@ impl World {
     }
 
     /// Every update so far.
-    pub fn history(&self) -> &History {
+    pub fn history(&self) -> &History
+        ensures { result.now ≡ self.now.state.history }
+    {
         &self.scene.history
     }
 
     /// The node of a start number from 0 on, and None where none has it.
-    pub fn node(&self, number: u32) -> Option<&Node> {
+    pub fn node(&self, number: u32) -> Option<&Node>
+        ensures { option_map (λ n. n.now.state) result ≡ slice_get self.now.state.nodes number }
+    {
         self.scene.nodes.get(number as usize)
     }
 
     /// How many packets were sent.
-    pub fn packets(&self) -> u64 {
+    pub fn packets(&self) -> u64
+        ensures { result ≡ length self.now.state.packets }
+    {
         self.scene.packets.len() as u64
     }
 
     /// The packet of a number from 1 on, and None where none has it.
-    pub fn packet(&self, number: u64) -> Option<&Envelope> {
+    pub fn packet(&self, number: u64) -> Option<&Envelope>
+        ensures { option_copied result ≡ rules.packet_at self.now.state number }
+    {
         packet_at(&self.scene.packets, number)
     }
 }
@@ -343,7 +383,12 @@ pub fn print_step(
     event: &Event,
     step: &Step,
     out: &mut Vec<u8>,
-) -> Result<(), AllocError> {
+) -> Result<(), AllocError>
+    requires { step.now.first_packet + length (rules.sent step.now.actions) < 2 ^ 64 }
+    ensures ok { OnOk result (out.new.items
+        ≡ out.old.items ++ text.step_text step.now.first_packet step_number event.now (record { world = world.now.state; node = step.now.node; actions = step.now.actions })) }
+    ensures err { OnErr result (out.new.items ≡ out.old.items) }
+{
     let mut text = Vec::new(alloc);
     print_head(step_number, event, &mut text)?;
     let node = acting(world, step);
@@ -381,7 +426,10 @@ pub fn print_summary(
     world: &World,
     steps: u64,
     out: &mut Vec<u8>,
-) -> Result<(), AllocError> {
+) -> Result<(), AllocError>
+    ensures ok { OnOk result (out.new.items ≡ out.old.items ++ text.summary_text steps world.now.state) }
+    ensures err { OnErr result (out.new.items ≡ out.old.items) }
+{
     let mut text = Vec::new(alloc);
     print_count(b"steps ", steps, &mut text)?;
     print_count(b"packets ", world.packets(), &mut text)?;

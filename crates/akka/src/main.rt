@@ -2,7 +2,7 @@
 #![tactic(auto)]
 
 use ak_address::Text;
-use ak_driver::{Status, run};
+use ak_driver::{run, run_without_words};
 use ak_outside::{StdSink, StdSource};
 use std::alloc::{AllocError, Global};
 use std::env::{Env, FillError};
@@ -47,7 +47,7 @@ fn main(rt: HostRuntime) -> ExitCode {
             &mut StdSource::new(&rt),
             &mut StdSink::new(&rt),
         ),
-        Err(_) => Status::Memory,
+        Err(_) => run_without_words(&mut StdSink::new(&rt)),
     };
     ExitCode::from(status.code())
 }
