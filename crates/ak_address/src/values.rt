@@ -5,22 +5,19 @@ use crate::table::{Duplicate, Join};
 use std::alloc::{AllocError, Global};
 
 impl Duplicate for () {
-    fn copy(&self, alloc: Global) -> Result<(), AllocError> {
-        let _ = alloc;
+    fn copy(&self, _alloc: Global) -> Result<(), AllocError> {
         Ok(())
     }
 }
 
 impl Duplicate for u32 {
-    fn copy(&self, alloc: Global) -> Result<u32, AllocError> {
-        let _ = alloc;
+    fn copy(&self, _alloc: Global) -> Result<u32, AllocError> {
         Ok(*self)
     }
 }
 
 impl Duplicate for u64 {
-    fn copy(&self, alloc: Global) -> Result<u64, AllocError> {
-        let _ = alloc;
+    fn copy(&self, _alloc: Global) -> Result<u64, AllocError> {
         Ok(*self)
     }
 }
@@ -46,8 +43,7 @@ impl Join for () {
 impl Join for u64 {
     ghost join = { max };
 
-    fn join(&self, alloc: Global, other: &u64) -> Result<u64, AllocError> {
-        let _ = alloc;
+    fn join(&self, _alloc: Global, other: &u64) -> Result<u64, AllocError> {
         Ok((*self).max(*other))
     }
 }

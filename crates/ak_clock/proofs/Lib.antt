@@ -1,0 +1,2 @@
+pub mod VersionLaws
+mod Walk

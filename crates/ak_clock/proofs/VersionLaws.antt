@@ -1,0 +1,227 @@
+-- What versions count after a merge and a bump, and the order that covering is.
+use Rattle.std.proofs.Common.{◌≡◌, ◌≢◌, ℕ, zero, suc, ◌+◌, ◌<◌, ◌≤◌, max, leb, Bool, true, false, cond, ◌&&◌, ◌↔◌, ◌⊎◌, inl, inr, T, List, [], ◌∷◌, Option, Some, None, is_some, unwrap_or, slice_get, Result, Ok, Err, OnOk, OnErr, refl, sym, ap, ◌∙◌, subst, arith, true≢false, leb-true, le-leb}
+use Rattle.std.specs.List.{list_all}
+use Rattle.std.specs.FinMap as map
+use Rattle.ak_address.specs.Unique.{Process, unique_cmp}
+use Rattle.ak_address.specs.Table.{joined_at, joined}
+use Rattle.ak_address.proofs.TableLaws.{same_table, get-empty, get-insert_here, get-insert_elsewhere, get-joined, get_at, place_of_get, same_or_apart}
+use Rattle.ak_clock.specs.declared.version.TheConstants.{BOUND}
+use Rattle.ak_clock.specs.declared.version.Relation.{Relation}
+use Rattle.ak_clock.specs.declared.version.Relation.TheVariants.{Same, Before, After, Concurrent}
+use Rattle.ak_clock.specs.Version.{Counts, count, IsVersion, Covers, IsBelow, Relates, covers, relation_by, relation, merged, bumped}
+
+-- ---- one process
+max_at : (a b : Option ℕ) → unwrap_or (joined_at max a b) 0 ≡ max (unwrap_or a 0) (unwrap_or b 0)
+max_at None b = omega arith
+max_at (Some x) None = omega arith
+max_at (Some x) (Some y) = refl
+
+swapped : (a b : Option ℕ) → joined_at max a b ≡ joined_at max b a
+swapped None None = refl
+swapped None (Some y) = refl
+swapped (Some x) None = refl
+swapped (Some x) (Some y) = ap Some (omega arith)
+
+grouped : (a b c : Option ℕ) → joined_at max (joined_at max a b) c ≡ joined_at max a (joined_at max b c)
+grouped None b c = refl
+grouped (Some x) None c = refl
+grouped (Some x) (Some y) None = refl
+grouped (Some x) (Some y) (Some z) = ap Some (omega arith)
+
+twice : (a : Option ℕ) → joined_at max a a ≡ a
+twice None = refl
+twice (Some x) = ap Some (omega arith)
+
+same_at : (a b : Option ℕ) → a ≢ Some 0 → b ≢ Some 0 → unwrap_or a 0 ≡ unwrap_or b 0 → a ≡ b
+same_at None None p q e = refl
+same_at None (Some y) p q e = absurd (q (ap Some (sym e)))
+same_at (Some x) None p q e = absurd (p (ap Some e))
+same_at (Some x) (Some y) p q e = ap Some e
+
+no_zero_at : (a b : Option ℕ) → a ≢ Some 0 → b ≢ Some 0 → joined_at max a b ≢ Some 0
+no_zero_at None b p q e = q e
+no_zero_at (Some x) None p q e = p e
+no_zero_at (Some x) (Some y) p q e = let zero_max : max x y ≡ 0 = ap (λ o. unwrap_or o 0) e in p (ap Some (omega arith))
+
+-- ---- counts
+pub count-empty : (u : Process) → count map.empty u ≡ 0
+count-empty u = ap (λ o. unwrap_or o 0) (get-empty u)
+
+pub count-merged : (v w : Counts) (u : Process) → count (merged v w) u ≡ max (count v u) (count w u)
+count-merged v w u = ap (λ o. unwrap_or o 0) (get-joined max v w u) ∙ max_at (map.get v u) (map.get w u)
+
+pub count-bumped_author : (v : Counts) (u : Process) → count (bumped v u) u ≡ count v u + 1
+count-bumped_author v u = ap (λ o. unwrap_or o 0) (get-insert_here v u (count v u + 1))
+
+pub count-bumped_others : (v : Counts) (u q : Process) → q ≢ u → count (bumped v u) q ≡ count v q
+count-bumped_others v u q apart = ap (λ o. unwrap_or o 0) (get-insert_elsewhere v u (count v u + 1) q apart)
+
+-- two versions that count alike are equal
+pub same_version : (v w : Counts) → IsVersion v → IsVersion w → ((u : Process) → count v u ≡ count w u) → v ≡ w
+same_version v w p q is = same_table v w (λ u. same_at (map.get v u) (map.get w u) (p.no_zero u) (q.no_zero u) (is u))
+
+-- ---- versions stay versions
+pub empty_is_version : IsVersion map.empty
+empty_is_version = record {
+  no_zero = λ u e. subst T (ap is_some (sym e ∙ get-empty u)) tt;
+  bounded = λ u. omega (arith, count-empty u);
+}
+
+pub merged_is_version : (v w : Counts) → IsVersion v → IsVersion w → IsVersion (merged v w)
+merged_is_version v w p q = record {
+  no_zero = λ u e. no_zero_at (map.get v u) (map.get w u) (p.no_zero u) (q.no_zero u) (sym (get-joined max v w u) ∙ e);
+  bounded = λ u. omega (arith, count-merged v w u, p.bounded u, q.bounded u);
+}
+
+-- after a merge that may have failed
+pub still_version : {A E : Type 0} (r : Result A E) (n v w : Counts) → OnOk r (n ≡ merged v w) → OnErr r (n ≡ v) → IsVersion v → IsVersion w → IsVersion n
+still_version (Ok x) n v w ok err p q = subst IsVersion (sym ok) (merged_is_version v w p q)
+still_version (Err e) n v w ok err p q = subst IsVersion (sym err) p
+
+pub bumped_is_version : (v : Counts) (a : Process) → IsVersion v → count v a < BOUND → IsVersion (bumped v a)
+bumped_is_version v a p room = record { no_zero = no_zero; bounded = bounded }
+  where
+    no_zero : (u : Process) → map.get (bumped v a) u ≢ Some 0
+    no_zero u e = elim (same_or_apart u a) [
+      | inl same ↦
+          let is : map.get (bumped v a) a ≡ Some 0 = subst (λ k. map.get (bumped v a) k ≡ Some 0) same e in
+          let none : count (bumped v a) a ≡ 0 = ap (λ o. unwrap_or o 0) is in
+          omega (arith, none, count-bumped_author v a)
+      | inr apart ↦ p.no_zero u (sym (get-insert_elsewhere v a (count v a + 1) u apart) ∙ e)
+    ]
+
+    bounded : (u : Process) → count (bumped v a) u ≤ BOUND
+    bounded u = elim (same_or_apart u a) [
+      | inl same ↦ subst (λ k. count (bumped v a) k ≤ BOUND) (sym same) (omega (arith, count-bumped_author v a, room))
+      | inr apart ↦ omega (arith, count-bumped_others v a u apart, p.bounded u)
+    ]
+
+-- ---- covering is an order
+pub covers_itself : (v : Counts) → Covers v v
+covers_itself v u = omega arith
+
+pub covers_along : (u v w : Counts) → Covers u v → Covers v w → Covers u w
+covers_along u v w p q x = omega (arith, p x, q x)
+
+pub covers_both_ways : (v w : Counts) → IsVersion v → IsVersion w → Covers v w → Covers w v → v ≡ w
+covers_both_ways v w p q one other = same_version v w p q (λ u. omega (arith, one u, other u))
+
+pub covers_equal : (v w : Counts) → v ≡ w → Covers v w
+covers_equal v w same u = let e : count v u ≡ count w u = ap (λ x. count x u) same in omega arith
+
+-- ---- the merge is the least version that covers both
+pub merged_covers_first : (v w : Counts) → Covers (merged v w) v
+merged_covers_first v w u = omega (arith, count-merged v w u)
+
+pub merged_covers_second : (v w : Counts) → Covers (merged v w) w
+merged_covers_second v w u = omega (arith, count-merged v w u)
+
+pub merged_is_covered : (u v w : Counts) → Covers u v → Covers u w → Covers u (merged v w)
+merged_is_covered u v w p q x = omega (arith, count-merged v w x, p x, q x)
+
+pub merged-comm : (v w : Counts) → merged v w ≡ merged w v
+merged-comm v w = same_table _ _ (λ u. get-joined max v w u ∙ swapped (map.get v u) (map.get w u) ∙ sym (get-joined max w v u))
+
+pub merged-assoc : (u v w : Counts) → merged (merged u v) w ≡ merged u (merged v w)
+merged-assoc u v w = same_table _ _ (λ x.
+    get-joined max (merged u v) w x
+    ∙ ap (λ a. joined_at max a (map.get w x)) (get-joined max u v x)
+    ∙ grouped (map.get u x) (map.get v x) (map.get w x)
+    ∙ ap (joined_at max (map.get u x)) (sym (get-joined max v w x))
+    ∙ sym (get-joined max u (merged v w) x))
+
+pub merged-idem : (v : Counts) → merged v v ≡ v
+merged-idem v = same_table _ _ (λ u. get-joined max v v u ∙ twice (map.get v u))
+
+-- what is covered adds nothing
+pub merged_with_covered : (v w : Counts) → IsVersion v → IsVersion w → Covers v w → merged v w ≡ v
+merged_with_covered v w p q over = same_version (merged v w) v (merged_is_version v w p q) p (λ u. omega (arith, count-merged v w u, over u))
+
+pub bumped_covers : (v : Counts) (a : Process) → Covers (bumped v a) v
+bumped_covers v a u = elim (same_or_apart u a) [
+  | inl same ↦ subst (λ k. count v k ≤ count (bumped v a) k) (sym same) (omega (arith, count-bumped_author v a))
+  | inr apart ↦ omega (arith, count-bumped_others v a u apart)
+]
+
+-- ---- the test of covering
+and_both : (a b : Bool) → a ≡ true → b ≡ true → (a && b) ≡ true
+and_both true b p q = q
+and_both false b p q = p
+
+and_first : (a b : Bool) → (a && b) ≡ true → a ≡ true
+and_first true b p = refl
+and_first false b p = p
+
+and_second : (a b : Bool) → (a && b) ≡ true → b ≡ true
+and_second true b p = p
+and_second false b p = absurd (true≢false (sym p))
+
+module _ {A : Type 0} (p : A → Bool) where
+  pub passes_at : (xs : List A) (i : ℕ) (x : A) → list_all p xs ≡ true → slice_get xs i ≡ Some x → p x ≡ true
+  passes_at [] i x all is = absurd (true≢false (ap is_some (sym is)))
+  passes_at (y ∷ xs) zero x all is = ap p (sym (ap (λ o. unwrap_or o y) is)) ∙ and_first _ _ all
+  passes_at (y ∷ xs) (suc i) x all is = passes_at xs i x (and_second _ _ all) is
+
+  pub all_pass : (xs : List A) → ((i : ℕ) (x : A) → slice_get xs i ≡ Some x → p x ≡ true) → list_all p xs ≡ true
+  all_pass [] each = refl
+  all_pass (y ∷ xs) each = and_both _ _ (each 0 y refl) (all_pass xs (λ i x is. each (suc i) x is))
+
+pub covers_from_test : (v w : Counts) → covers v w ≡ true → Covers v w
+unfolding covers
+covers_from_test v w all u =
+    elim (map.get w u) as (λ o. map.get w u ≡ o → unwrap_or o 0 ≤ count v u) [
+      | None ↦ λ _. omega arith
+      | Some n ↦ λ is.
+          let there = place_of_get w u n is in
+          leb-true n (count v u) (passes_at (λ (row : Process × ℕ). leb row.1 (count v row.0)) (map.entries w) there.0 (u, n) all there.1)
+    ] refl
+
+pub test_from_covers : (v w : Counts) → Covers v w → covers v w ≡ true
+unfolding covers
+test_from_covers v w over = all_pass (λ (row : Process × ℕ). leb row.1 (count v row.0)) (map.entries w) (λ i row is.
+    let here : count w row.0 ≡ row.1 = ap (λ o. unwrap_or o 0) (get_at w i row is) in
+    let least : row.1 ≤ count v row.0 = omega (arith, over row.0) in
+    le-leb row.1 (count v row.0) least)
+
+pub covers_test : (v w : Counts) → (covers v w ≡ true) ↔ Covers v w
+covers_test v w = (covers_from_test v w, test_from_covers v w)
+
+test_is_false : (v w : Counts) → ¬ (Covers v w) → covers v w ≡ false
+test_is_false v w never = elim (covers v w) as (λ b. covers v w ≡ b → b ≡ false) [ true ↦ λ is. absurd (never (covers_from_test v w is)) | false ↦ λ _. refl ] refl
+
+not_covers : (v w : Counts) → covers v w ≡ false → ¬ (Covers v w)
+not_covers v w is over = true≢false (sym (test_from_covers v w over) ∙ is)
+
+-- ---- the four relations
+module _ (v w : Counts) (p : IsVersion v) (q : IsVersion w) where
+  pub relation_means : Relates (relation v w) v w
+  relation_means =
+      elim (covers v w) as (λ a. covers v w ≡ a → Relates (relation_by a (covers w v)) v w) [
+        | true ↦ λ over. elim (covers w v) as (λ b. covers w v ≡ b → Relates (relation_by true b) v w) [
+          | true ↦ λ under. covers_both_ways v w p q (covers_from_test v w over) (covers_from_test w v under)
+          | false ↦ λ not_under. (covers_from_test v w over, λ same. not_covers w v not_under (covers_equal w v same))
+        ] refl
+        | false ↦ λ not_over. elim (covers w v) as (λ b. covers w v ≡ b → Relates (relation_by false b) v w) [
+          | true ↦ λ under. (covers_from_test w v under, λ same. not_covers v w not_over (covers_equal v w same))
+          | false ↦ λ not_under. (not_covers v w not_over, not_covers w v not_under)
+        ] refl
+      ] refl
+
+  by_tests : (a b : Bool) → covers v w ≡ a → covers w v ≡ b → relation v w ≡ relation_by a b
+  by_tests a b is are i = relation_by (is i) (are i)
+
+  pub relation_from : (r : Relation) → Relates r v w → relation v w ≡ r
+  relation_from Same same = by_tests true true (test_from_covers v w (covers_equal v w same)) (test_from_covers w v (covers_equal w v (sym same)))
+  relation_from Before h = by_tests false true (test_is_false v w (λ over. h.1 (covers_both_ways v w p q over h.0))) (test_from_covers w v h.0)
+  relation_from After h = by_tests true false (test_from_covers v w h.0) (test_is_false w v (λ under. h.1 (sym (covers_both_ways v w p q h.0 under))))
+  relation_from Concurrent h = by_tests false false (test_is_false v w h.0) (test_is_false w v h.1)
+
+  pub relation_exact : (r : Relation) → (relation v w ≡ r) ↔ Relates r v w
+  relation_exact r = (λ is. subst (λ r. Relates r v w) is relation_means, relation_from r)
+
+-- a stored count is from 1 to BOUND
+pub stored_count : (v : Counts) (u : Process) (n : ℕ) → IsVersion v → map.get v u ≡ Some n → (1 ≤ n) × (n ≤ BOUND)
+stored_count v u n p is =
+    let here : count v u ≡ n = ap (λ o. unwrap_or o 0) is in
+    let stored : n ≢ 0 = λ zeros. p.no_zero u (is ∙ ap Some zeros) in
+    (omega arith, omega (arith, p.bounded u))

@@ -1,0 +1,14 @@
+//! Versions: how many entries of each process's history a node has seen. Gossip is compared and merged by them
+//! (Akka's Cluster Specification, "Gossip": vector clocks).
+#![tactic(auto)]
+
+mod laws;
+mod version;
+#[cfg(test)]
+mod version_tests;
+
+pub use laws::{
+    bump_raises_one_count, covering_is_an_order, merge_is_a_join, merge_is_the_least_cover,
+    relations_are_exact,
+};
+pub use version::{BOUND, Relation, Version};

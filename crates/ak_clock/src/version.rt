@@ -1,0 +1,179 @@
+ghost use Rattle.std.specs.Prelude.{◌≡◌, ◌≢◌, ℕ, ◌+◌, ◌<◌, ◌≤◌, ◌↔◌, Some, IfOk, OnOk, OnErr, IfSome, IsTrue, slice_get, option_map};
+ghost use Rattle.std.specs.FinMap as map;
+ghost use Rattle.ak_address.specs.Unique.{Process};
+ghost use Rattle.ak_clock.specs.Version.{count, covers, Covers, relation, relation_by, Relates, merged, bumped};
+ghost use Rattle.ak_clock.specs.Walk.{reached};
+
+use ak_address::{Table, Unique};
+use std::alloc::{AllocError, Global};
+use std::marker::Model;
+
+/// The greatest count of one process: 4611686018427387904, the bound of all that is counted (this project's choice,
+/// so that sums of counts fit 64 bits).
+pub const BOUND: u64 = 4611686018427387904;
+
+/// How one version stands to another.
+#[derive(Clone, Copy, Debug, PartialEq, Eq)]
+pub enum Relation {
+    /// They are equal.
+    Same,
+    /// The first is below the second.
+    Before,
+    /// The second is below the first.
+    After,
+    /// Neither covers the other.
+    Concurrent,
+}
+
+/// A version: for each process, how many entries of its history are seen, from 1 to `BOUND`; a process that it
+/// does not have counts 0 (Akka's Cluster Specification, "Gossip": the vector clock of a gossip).
+#[derive(Drop)]
+pub struct Version {
+    counts: Table<u64>,
+}
+
+impl Model for Version {
+    ghost use Rattle.std.specs.Coded.{coded_ℕ};
+    ghost use Rattle.std.specs.FinMap as map;
+    ghost use Rattle.ak_address.specs.Unique.{coded_unique};
+    ghost use Rattle.ak_clock.specs.Version.{Counts, IsVersion};
+
+    ghost Value = { Counts };
+
+    ghost coded = { map.code coded_unique coded_ℕ };
+
+    ghost view = { λ v. v.counts };
+
+    ghost invariant = { λ v. IsVersion v.counts };
+}
+
+impl Version {
+    /// The version that has seen nothing. Takes no memory.
+    pub fn empty(alloc: Global) -> Version
+        ensures { result ≡ map.empty }
+    {
+        let counts = Table::empty(alloc);
+        Version { counts }
+    }
+
+    /// How many entries of this process are seen: 0 where it has none, and at most `BOUND`.
+    pub fn count(&self, who: &Unique) -> u64
+        ensures value { result ≡ count self.now who.now }
+        ensures bounded { result ≤ BOUND }
+    {
+        count_in(&self.counts, who)
+    }
+
+    /// How many processes have a count.
+    pub fn len(&self) -> usize
+        ensures { result ≡ map.len self.now }
+    {
+        self.counts.len()
+    }
+
+    /// The process and its count, from 1 to `BOUND`, at a place, from 0 on in the order of processes; none past
+    /// the end.
+    pub fn at(&self, place: usize) -> Option<(&Unique, u64)>
+        ensures row { option_map (λ row. (row.0.now, row.1)) result ≡ slice_get (map.entries self.now) place }
+        ensures counted { IfSome result (λ row. (1 ≤ row.1) × (row.1 ≤ BOUND)) }
+    {
+        match self.counts.at(place) {
+            Some((who, n)) => Some((who, *n)),
+            None => None,
+        }
+    }
+
+    /// An equal version. Only memory can fail.
+    pub fn copy(&self, alloc: Global) -> Result<Version, AllocError>
+        ensures { IfOk result (λ copy. copy ≡ self.now) }
+    {
+        let counts = self.counts.copy(alloc)?;
+        Ok(Version { counts })
+    }
+
+    /// Whether each count of the other version is at most that of this one. Takes no memory.
+    pub fn covers(&self, other: &Version) -> bool
+        ensures value { result ≡ covers self.now other.now }
+        ensures meaning { IsTrue result ↔ Covers self.now other.now }
+    {
+        reaches(&self.counts, &other.counts)
+    }
+
+    /// How this version stands to the other one. Takes no memory.
+    pub fn compare(&self, other: &Version) -> Relation
+        ensures value { result ≡ relation self.now other.now }
+        ensures meaning { Relates result self.now other.now }
+    {
+        let covers = reaches(&self.counts, &other.counts);
+        let is_covered = reaches(&other.counts, &self.counts);
+        relation_by(covers, is_covered)
+    }
+
+    /// Takes in the other version: the greater count of each process. After an error the version is as it was.
+    pub fn merge(&mut self, alloc: Global, other: &Version) -> Result<(), AllocError>
+        ensures ok { OnOk result (self.new ≡ merged self.old other.now) }
+        ensures err { OnErr result (self.new ≡ self.old) }
+    {
+        self.counts.merge(alloc, &other.counts)
+    }
+
+    /// One more entry of this process: answers its new count. After an error the version is as it was.
+    pub fn bump(&mut self, alloc: Global, author: &Unique) -> Result<u64, AllocError>
+        requires { count self.old author.now < BOUND }
+        ensures ok { IfOk result (λ n. (n ≡ count self.old author.now + 1) × (self.new ≡ bumped self.old author.now)) }
+        ensures err { OnErr result (self.new ≡ self.old) }
+    {
+        let next = count_in(&self.counts, author) + 1;
+        let who = author.copy(alloc)?;
+        self.counts.insert(who, next)?;
+        Ok(next)
+    }
+}
+
+// How two versions stand, by whether the first covers the second, and the second the first.
+fn relation_by(covers: bool, is_covered: bool) -> Relation
+    ensures { result ≡ relation_by covers is_covered }
+{
+    match (covers, is_covered) {
+        (true, true) => Relation::Same,
+        (true, false) => Relation::After,
+        (false, true) => Relation::Before,
+        (false, false) => Relation::Concurrent,
+    }
+}
+
+// The count of a process, 0 where it has none.
+fn count_in(counts: &Table<u64>, who: &Unique) -> u64
+    ensures { result ≡ count counts.now who.now }
+{
+    match counts.get(who) {
+        Some(n) => *n,
+        None => 0,
+    }
+}
+
+// Whether each count of the second table is at most that of the first: one walk along both.
+fn reaches(counts: &Table<u64>, others: &Table<u64>) -> bool
+    ensures { result ≡ reached (map.entries counts.now) (map.entries others.now) }
+{
+    let mut j = 0;
+    'rows: for i in 0..counts.len() {
+        let Some((who, least)) = others.at(j) else {
+            return true;
+        };
+        let Some((mine, n)) = counts.at(i) else {
+            return false;
+        };
+        let order = mine.compare(who);
+        if order.is_gt() {
+            return false;
+        }
+        if order.is_eq() {
+            if *n < *least {
+                return false;
+            }
+            j += 1;
+        }
+    }
+    others.at(j).is_none()
+}
