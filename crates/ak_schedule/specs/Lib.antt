@@ -1,0 +1,3 @@
+pub mod Line
+pub mod Settings
+pub mod Schedule
