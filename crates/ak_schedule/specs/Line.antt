@@ -1,5 +1,5 @@
 -- The lines of a recorded schedule and the words of a line (this project's format).
-use Rattle.std.specs.Prelude.{◌≡◌, ℕ, ◌<◌, ◌≤◌, ◌⊎◌, Bool, true, false, ◌||◌, ◌&&◌, ◌==◌, not, List, [], ◌∷◌, filter, map, length, if◌then◌else◌}
+use Rattle.std.specs.Prelude.{◌≡◌, ℕ, ◌+◌, ◌<◌, ◌≤◌, ◌⊎◌, Bool, true, false, ◌||◌, ◌&&◌, ◌==◌, not, List, [], ◌∷◌, filter, map, length, if◌then◌else◌}
 use Rattle.std.specs.List.{slice_split, list_all}
 
 -- a list is not empty
@@ -41,3 +41,19 @@ most_bytes = 4096
 pub record IsPassedOver (line : List ℕ) : Type 0 where
   pub short : length line ≤ most_bytes
   pub empty : (words line ≡ []) ⊎ (is_comment line ≡ true)
+
+-- a text is cut at its first such byte
+pub record IsFirstPart (byte : ℕ) (bytes front rest : List ℕ) : Type 0 where
+  pub parts : slice_split (λ b. b == byte) bytes ≡ front ∷ slice_split (λ b. b == byte) rest
+  pub shorter : length front + length rest < length bytes
+
+-- the first line of a text, and the lines behind it
+pub record IsFirstLine (bytes line rest : List ℕ) : Type 0 where
+  pub first : lines bytes ≡ line ∷ lines rest
+  pub shorter : length rest < length bytes
+
+-- the first word of a line, and the words behind it
+pub record IsFirstWord (line word rest : List ℕ) : Type 0 where
+  pub first : words line ≡ word ∷ words rest
+  pub not_empty : begins word ≡ true
+  pub shorter : length rest < length line

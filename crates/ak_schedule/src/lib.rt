@@ -2,7 +2,9 @@
 #![tactic(auto)]
 
 mod event;
+mod line;
 mod settings;
 
 pub use event::Event;
+pub use line::{MOST_BYTES, is_passed_over, next_line, next_word};
 pub use settings::{Header, Strategy};
