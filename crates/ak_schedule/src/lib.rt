@@ -7,4 +7,4 @@ mod settings;
 
 pub use event::Event;
 pub use line::{MOST_BYTES, is_passed_over, next_line, next_word};
-pub use settings::{Header, Strategy};
+pub use settings::{Header, Settings, Strategy};
