@@ -1,8 +1,10 @@
-ghost use Rattle.std.specs.Prelude.{◌≡◌, IfOk};
+ghost use Rattle.std.specs.Prelude.{◌≡◌, ◌++◌, IfOk, OnOk, OnErr};
 ghost use Rattle.std.specs.Cmp.{IsTotalOrder};
 ghost use Rattle.std.specs.FinMap.{IsAntisymmetric};
 ghost use Rattle.ak_address.specs.Unique.{address_cmp, unique_cmp};
+ghost use Rattle.ak_address.specs.Spelling.{address_text, unique_text};
 
+use crate::print::{print_address, print_unique};
 use crate::text::Text;
 use std::alloc::{AllocError, Global};
 use std::cmp::Ordering;
@@ -49,6 +51,14 @@ impl Address {
         let port = self.port;
         Ok(Address { host, port })
     }
+
+    /// Appends the address as `host:port`. Where memory runs out `out` is as it was.
+    pub fn print_into(&self, out: &mut Vec<u8>) -> Result<(), AllocError>
+        ensures ok { OnOk result (out.new.items ≡ out.old.items ++ address_text self.now) }
+        ensures err { OnErr result (out.new.items ≡ out.old.items) }
+    {
+        print_address(self.host.bytes(), self.port, out)
+    }
 }
 
 /// One process: its address, and a uid from 1 to 9223372036854775807. A process that starts again at
@@ -90,6 +100,14 @@ impl Unique {
         let address = self.address.copy(alloc)?;
         let uid = self.uid;
         Ok(Unique { address, uid })
+    }
+
+    /// Appends the unique as `host:port#uid`. Where memory runs out `out` is as it was.
+    pub fn print_into(&self, out: &mut Vec<u8>) -> Result<(), AllocError>
+        ensures ok { OnOk result (out.new.items ≡ out.old.items ++ unique_text self.now) }
+        ensures err { OnErr result (out.new.items ≡ out.old.items) }
+    {
+        print_unique(self.address.host.bytes(), self.address.port, self.uid, out)
     }
 }
 

@@ -3,7 +3,13 @@
 #![tactic(auto)]
 
 mod address;
+mod parse;
+mod print;
 mod text;
 
 pub use address::{Address, Unique, orders_are_total};
+pub use parse::{
+    AddressFault, parse_address, parse_number, parse_unique, spellings_are_words, spellings_differ,
+};
+pub use print::{print_number, texts_spell};
 pub use text::Text;

@@ -1,0 +1,275 @@
+ghost use Rattle.std.specs.Prelude.{◌≡◌, ℕ, ◌<◌, ◌≤◌, ◌^◌, ◌==◌, ◌↔◌, IsTrue, IfSome, IfNone, IfOk, IsErrOf, List, All, SomeIff};
+ghost use Rattle.std.specs.List.{position_or_len, list_all};
+ghost use Rattle.std.specs.Str.Parse.{AllDigits, digits_value};
+ghost use Rattle.ak_address.specs.Unique.{Endpoint, Process, IsHost, is_host_byte};
+ghost use Rattle.ak_address.specs.Spelling.{IsNumber, IsPort, IsUid, SpellsAddress, SpellsUnique, IsWord, ReadsAs, ChecksPort, before_byte, after_byte};
+
+use crate::address::{Address, Unique};
+use crate::text::Text;
+use std::alloc::Global;
+use thiserror::Error;
+
+/// Why bytes were not read as an address or a unique. It shows as its code.
+#[derive(Debug, Drop, Error)]
+pub enum AddressFault {
+    /// The bytes before the first `:`, or all bytes where there is none, are no host.
+    #[error("A1")]
+    BadHost,
+    /// The host is good, and what follows it is no port.
+    #[error("A2")]
+    BadPort,
+    /// Host and port are good, and what follows them is no uid.
+    #[error("A3")]
+    BadUid,
+    /// Memory ran out.
+    #[error("memory")]
+    NoMemory,
+}
+
+const LEAST_PORT: u64 = 1;
+
+const MOST_PORT: u64 = 65535;
+
+const LEAST_UID: u64 = 1;
+
+const MOST_UID: u64 = 9223372036854775807;
+
+const MOST_DIGITS: usize = 20;
+
+const MOST_HOST_BYTES: usize = 64;
+
+/// The number that these bytes are: 1 to 20 decimal digits, leading zeros allowed, of a value from `least` to
+/// `most`. None exactly where they are not that. Takes no memory.
+pub fn parse_number(bytes: &[u8], least: u64, most: u64) -> Option<u64>
+    ensures found { IfSome result (λ n. IsNumber bytes.now n × (least ≤ n) × (n ≤ most)) }
+    ensures none { IfNone result ((n : ℕ) → IsNumber bytes.now n → least ≤ n → n ≤ most → ⊥) }
+{
+    if bytes.is_empty() || bytes.len() > MOST_DIGITS {
+        return None;
+    }
+    let Some(number) = digits_in(bytes) else {
+        return None;
+    };
+    if number < least || number > most {
+        return None;
+    }
+    Some(number)
+}
+
+// The value of bytes that are all digits and whose value fits.
+fn digits_in(bytes: &[u8]) -> Option<u64>
+    ensures { SomeIff result (AllDigits 10 bytes.now × (digits_value 10 bytes.now < 2 ^ 64)) (digits_value 10 bytes.now) }
+{
+    let mut value: u64 = 0;
+    'digits: for byte in bytes {
+        if *byte < b'0' || *byte > b'9' {
+            return None;
+        }
+        let Some(tens) = value.checked_mul(10) else {
+            return None;
+        };
+        let Some(next) = tens.checked_add(u64::from(*byte - b'0')) else {
+            return None;
+        };
+        value = next;
+    }
+    Some(value)
+}
+
+/// The address that these bytes spell: a host, `:` and a port from 1 to 65535 of at most 20 digits. Refused as
+/// `BadHost` exactly where the bytes before the first `:`, or all where there is none, are no host; as
+/// `BadPort` exactly where the host is good and there is no `:` or the rest is no port. Nothing is allocated
+/// before a refusal.
+pub fn parse_address(alloc: Global, bytes: &[u8]) -> Result<Address, AddressFault>
+    ensures read { IfOk result (λ a. SpellsAddress bytes.now a) }
+    ensures host { IsErrOf result AddressFault.BadHost ↔ (¬ IsHost (before_byte 58 bytes.now)) }
+    ensures port { IsErrOf result AddressFault.BadPort ↔ (IsHost (before_byte 58 bytes.now) × (¬ IsPort (after_byte 58 bytes.now))) }
+    ensures uid { ¬ IsErrOf result AddressFault.BadUid }
+    ensures only { (a : Endpoint) → SpellsAddress bytes.now a → ReadsAs result a }
+{
+    let (host, port) = split_at_byte(bytes, b':');
+    let port = checked_port(host, port)?;
+    let Ok(host) = Text::from_bytes(alloc, host) else {
+        return Err(AddressFault::NoMemory);
+    };
+    Ok(Address { host, port })
+}
+
+/// The unique that these bytes spell: an address, `#` and a uid from 1 to 9223372036854775807 of at most 20
+/// digits. `BadHost` as for an address; `BadPort` exactly where the host is good and there is no `:` or the
+/// bytes after the first `:`, up to the next `#` or the end, are no port; `BadUid` exactly where these are good
+/// and there is no `#` or the rest is no uid. Nothing is allocated before a refusal.
+pub fn parse_unique(alloc: Global, bytes: &[u8]) -> Result<Unique, AddressFault>
+    ensures read { IfOk result (λ u. SpellsUnique bytes.now u) }
+    ensures host { IsErrOf result AddressFault.BadHost ↔ (¬ IsHost (before_byte 58 bytes.now)) }
+    ensures port { IsErrOf result AddressFault.BadPort
+        ↔ (IsHost (before_byte 58 bytes.now) × (¬ IsPort (before_byte 35 (after_byte 58 bytes.now)))) }
+    ensures uid { IsErrOf result AddressFault.BadUid
+        ↔ (IsHost (before_byte 58 bytes.now) × IsPort (before_byte 35 (after_byte 58 bytes.now))
+        × (¬ IsUid (after_byte 35 (after_byte 58 bytes.now)))) }
+    ensures only { (u : Process) → SpellsUnique bytes.now u → ReadsAs result u }
+{
+    let (host, rest) = split_at_byte(bytes, b':');
+    let (port, uid) = split_at_byte(rest, b'#');
+    let port = checked_port(host, port)?;
+    let Some(uid) = parse_number(uid, LEAST_UID, MOST_UID) else {
+        return Err(AddressFault::BadUid);
+    };
+    let Ok(host) = Text::from_bytes(alloc, host) else {
+        return Err(AddressFault::NoMemory);
+    };
+    let address = Address { host, port };
+    Ok(Unique { address, uid })
+}
+
+// The port after a good host.
+fn checked_port(host: &[u8], port: &[u8]) -> Result<u16, AddressFault>
+    ensures { ChecksPort host.now port.now result }
+{
+    if !is_host(host) {
+        return Err(AddressFault::BadHost);
+    }
+    let Some(number) = parse_number(port, LEAST_PORT, MOST_PORT) else {
+        return Err(AddressFault::BadPort);
+    };
+    Ok(number as u16)
+}
+
+// Whether these bytes are a host.
+fn is_host(bytes: &[u8]) -> bool
+    ensures { IsTrue result ↔ IsHost bytes.now }
+{
+    !bytes.is_empty() && bytes.len() <= MOST_HOST_BYTES && all_host_bytes(bytes)
+}
+
+fn all_host_bytes(bytes: &[u8]) -> bool
+    ensures { result ≡ list_all is_host_byte bytes.now }
+{
+    bytes.iter().all(|b| matches!(*b, b'a'..=b'z' | b'A'..=b'Z' | b'0'..=b'9' | b'-' | b'.' | b'_'))
+}
+
+// What stands before the first of a byte, or all bytes, and what stands after it, or nothing.
+fn split_at_byte(bytes: &[u8], separator: u8) -> (&[u8], &[u8])
+    ensures before { result.0.now ≡ before_byte separator bytes.now }
+    ensures after { result.1.now ≡ after_byte separator bytes.now }
+{
+    let place = place_of(bytes, separator);
+    if place < bytes.len() {
+        return (&bytes[..place], &bytes[place + 1..]);
+    }
+    (bytes, &[])
+}
+
+fn place_of(bytes: &[u8], separator: u8) -> usize
+    ensures { result ≡ position_or_len (λ b. b == separator) bytes.now }
+{
+    'bytes: for (i, byte) in bytes.iter().enumerate() {
+        if *byte == separator {
+            return i;
+        }
+    }
+    bytes.len()
+}
+
+/// Bytes spell at most one number, one address and one unique.
+pub fn spellings_differ()
+    ensures numbers { (bytes : List ℕ) (m n : ℕ) → IsNumber bytes m → IsNumber bytes n → m ≡ n }
+    ensures addresses { (bytes : List ℕ) (a b : Endpoint) → SpellsAddress bytes a → SpellsAddress bytes b → a ≡ b }
+    ensures uniques { (bytes : List ℕ) (u v : Process) → SpellsUnique bytes u → SpellsUnique bytes v → u ≡ v }
+{}
+
+/// A spelling has at least one byte, and no space and no line end: each byte is from `!` to `~`, and each of a
+/// number is a digit.
+pub fn spellings_are_words()
+    ensures numbers { (bytes : List ℕ) (n : ℕ) → IsNumber bytes n → IsWord bytes }
+    ensures digits { (bytes : List ℕ) (n : ℕ) → IsNumber bytes n → All (λ b. (48 ≤ b) × (b ≤ 57)) bytes }
+    ensures addresses { (bytes : List ℕ) (a : Endpoint) → SpellsAddress bytes a → IsWord bytes }
+    ensures uniques { (bytes : List ℕ) (u : Process) → SpellsUnique bytes u → IsWord bytes }
+{}
+
+#[cfg(test)]
+mod tests {
+    use super::*;
+    use std::test::Fail;
+
+    // What a unique reads as, printed, or the code of its fault.
+    fn unique_or_fault(alloc: Global, text: &str) -> Result<Vec<u8>, Fail> {
+        let mut out = Vec::new(alloc);
+        match parse_unique(alloc, text.as_bytes()) {
+            Ok(unique) => unique.print_into(&mut out)?,
+            Err(fault) => {
+                let code = format!(in alloc; "{fault}")?;
+                out.extend_from_slice(code.as_bytes())?;
+            }
+        }
+        Ok(out)
+    }
+
+    fn address_or_fault(alloc: Global, text: &str) -> Result<Vec<u8>, Fail> {
+        let mut out = Vec::new(alloc);
+        match parse_address(alloc, text.as_bytes()) {
+            Ok(address) => address.print_into(&mut out)?,
+            Err(fault) => {
+                let code = format!(in alloc; "{fault}")?;
+                out.extend_from_slice(code.as_bytes())?;
+            }
+        }
+        Ok(out)
+    }
+
+    #[test]
+    fn uniques_and_addresses_are_read_and_printed(rt: HostRuntime) -> Result<(), Fail> {
+        let uniques = [
+            ("a:1#7", "a:1#7"),
+            (
+                "Host_1.a-b:065535#09223372036854775807",
+                "Host_1.a-b:65535#9223372036854775807",
+            ),
+            ("", "A1"),
+            (":1#1", "A1"),
+            ("a b:1#1", "A1"),
+            ("a", "A2"),
+            ("a:0#1", "A2"),
+            ("a:65536#1", "A2"),
+            ("a:1", "A3"),
+            ("a:1#0", "A3"),
+            ("a:1#9223372036854775808", "A3"),
+            ("a:1#000000000000000000001", "A3"),
+            ("a:1#99999999999999999999", "A3"),
+        ];
+        for (text, wanted) in uniques {
+            assert_eq!(rt;
+                unique_or_fault(rt.alloc(), text)?.as_slice(),
+                wanted.as_bytes()
+            );
+        }
+        let addresses = [
+            ("node-1.shop.local:2551", "node-1.shop.local:2551"),
+            ("a:1#7", "A2"),
+            ("a", "A2"),
+            ("a#7", "A1"),
+        ];
+        for (text, wanted) in addresses {
+            assert_eq!(rt;
+                address_or_fault(rt.alloc(), text)?.as_slice(),
+                wanted.as_bytes()
+            );
+        }
+        Ok(())
+    }
+
+    #[test]
+    fn a_fault_shows_as_its_code(rt: HostRuntime) -> Result<(), Fail> {
+        let faults = [
+            (AddressFault::BadHost, "A1"),
+            (AddressFault::BadPort, "A2"),
+            (AddressFault::BadUid, "A3"),
+            (AddressFault::NoMemory, "memory"),
+        ];
+        for (fault, code) in &faults {
+            let shown = format!(in rt.alloc(); "{fault}")?;
+            assert_eq!(rt; shown.as_str(), *code);
+        }
+        Ok(())
+    }
+}

@@ -1,0 +1,69 @@
+ghost use Rattle.std.specs.Prelude.{◌≡◌, ℕ, ◌<◌, ◌^◌, ◌∷◌, ◌++◌, OnOk, OnErr, decimal, take, vec_len};
+ghost use Rattle.ak_address.specs.Unique.{Endpoint, Process, IsAddress, IsUnique};
+ghost use Rattle.ak_address.specs.Spelling.{IsNumber, SpellsAddress, SpellsUnique, address_text, unique_text};
+
+use itoa::Buffer;
+use std::alloc::AllocError;
+
+/// Appends the number's decimal digits, with no leading zero. Where memory runs out `out` is as it was.
+pub fn print_number(number: u64, out: &mut Vec<u8>) -> Result<(), AllocError>
+    ensures ok { OnOk result (out.new.items ≡ out.old.items ++ decimal number) }
+    ensures err { OnErr result (out.new.items ≡ out.old.items) }
+{
+    let mut buffer = Buffer::new();
+    out.extend_from_slice(buffer.format(number).as_bytes())
+}
+
+/// Appends `host:port`. Where memory runs out `out` is as it was.
+pub fn print_address(host: &[u8], port: u16, out: &mut Vec<u8>) -> Result<(), AllocError>
+    ensures ok { OnOk result (out.new.items ≡ out.old.items ++ address_text (record { host = host.now; port = port })) }
+    ensures err { OnErr result (out.new.items ≡ out.old.items) }
+{
+    let start = out.len();
+    let printed = append_address(host, port, out);
+    if printed.is_err() {
+        out.truncate(start);
+    }
+    printed
+}
+
+/// Appends `host:port#uid`. Where memory runs out `out` is as it was.
+pub fn print_unique(host: &[u8], port: u16, uid: u64, out: &mut Vec<u8>) -> Result<(), AllocError>
+    ensures ok { OnOk result (out.new.items
+        ≡ out.old.items ++ unique_text (record { address = record { host = host.now; port = port }; uid = uid })) }
+    ensures err { OnErr result (out.new.items ≡ out.old.items) }
+{
+    let start = out.len();
+    let printed = append_unique(host, port, uid, out);
+    if printed.is_err() {
+        out.truncate(start);
+    }
+    printed
+}
+
+// Where memory runs out some of it may stand behind what `out` had.
+fn append_address(host: &[u8], port: u16, out: &mut Vec<u8>) -> Result<(), AllocError>
+    ensures ok { OnOk result (out.new.items ≡ out.old.items ++ (host.now ++ 58 ∷ decimal port)) }
+    ensures err { OnErr result (take (vec_len out.old) out.new.items ≡ out.old.items) }
+{
+    out.extend_from_slice(host)?;
+    out.push(b':')?;
+    print_number(u64::from(port), out)
+}
+
+// Where memory runs out some of it may stand behind what `out` had.
+fn append_unique(host: &[u8], port: u16, uid: u64, out: &mut Vec<u8>) -> Result<(), AllocError>
+    ensures ok { OnOk result (out.new.items ≡ out.old.items ++ (host.now ++ 58 ∷ decimal port ++ 35 ∷ decimal uid)) }
+    ensures err { OnErr result (take (vec_len out.old) out.new.items ≡ out.old.items) }
+{
+    print_address(host, port, out)?;
+    out.push(b'#')?;
+    print_number(uid, out)
+}
+
+/// What is printed of a number, an address or a unique spells it.
+pub fn texts_spell()
+    ensures numbers { (n : ℕ) → n < 2 ^ 64 → IsNumber (decimal n) n }
+    ensures addresses { (a : Endpoint) → IsAddress a → SpellsAddress (address_text a) a }
+    ensures uniques { (u : Process) → IsUnique u → SpellsUnique (unique_text u) u }
+{}
