@@ -1,3 +1,5 @@
+pub mod Kind
 pub mod Line
+pub mod Reading
 pub mod Settings
 pub mod Schedule

@@ -3,7 +3,7 @@ use Rattle.std.specs.Prelude.{◌≡◌, ℕ, ◌+◌, ◌-◌, ◌^◌, ◌<◌
 use Rattle.std.specs.List.{AllZip, AllByRecursion}
 use Rattle.std.specs.Fmt.{decimal}
 use Rattle.ak_address.specs.Unique.{Endpoint, Process}
-use Rattle.ak_address.specs.Text.{IsNumber, SpellsAddress, SpellsUnique, address_text, unique_text}
+use Rattle.ak_address.specs.Spelling.{IsNumber, SpellsAddress, SpellsUnique, address_text, unique_text}
 use Rattle.ak_schedule.specs.declared.settings.Strategy.{Strategy}
 use Rattle.ak_schedule.specs.declared.settings.Strategy.TheVariants.{StaticQuorum, KeepMajority, DownAll}
 use Rattle.ak_schedule.specs.declared.event.Event.{Event}

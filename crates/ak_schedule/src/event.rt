@@ -1,4 +1,7 @@
+ghost use Rattle.std.specs.Prelude.{◌≡◌, IfOk};
+
 use ak_address::{Address, Text, Unique};
+use std::alloc::{AllocError, Global};
 
 /// One event of a schedule. The first unique is the process that acts.
 #[derive(Debug, Drop)]
@@ -21,4 +24,35 @@ pub enum Event {
     Offer(Unique, Text, u64),
     /// The process stops at once.
     Stop(Unique),
+}
+
+impl Event {
+    /// An equal event. Only memory can fail.
+    pub fn copy(&self, alloc: Global) -> Result<Event, AllocError>
+        ensures { IfOk result (λ copy. copy ≡ self.now) }
+    {
+        match self {
+            Event::Start(who) => return Ok(Event::Start(who.copy(alloc)?)),
+            Event::Found(who) => return Ok(Event::Found(who.copy(alloc)?)),
+            Event::Join(who, target) => {
+                let who = who.copy(alloc)?;
+                return Ok(Event::Join(who, target.copy(alloc)?));
+            }
+            Event::Tick(who, word) => return Ok(Event::Tick(who.copy(alloc)?, *word)),
+            Event::Deliver(packet) => return Ok(Event::Deliver(*packet)),
+            Event::Leave(who, member) => {
+                let who = who.copy(alloc)?;
+                return Ok(Event::Leave(who, member.copy(alloc)?));
+            }
+            Event::Down(who, member) => {
+                let who = who.copy(alloc)?;
+                return Ok(Event::Down(who, member.copy(alloc)?));
+            }
+            Event::Offer(who, entity, payload) => {
+                let who = who.copy(alloc)?;
+                return Ok(Event::Offer(who, entity.copy(alloc)?, *payload));
+            }
+            Event::Stop(who) => return Ok(Event::Stop(who.copy(alloc)?)),
+        }
+    }
 }

@@ -2,9 +2,12 @@
 #![tactic(auto)]
 
 mod event;
+mod fault;
+mod kind;
 mod line;
 mod settings;
 
 pub use event::Event;
+pub use fault::LineFault;
 pub use line::{MOST_BYTES, is_passed_over, next_line, next_word};
 pub use settings::{Header, Settings, Strategy};

@@ -1,4 +1,4 @@
-ghost use Rattle.std.specs.Prelude.{◌≡◌, ◌↔◌, ◌==◌, not, position, MatchOption, IsTrue, [], ◌∷◌};
+ghost use Rattle.std.specs.Prelude.{◌≡◌, ℕ, List, ◌↔◌, ◌==◌, not, position, MatchOption, IsTrue, [], ◌∷◌};
 ghost use Rattle.std.specs.List.{slice_split};
 ghost use Rattle.ak_schedule.specs.Line.{lines, words, without_cr, is_comment, IsFirstPart, IsFirstLine, IsFirstWord, IsPassedOver};
 
@@ -98,4 +98,47 @@ fn trimmed(line: &[u8]) -> &[u8]
         return &line[..len - 1];
     }
     line
+}
+
+/// The line's one word. None exactly where it has another number of words.
+pub(crate) fn one_word(line: &[u8]) -> Option<&[u8]>
+    ensures { MatchOption result ((a : List ℕ) → words line.now ≡ a ∷ [] → ⊥) (λ a. words line.now ≡ a.now ∷ []) }
+{
+    let Some((word, rest)) = next_word(line) else {
+        return None;
+    };
+    match next_word(rest) {
+        Some(_) => return None,
+        None => return Some(word),
+    }
+}
+
+/// The line's two words. None exactly where it has another number of words.
+pub(crate) fn two_words(line: &[u8]) -> Option<(&[u8], &[u8])>
+    ensures { MatchOption result
+        ((a b : List ℕ) → words line.now ≡ a ∷ b ∷ [] → ⊥)
+        (λ pair. words line.now ≡ pair.0.now ∷ pair.1.now ∷ []) }
+{
+    let Some((first, rest)) = next_word(line) else {
+        return None;
+    };
+    match one_word(rest) {
+        Some(second) => return Some((first, second)),
+        None => return None,
+    }
+}
+
+/// The line's three words. None exactly where it has another number of words.
+pub(crate) fn three_words(line: &[u8]) -> Option<(&[u8], &[u8], &[u8])>
+    ensures { MatchOption result
+        ((a b c : List ℕ) → words line.now ≡ a ∷ b ∷ c ∷ [] → ⊥)
+        (λ triple. words line.now ≡ triple.0.now ∷ triple.1.now ∷ triple.2.now ∷ []) }
+{
+    let Some((first, rest)) = next_word(line) else {
+        return None;
+    };
+    match two_words(rest) {
+        Some((second, third)) => return Some((first, second, third)),
+        None => return None,
+    }
 }
