@@ -1,3 +1,4 @@
+pub mod Draft
 pub mod Kind
 pub mod Line
 pub mod Reading

@@ -1,13 +1,16 @@
 //! The text of a recorded schedule: its settings, its events, and the lines that spell them.
 #![tactic(auto)]
 
+mod draft;
 mod event;
 mod fault;
+mod header;
 mod kind;
 mod line;
 mod read;
 mod settings;
 
+pub use draft::Draft;
 pub use event::Event;
 pub use fault::LineFault;
 pub use line::{MOST_BYTES, is_passed_over, next_line, next_word};
