@@ -1,3 +1,4 @@
 pub mod Cutting
 pub mod EventWords
+pub mod HeaderLines
 pub mod Listing
