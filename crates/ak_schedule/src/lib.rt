@@ -7,6 +7,7 @@ mod fault;
 mod header;
 mod kind;
 mod line;
+mod print;
 mod read;
 mod settings;
 
@@ -14,5 +15,6 @@ pub use draft::Draft;
 pub use event::Event;
 pub use fault::LineFault;
 pub use line::{MOST_BYTES, is_passed_over, next_line, next_word};
+pub use print::print_event;
 pub use read::read_line;
 pub use settings::{Header, Settings, Strategy};
