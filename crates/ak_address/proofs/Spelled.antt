@@ -1,11 +1,10 @@
 -- The parts of a spelling stand before and after the first `:` and the first `#`, and each list of bytes spells one
 -- value at most.
-use Rattle.std.proofs.Common.{◌≡◌, ℕ, ◌+◌, ◌^◌, ◌<◌, ◌≤◌, Bool, true, false, eqb, List, [], ◌∷◌, ◌++◌, length, take, drop, get_or, All, Ok, Err, sym, refl, ap, ◌∙◌, subst, arith, rules, append_assoc, length-append, length-drop, decimal}
+use Rattle.std.proofs.Common.{◌≡◌, ℕ, ◌+◌, ◌^◌, ◌<◌, ◌≤◌, Bool, true, false, eqb, List, ◌∷◌, ◌++◌, length, drop, get_or, All, Ok, Err, sym, refl, ap, ◌∙◌, arith, append_assoc, length-append, length-drop, decimal}
 use Rattle.std.proofs.lemmas.Bool.{false≢true, eqb-true}
 use Rattle.std.specs.List.{position_or_len}
 use Rattle.std.specs.Int.{IsInRange}
-use Rattle.std.specs.Str.Parse.{AllDigits, digits_value}
-use Rattle.std.proofs.lemmas.Grind.{common_steps}
+use Rattle.std.specs.Str.Parse.{AllDigits}
 use Rattle.std.proofs.lemmas.List.{get_or_append_left, get_or_at, take_at, drop_at, drop-drop}
 use Rattle.std.proofs.lemmas.List.Elements.{All-get_or, All-from_get_or, All-weaker, All-append, All-cons}
 use Rattle.std.proofs.lemmas.Fmt.{decimal_is_IsNumeral, length-decimal-le}
@@ -13,7 +12,7 @@ use Rattle.std.proofs.lemmas.Bool.Decides.{nat_tests}
 use Rattle.std.proofs.lemmas.List.Sums.{split_at_first, passes_at_first, AllPass-from_list_all}
 use Rattle.std.proofs.lemmas.Str.Parse.{digit_at}
 use Rattle.ak_address.specs.Unique.{Endpoint, Process, IsHost, IsAddress, IsUnique, is_host_byte}
-use Rattle.ak_address.specs.Spelling.{IsNumber, IsPort, IsUid, SpellsAddress, SpellsUnique, IsWord, ReadsAs, ChecksPort, address_text, unique_text, before_byte, after_byte}
+use Rattle.ak_address.specs.Spelling.{IsNumber, IsPort, SpellsAddress, SpellsUnique, IsWord, ReadsAs, ChecksPort, address_text, unique_text, before_byte, after_byte}
 use Rattle.ak_address.specs.declared.parse.AddressFault.{AddressFault}
 use Rattle.ak_address.specs.declared.parse.AddressFault.TheVariants.{BadHost, BadPort, BadUid, NoMemory}
 use Rattle.ak_address.proofs.Reading.{place_is}

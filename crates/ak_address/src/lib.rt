@@ -9,7 +9,8 @@ mod text;
 
 pub use address::{Address, Unique, orders_are_total};
 pub use parse::{
-    AddressFault, parse_address, parse_number, parse_unique, spellings_are_words, spellings_differ,
+    AddressFault, parse_address, parse_number, parse_unique, spellings_are_words,
+    spellings_have_one_value,
 };
-pub use print::{print_number, texts_spell};
+pub use print::{print_number, texts_are_spellings};
 pub use text::Text;

@@ -58,7 +58,8 @@ pub fn parse_number(bytes: &[u8], least: u64, most: u64) -> Option<u64>
 
 // The value of bytes that are all digits and whose value fits.
 fn digits_in(bytes: &[u8]) -> Option<u64>
-    ensures { SomeIff result (AllDigits 10 bytes.now × (digits_value 10 bytes.now < 2 ^ 64)) (digits_value 10 bytes.now) }
+    ensures { let value = digits_value 10 bytes.now in
+        SomeIff result (AllDigits 10 bytes.now × (value < 2 ^ 64)) value }
 {
     let mut value: u64 = 0;
     'digits: for byte in bytes {
@@ -78,13 +79,14 @@ fn digits_in(bytes: &[u8]) -> Option<u64>
 
 /// The address that these bytes spell: a host, `:` and a port from 1 to 65535 of at most 20 digits. Refused as
 /// `BadHost` exactly where the bytes before the first `:`, or all where there is none, are no host; as
-/// `BadPort` exactly where the host is good and there is no `:` or the rest is no port. Nothing is allocated
-/// before a refusal.
+/// `BadPort` exactly where the host is good and there is no `:` or the rest is no port; never as `BadUid`. What
+/// is spelled so is read, or memory runs out: each refusal comes before anything is allocated.
 pub fn parse_address(alloc: Global, bytes: &[u8]) -> Result<Address, AddressFault>
     ensures read { IfOk result (λ a. SpellsAddress bytes.now a) }
     ensures host { IsErrOf result AddressFault.BadHost ↔ (¬ IsHost (before_byte 58 bytes.now)) }
-    ensures port { IsErrOf result AddressFault.BadPort ↔ (IsHost (before_byte 58 bytes.now) × (¬ IsPort (after_byte 58 bytes.now))) }
-    ensures uid { ¬ IsErrOf result AddressFault.BadUid }
+    ensures port { IsErrOf result AddressFault.BadPort
+        ↔ (IsHost (before_byte 58 bytes.now) × (¬ IsPort (after_byte 58 bytes.now))) }
+    ensures no_uid { ¬ IsErrOf result AddressFault.BadUid }
     ensures only { (a : Endpoint) → SpellsAddress bytes.now a → ReadsAs result a }
 {
     let (host, port) = split_at_byte(bytes, b':');
@@ -98,7 +100,7 @@ pub fn parse_address(alloc: Global, bytes: &[u8]) -> Result<Address, AddressFaul
 /// The unique that these bytes spell: an address, `#` and a uid from 1 to 9223372036854775807 of at most 20
 /// digits. `BadHost` as for an address; `BadPort` exactly where the host is good and there is no `:` or the
 /// bytes after the first `:`, up to the next `#` or the end, are no port; `BadUid` exactly where these are good
-/// and there is no `#` or the rest is no uid. Nothing is allocated before a refusal.
+/// and there is no `#` or the rest is no uid. What is spelled so is read, or memory runs out.
 pub fn parse_unique(alloc: Global, bytes: &[u8]) -> Result<Unique, AddressFault>
     ensures read { IfOk result (λ u. SpellsUnique bytes.now u) }
     ensures host { IsErrOf result AddressFault.BadHost ↔ (¬ IsHost (before_byte 58 bytes.now)) }
@@ -172,7 +174,7 @@ fn place_of(bytes: &[u8], separator: u8) -> usize
 }
 
 /// Bytes spell at most one number, one address and one unique.
-pub fn spellings_differ()
+pub fn spellings_have_one_value()
     ensures numbers { (bytes : List ℕ) (m n : ℕ) → IsNumber bytes m → IsNumber bytes n → m ≡ n }
     ensures addresses { (bytes : List ℕ) (a b : Endpoint) → SpellsAddress bytes a → SpellsAddress bytes b → a ≡ b }
     ensures uniques { (bytes : List ℕ) (u v : Process) → SpellsUnique bytes u → SpellsUnique bytes v → u ≡ v }

@@ -62,7 +62,7 @@ fn append_unique(host: &[u8], port: u16, uid: u64, out: &mut Vec<u8>) -> Result<
 }
 
 /// What is printed of a number, an address or a unique spells it.
-pub fn texts_spell()
+pub fn texts_are_spellings()
     ensures numbers { (n : ℕ) → n < 2 ^ 64 → IsNumber (decimal n) n }
     ensures addresses { (a : Endpoint) → IsAddress a → SpellsAddress (address_text a) a }
     ensures uniques { (u : Process) → IsUnique u → SpellsUnique (unique_text u) u }
