@@ -48,7 +48,7 @@ named_again kind.TheVariants.Down = refl
 named_again kind.TheVariants.Offer = refl
 named_again kind.TheVariants.Stop = refl
 
-same_kind : (j k : kind.Kind) → kind_name k ≡ kind_name j → j ≡ k
+pub same_kind : (j k : kind.Kind) → kind_name k ≡ kind_name j → j ≡ k
 same_kind j k names = sym (named_again j) ∙ ap named_kind (sym names) ∙ named_again k
 
 -- the first word of an event line names its kind

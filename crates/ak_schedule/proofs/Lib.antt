@@ -1,4 +1,6 @@
+pub mod Canonical
 pub mod Cutting
 pub mod EventWords
 pub mod HeaderLines
 pub mod Listing
+pub mod OneWay

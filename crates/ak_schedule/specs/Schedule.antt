@@ -2,7 +2,7 @@
 use Rattle.std.specs.Prelude.{◌≡◌, ℕ, ◌+◌, ◌-◌, ◌^◌, ◌<◌, ◌≤◌, List, [], ◌∷◌, ◌++◌, length, codes, Option, Some, None}
 use Rattle.std.specs.List.{AllZip, AllByRecursion}
 use Rattle.std.specs.Fmt.{decimal}
-use Rattle.ak_address.specs.Unique.{Endpoint, Process}
+use Rattle.ak_address.specs.Unique.{Endpoint, Process, IsAddress, IsUnique}
 use Rattle.ak_address.specs.Spelling.{IsNumber, SpellsAddress, SpellsUnique, address_text, unique_text}
 use Rattle.ak_schedule.specs.declared.settings.Strategy.{Strategy}
 use Rattle.ak_schedule.specs.declared.settings.Strategy.TheVariants.{StaticQuorum, KeepMajority, DownAll}
@@ -84,6 +84,18 @@ pub record SetsHeader (which : header.Header) (line : List ℕ) (old new : Setup
 -- some event line spells the event
 abbrev pub IsSpelled : Event → Type 0
 IsSpelled event = (line : List ℕ) × SpellsEvent line event
+
+-- its parts are in their ranges
+abbrev pub IsEvent : Event → Type 0
+IsEvent (Start u) = IsUnique u
+IsEvent (Found u) = IsUnique u
+IsEvent (Join u target) = IsUnique u × IsAddress target
+IsEvent (Tick u word) = IsUnique u × (word < 2 ^ 32)
+IsEvent (Deliver packet) = packet < 2 ^ 63
+IsEvent (Leave u who) = IsUnique u × IsUnique who
+IsEvent (Down u who) = IsUnique u × IsUnique who
+IsEvent (Offer u entity payload) = IsUnique u × IsEntity entity × (payload < 2 ^ 63)
+IsEvent (Stop u) = IsUnique u
 
 -- the canonical spelling: one space between words, no leading zeros
 abbrev pub event_text : Event → List ℕ
