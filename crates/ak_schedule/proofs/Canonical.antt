@@ -14,7 +14,7 @@ use Rattle.ak_schedule.specs.declared.event.Event.TheVariants.{Start, Found, Joi
 use Rattle.ak_schedule.specs.declared.kind.Kind as kind
 use Rattle.ak_schedule.specs.Line.{words, begins, most_bytes}
 use Rattle.ak_schedule.specs.Kind.{kind_name}
-use Rattle.ak_schedule.specs.Schedule.{SpellsEvent, SpellsWords, SpellsNumber, IsEntity, IsEvent, event_text}
+use Rattle.ak_schedule.specs.Schedule.{SpellsEvent, SpellsWords, SpellsNumber, IsEntity, IsEvent, IsSpelled, event_text}
 
 -- bytes that are one word of a line
 record IsPlain (word : List ℕ) : Type 0 where
@@ -189,3 +189,15 @@ canonical_length (Offer u entity n) range =
 
 pub canonical : (e : Event) → IsEvent e → SpellsEvent (event_text e) e
 canonical e range = record { short = canonical_length e range; words = canonical_words e range }
+
+-- what some line spells is in range
+pub IsSpelled-ranges : (e : Event) → IsSpelled e → IsEvent e
+IsSpelled-ranges (Start u) (line, spelt) = spelt.words.2.range
+IsSpelled-ranges (Found u) (line, spelt) = spelt.words.2.range
+IsSpelled-ranges (Join u t) (line, spelt) = (spelt.words.3.range, spelt.words.4.range)
+IsSpelled-ranges (Tick u word) (line, spelt) = (spelt.words.3.range, omega (arith, spelt.words.4.to))
+IsSpelled-ranges (Deliver packet) (line, spelt) = omega (arith, spelt.words.2.to)
+IsSpelled-ranges (Leave u who) (line, spelt) = (spelt.words.3.range, spelt.words.4.range)
+IsSpelled-ranges (Down u who) (line, spelt) = (spelt.words.3.range, spelt.words.4.range)
+IsSpelled-ranges (Offer u entity payload) (line, spelt) = (spelt.words.3.range, spelt.words.4, omega (arith, spelt.words.5.to))
+IsSpelled-ranges (Stop u) (line, spelt) = spelt.words.2.range

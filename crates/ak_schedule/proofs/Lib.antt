@@ -4,3 +4,4 @@ pub mod EventWords
 pub mod HeaderLines
 pub mod Listing
 pub mod OneWay
+pub mod PassedOver

@@ -1,5 +1,6 @@
 ghost use Rattle.std.specs.Prelude.{◌≡◌, ℕ, List};
 ghost use Rattle.ak_schedule.specs.Draft.{Drafted, ReadsHeader};
+ghost use Rattle.ak_schedule.specs.Line.{IsPassedOver};
 ghost use Rattle.ak_schedule.specs.Settings.{Setup};
 ghost use Rattle.ak_schedule.specs.Schedule.{SpellsEvent, SetsHeader, IsSpelled, IsEvent, event_text};
 
@@ -19,4 +20,11 @@ pub fn lines_are_read_one_way()
 pub fn printed_events_are_read()
     ensures ranges { (e : Event) → IsSpelled e → IsEvent e }
     ensures canonical { (e : Event) → IsEvent e → SpellsEvent (event_text e) e }
+{}
+
+/// A line that is passed over spells no event and sets no header, so it does not matter which is
+/// asked first.
+pub fn passed_over_lines_spell_nothing()
+    ensures events { (line : List ℕ) (e : Event) → IsPassedOver line → SpellsEvent line e → ⊥ }
+    ensures headers { (which : Header) (line : List ℕ) (old new : Setup) → IsPassedOver line → SetsHeader which line old new → ⊥ }
 {}
