@@ -1,0 +1,7 @@
+pub mod Canonical
+pub mod Cutting
+pub mod EventWords
+pub mod HeaderLines
+pub mod Listing
+pub mod OneWay
+pub mod PassedOver

@@ -1,0 +1,21 @@
+use Rattle.ak_schedule.specs.Line.{words}
+use Rattle.ak_schedule.specs.Kind.{kind_name}
+use Rattle.ak_schedule.specs.declared.kind.Kind as kind
+use Rattle.ak_schedule.specs.Reading.{SpellsOne, SpellsTwo}
+use Rattle.ak_schedule.specs.Schedule.{SpellsWords}
+use Rattle.ak_address.specs.Spelling.{SpellsUnique, SpellsAddress}
+use Rattle.std.proofs.Common.{◌∷◌}
+use Rattle.ak_schedule.proofs.EventWords.{refused, join_at}
+use Rattle.ak_schedule.proofs.read.read_join.Goals as goal
+
+pub returns-in-Err : goal.returns-in-Err
+returns-in-Err c =
+    let ws = words c.args.rest.now in
+    refused (SpellsUnique c.in-Some.who.now) (SpellsWords (kind_name kind.TheVariants.Join ∷ ws)) c.in-Err.fault c.in-Err.ensures
+    (λ e whole. let parts = join_at ws c.in-Some.who.now c.in-Some.target.now c.in-Some.ensures e whole in (parts.0, parts.2))
+
+pub returns-in-Err-address_of : goal.returns-in-Err-address_of
+returns-in-Err-address_of c =
+    let ws = words c.args.rest.now in
+    refused (SpellsAddress c.in-Some.target.now) (SpellsWords (kind_name kind.TheVariants.Join ∷ ws)) c.in-Err-address_of.fault c.in-Err-address_of.ensures
+    (λ e whole. let parts = join_at ws c.in-Some.who.now c.in-Some.target.now c.in-Some.ensures e whole in (parts.1, parts.3))

@@ -1,0 +1,15 @@
+use Rattle.ak_schedule.specs.Line.{words}
+use Rattle.ak_schedule.specs.Kind.{kind_name}
+use Rattle.ak_schedule.specs.declared.kind.Kind as kind
+use Rattle.ak_schedule.specs.Reading.{SpellsOne, SpellsTwo}
+use Rattle.ak_schedule.specs.Schedule.{SpellsWords}
+use Rattle.ak_address.specs.Spelling.{SpellsUnique, SpellsAddress}
+use Rattle.std.proofs.Common.{◌∷◌}
+use Rattle.ak_schedule.proofs.EventWords.{refused, offer_at}
+use Rattle.ak_schedule.proofs.read.read_offer.Goals as goal
+
+pub returns-in-Err : goal.returns-in-Err
+returns-in-Err c =
+    let ws = words c.args.rest.now in
+    refused (SpellsUnique c.in-Some.who.now) (SpellsWords (kind_name kind.TheVariants.Offer ∷ ws)) c.in-Err.fault c.in-Err.ensures
+    (offer_at ws c.in-Some.who.now c.in-Some.entity.now c.in-Some.payload.now c.in-Some.ensures)

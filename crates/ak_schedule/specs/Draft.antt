@@ -1,0 +1,83 @@
+-- The header lines of a schedule, as far as they are read.
+use Rattle.std.specs.Prelude.{◌≡◌, ◌↔◌, ℕ, ◌+◌, ◌<◌, ◌≤◌, Bool, IsTrue, List, [], ◌∷◌, length, Contains, Option, Some, slice_get, Result, Ok, Err, refl}
+use Rattle.std.specs.List.{AllZip}
+use Rattle.std.specs.Coded.{Coded, code_by, coded×, coded_ℕ}
+use Rattle.ak_address.specs.Unique.{Endpoint}
+use Rattle.ak_address.specs.Spelling.{SpellsAddress}
+use Rattle.ak_schedule.specs.declared.settings.Strategy.TheVariants.{DownAll}
+use Rattle.ak_schedule.specs.declared.settings.Header.{Header}
+use Rattle.ak_schedule.specs.declared.fault.LineFault.{LineFault}
+use Rattle.ak_schedule.specs.declared.fault.LineFault.TheVariants.{Malformed, NotBuilt, NoMemory}
+use Rattle.ak_schedule.specs.Settings.{Setup, IsListing, IsStrategy, IsWithin, coded_setup}
+use Rattle.ak_schedule.specs.Schedule.{headers, SetsHeader}
+
+-- how many headers are read, and the settings by then
+pub record Drafted : Type 0 where
+  pub read : ℕ
+  pub setup : Setup
+
+abbrev pub coded_draft : Coded Drafted
+coded_draft = code_by (ℕ × Setup) (coded× coded_ℕ coded_setup) (λ d. (d.read, d.setup)) (λ p. record { read = p.0; setup = p.1 }) (λ _. refl)
+
+-- nothing is read
+abbrev pub first_draft : Drafted
+first_draft = record {
+  read = 0;
+  setup = record {
+    listed = [];
+    strategy = DownAll;
+    margin = 1;
+    deadline = 1;
+    stable = 1;
+    shards = 1;
+    buffer = 1;
+    threshold = 1;
+    limit = 1;
+  };
+}
+
+-- each setting is in its range, the addresses once they are read
+pub record IsDraft (d : Drafted) : Type 0 where
+  pub count : d.read ≤ 9
+  pub listed : 1 ≤ d.read → IsListing d.setup.listed
+  pub strategy : IsStrategy d.setup.strategy
+  pub margin : IsWithin 1000000 d.setup.margin
+  pub deadline : IsWithin 1000000 d.setup.deadline
+  pub stable : IsWithin 1000000 d.setup.stable
+  pub shards : IsWithin 1000 d.setup.shards
+  pub buffer : IsWithin 100000 d.setup.buffer
+  pub threshold : IsWithin 1000 d.setup.threshold
+  pub limit : IsWithin 1000 d.setup.limit
+
+-- the line is the next header, and sets its setting
+pub record ReadsHeader (line : List ℕ) (old new : Drafted) : Type 0 where
+  pub which : Header
+  pub next : slice_get headers old.read ≡ Some which
+  pub sets : SetsHeader which line old.setup new.setup
+  pub count : new.read ≡ old.read + 1
+
+-- the next header, and whether it is the ninth; refused exactly where the line is not the next header
+abbrev pub HeaderAnswers : Result Bool LineFault → List ℕ → Drafted → Drafted → Type 0
+HeaderAnswers (Ok done) line old new = ReadsHeader line old new × (IsTrue done ↔ (new.read ≡ 9))
+HeaderAnswers (Err Malformed) line old new = ⊥
+HeaderAnswers (Err NotBuilt) line old new = (new ≡ old) × ((next : Drafted) → ReadsHeader line old next → ⊥)
+HeaderAnswers (Err NoMemory) line old new = new ≡ old
+
+-- a header's value is refused exactly where none is spelled
+abbrev pub RefusesValue : {T : Type 0} → (T → Type 0) → LineFault → Type 0
+RefusesValue Spells Malformed = ⊥
+RefusesValue {T} Spells NotBuilt = (value : T) → Spells value → ⊥
+RefusesValue Spells NoMemory = Unit {0}
+
+-- the words spell these addresses, of which there are 1 to 32 different ones
+abbrev pub SpellsAddresses : List (List ℕ) → List Endpoint → Type 0
+SpellsAddresses ws listed = AllZip SpellsAddress ws listed × IsListing listed
+
+-- one more address
+pub record MayFollow (listed : List Endpoint) (a : Endpoint) : Type 0 where
+  pub room : length listed < 32
+  pub other : Contains listed a → ⊥
+
+-- the word spells one more address
+abbrev pub SpellsNext : List ℕ → List Endpoint → Endpoint → Type 0
+SpellsNext word listed a = SpellsAddress word a × MayFollow listed a

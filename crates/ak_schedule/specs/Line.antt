@@ -1,0 +1,59 @@
+-- The lines of a recorded schedule and the words of a line (this project's format).
+use Rattle.std.specs.Prelude.{◌≡◌, ℕ, ◌+◌, ◌<◌, ◌≤◌, ◌⊎◌, Bool, true, false, ◌||◌, ◌&&◌, ◌==◌, not, List, [], ◌∷◌, filter, map, length, if◌then◌else◌}
+use Rattle.std.specs.List.{slice_split, list_all}
+
+-- a list is not empty
+abbrev pub begins : List ℕ → Bool
+begins [] = false
+begins (b ∷ bs) = true
+
+-- a line's words stand between spaces
+abbrev pub words : List ℕ → List (List ℕ)
+words line = filter begins (slice_split (λ b. b == 32) line)
+
+-- without one CR at its end
+abbrev pub without_cr : List ℕ → List ℕ
+without_cr [] = []
+without_cr (b ∷ []) = if b == 13 then [] else b ∷ []
+without_cr (b ∷ c ∷ bs) = b ∷ without_cr (c ∷ bs)
+
+-- behind a last LF no further line begins
+abbrev pub begun : List (List ℕ) → List (List ℕ)
+begun [] = []
+begun ([] ∷ []) = []
+begun ((b ∷ bs) ∷ []) = (b ∷ bs) ∷ []
+begun (line ∷ next ∷ lines) = line ∷ begun (next ∷ lines)
+
+-- a line ends with LF or with the input, and a CR before that is no part of it
+abbrev pub lines : List ℕ → List (List ℕ)
+lines bytes = map without_cr (begun (slice_split (λ b. b == 10) bytes))
+
+-- `#` begins a comment
+abbrev pub is_comment : List ℕ → Bool
+is_comment [] = false
+is_comment (b ∷ bs) = b == 35
+
+-- a line may have this many bytes
+abbrev pub most_bytes : ℕ
+most_bytes = 4096
+
+-- nothing but spaces, or a comment; a line that is too long is never passed over
+pub record IsPassedOver (line : List ℕ) : Type 0 where
+  pub short : length line ≤ most_bytes
+  pub empty : (words line ≡ []) ⊎ (is_comment line ≡ true)
+
+-- a text is cut at its first such byte
+pub record IsFirstPart (byte : ℕ) (bytes front rest : List ℕ) : Type 0 where
+  pub parts : slice_split (λ b. b == byte) bytes ≡ front ∷ slice_split (λ b. b == byte) rest
+  pub shorter : length front + length rest < length bytes
+
+-- the first line of a text, and the lines behind it
+pub record IsFirstLine (bytes line rest : List ℕ) : Type 0 where
+  pub first : lines bytes ≡ line ∷ lines rest
+  pub shorter : length rest < length bytes
+
+-- the first word of a line, and the words behind it
+pub record IsFirstWord (line word rest : List ℕ) : Type 0 where
+  pub first : words line ≡ word ∷ words rest
+  pub not_empty : begins word ≡ true
+  pub shorter : length rest < length line

@@ -1,0 +1,110 @@
+-- The grammar of a recorded schedule: nine header lines and then events, one a line (this project's format).
+use Rattle.std.specs.Prelude.{◌≡◌, ℕ, ◌+◌, ◌-◌, ◌^◌, ◌<◌, ◌≤◌, List, [], ◌∷◌, ◌++◌, length, codes, Option, Some, None}
+use Rattle.std.specs.List.{AllZip, AllByRecursion}
+use Rattle.std.specs.Fmt.{decimal}
+use Rattle.ak_address.specs.Unique.{Endpoint, Process, IsAddress, IsUnique}
+use Rattle.ak_address.specs.Spelling.{IsNumber, SpellsAddress, SpellsUnique, address_text, unique_text}
+use Rattle.ak_schedule.specs.declared.settings.Strategy.{Strategy}
+use Rattle.ak_schedule.specs.declared.settings.Strategy.TheVariants.{StaticQuorum, KeepMajority, DownAll}
+use Rattle.ak_schedule.specs.declared.event.Event.{Event}
+use Rattle.ak_schedule.specs.declared.event.Event.TheVariants.{Start, Found, Join, Tick, Deliver, Leave, Down, Offer, Stop}
+use Rattle.ak_schedule.specs.declared.settings.Header as header
+use Rattle.ak_schedule.specs.Line.{words, most_bytes}
+use Rattle.ak_schedule.specs.Settings.{Setup, IsListing, IsWithin}
+
+-- a word is a number from least to most
+pub record SpellsNumber (word : List ℕ) (least most n : ℕ) : Type 0 where
+  pub number : IsNumber word n
+  pub from : least ≤ n
+  pub to : n ≤ most
+
+-- the name of a setting and its number from 1 on
+abbrev pub SpellsSetting : List ℕ → ℕ → List (List ℕ) → ℕ → Type 0
+SpellsSetting name most ws n = (word : List ℕ) × (ws ≡ name ∷ word ∷ []) × SpellsNumber word 1 most n
+
+abbrev pub SpellsStrategy : List (List ℕ) → Strategy → Type 0
+SpellsStrategy ws (StaticQuorum quorum) =
+    (word : List ℕ) × (ws ≡ codes "strategy" ∷ codes "static-quorum" ∷ word ∷ []) × SpellsNumber word 1 32 quorum
+SpellsStrategy ws KeepMajority = ws ≡ codes "strategy" ∷ codes "keep-majority" ∷ []
+SpellsStrategy ws DownAll = ws ≡ codes "strategy" ∷ codes "down-all" ∷ []
+
+abbrev pub SpellsListing : List (List ℕ) → List Endpoint → Type 0
+SpellsListing ws listed =
+    (names : List (List ℕ)) × (ws ≡ codes "listed" ∷ names) × AllZip SpellsAddress names listed × IsListing listed
+
+-- a header line with these words gives the setting its value, and leaves the others
+abbrev pub Sets : header.Header → List (List ℕ) → Setup → Setup → Type 0
+Sets header.TheVariants.Listed ws old new =
+    (listed : List Endpoint) × SpellsListing ws listed × (new ≡ record old { listed = listed })
+Sets header.TheVariants.Strategy ws old new =
+    (strategy : Strategy) × SpellsStrategy ws strategy × (new ≡ record old { strategy = strategy })
+Sets header.TheVariants.Margin ws old new = (n : ℕ) × SpellsSetting (codes "margin") 1000000 ws n × (new ≡ record old { margin = n })
+Sets header.TheVariants.Deadline ws old new = (n : ℕ) × SpellsSetting (codes "deadline") 1000000 ws n × (new ≡ record old { deadline = n })
+Sets header.TheVariants.Stable ws old new = (n : ℕ) × SpellsSetting (codes "stable") 1000000 ws n × (new ≡ record old { stable = n })
+Sets header.TheVariants.Shards ws old new = (n : ℕ) × SpellsSetting (codes "shards") 1000 ws n × (new ≡ record old { shards = n })
+Sets header.TheVariants.Buffer ws old new = (n : ℕ) × SpellsSetting (codes "buffer") 100000 ws n × (new ≡ record old { buffer = n })
+Sets header.TheVariants.Threshold ws old new = (n : ℕ) × SpellsSetting (codes "threshold") 1000 ws n × (new ≡ record old { threshold = n })
+Sets header.TheVariants.Limit ws old new = (n : ℕ) × SpellsSetting (codes "limit") 1000 ws n × (new ≡ record old { limit = n })
+
+-- the header that comes after so many
+abbrev pub headers : List header.Header
+headers =
+    header.TheVariants.Listed ∷ header.TheVariants.Strategy ∷ header.TheVariants.Margin ∷ header.TheVariants.Deadline ∷ header.TheVariants.Stable
+    ∷ header.TheVariants.Shards ∷ header.TheVariants.Buffer ∷ header.TheVariants.Threshold ∷ header.TheVariants.Limit ∷ []
+
+-- what an entity is called: 1 to 64 bytes from `!` to `~`
+pub record IsEntity (name : List ℕ) : Type 0 where
+  pub not_empty : 1 ≤ length name
+  pub short : length name ≤ 64
+  pub printable : AllByRecursion (λ b. (33 ≤ b) × (b ≤ 126)) name
+
+-- the words of an event line
+abbrev pub SpellsWords : List (List ℕ) → Event → Type 0
+SpellsWords ws (Start u) = (a : List ℕ) × (ws ≡ codes "start" ∷ a ∷ []) × SpellsUnique a u
+SpellsWords ws (Found u) = (a : List ℕ) × (ws ≡ codes "found" ∷ a ∷ []) × SpellsUnique a u
+SpellsWords ws (Join u target) = (a : List ℕ) × (b : List ℕ) × (ws ≡ codes "join" ∷ a ∷ b ∷ []) × SpellsUnique a u × SpellsAddress b target
+SpellsWords ws (Tick u word) = (a : List ℕ) × (b : List ℕ) × (ws ≡ codes "tick" ∷ a ∷ b ∷ []) × SpellsUnique a u × SpellsNumber b 0 (2 ^ 32 - 1) word
+SpellsWords ws (Deliver packet) = (a : List ℕ) × (ws ≡ codes "deliver" ∷ a ∷ []) × SpellsNumber a 0 (2 ^ 63 - 1) packet
+SpellsWords ws (Leave u who) = (a : List ℕ) × (b : List ℕ) × (ws ≡ codes "leave" ∷ a ∷ b ∷ []) × SpellsUnique a u × SpellsUnique b who
+SpellsWords ws (Down u who) = (a : List ℕ) × (b : List ℕ) × (ws ≡ codes "down" ∷ a ∷ b ∷ []) × SpellsUnique a u × SpellsUnique b who
+SpellsWords ws (Offer u entity payload) =
+    (a : List ℕ) × (b : List ℕ) × (ws ≡ codes "offer" ∷ a ∷ entity ∷ b ∷ []) × SpellsUnique a u × IsEntity entity × SpellsNumber b 0 (2 ^ 63 - 1) payload
+SpellsWords ws (Stop u) = (a : List ℕ) × (ws ≡ codes "stop" ∷ a ∷ []) × SpellsUnique a u
+
+-- an event line, which is not too long
+pub record SpellsEvent (line : List ℕ) (event : Event) : Type 0 where
+  pub short : length line ≤ most_bytes
+  pub words : SpellsWords (words line) event
+
+-- a header line, which is not too long
+pub record SetsHeader (which : header.Header) (line : List ℕ) (old new : Setup) : Type 0 where
+  pub short : length line ≤ most_bytes
+  pub words : Sets which (words line) old new
+
+-- some event line spells the event
+abbrev pub IsSpelled : Event → Type 0
+IsSpelled event = (line : List ℕ) × SpellsEvent line event
+
+-- its parts are in their ranges
+abbrev pub IsEvent : Event → Type 0
+IsEvent (Start u) = IsUnique u
+IsEvent (Found u) = IsUnique u
+IsEvent (Join u target) = IsUnique u × IsAddress target
+IsEvent (Tick u word) = IsUnique u × (word < 2 ^ 32)
+IsEvent (Deliver packet) = packet < 2 ^ 63
+IsEvent (Leave u who) = IsUnique u × IsUnique who
+IsEvent (Down u who) = IsUnique u × IsUnique who
+IsEvent (Offer u entity payload) = IsUnique u × IsEntity entity × (payload < 2 ^ 63)
+IsEvent (Stop u) = IsUnique u
+
+-- the canonical spelling: one space between words, no leading zeros
+abbrev pub event_text : Event → List ℕ
+event_text (Start u) = codes "start " ++ unique_text u
+event_text (Found u) = codes "found " ++ unique_text u
+event_text (Join u target) = codes "join " ++ unique_text u ++ codes " " ++ address_text target
+event_text (Tick u word) = codes "tick " ++ unique_text u ++ codes " " ++ decimal word
+event_text (Deliver packet) = codes "deliver " ++ decimal packet
+event_text (Leave u who) = codes "leave " ++ unique_text u ++ codes " " ++ unique_text who
+event_text (Down u who) = codes "down " ++ unique_text u ++ codes " " ++ unique_text who
+event_text (Offer u entity payload) = codes "offer " ++ unique_text u ++ codes " " ++ entity ++ codes " " ++ decimal payload
+event_text (Stop u) = codes "stop " ++ unique_text u

@@ -1,0 +1,159 @@
+ghost use Rattle.std.specs.Prelude.{◌≡◌, ℕ, [], ◌∷◌, MatchOption, MatchResult, codes};
+ghost use Rattle.ak_address.specs.Spelling.{SpellsAddress};
+ghost use Rattle.ak_schedule.specs.Line.{words};
+ghost use Rattle.ak_schedule.specs.Draft.{RefusesValue, SpellsAddresses, SpellsNext};
+ghost use Rattle.ak_schedule.specs.Schedule.{SpellsListing, SpellsSetting, SpellsStrategy};
+
+use crate::fault::LineFault;
+use crate::kind::is_text;
+use crate::line::{next_word, one_word, two_words};
+use crate::settings::{Strategy, contains_address};
+use ak_address::{Address, AddressFault, parse_address, parse_number};
+use std::alloc::Global;
+
+const MOST_LISTED: usize = 32;
+
+const MOST_QUORUM: u64 = 32;
+
+/// The number of a header line that has this name, from 1 to the most. None exactly where the line is
+/// no such header.
+pub(crate) fn read_setting(line: &[u8], name: &[u8], most: u32) -> Option<u32>
+    ensures { MatchOption result
+        ((n : ℕ) → SpellsSetting name.now most (words line.now) n → ⊥)
+        (λ n. SpellsSetting name.now most (words line.now) n) }
+{
+    let Some((first, number)) = two_words(line) else {
+        return None;
+    };
+    if !is_text(first, name) {
+        return None;
+    }
+    match parse_number(number, 1, u64::from(most)) {
+        Some(number) => return Some(number as u32),
+        None => return None,
+    }
+}
+
+/// The strategy of a header line. None exactly where the line is no such header.
+pub(crate) fn read_strategy(line: &[u8]) -> Option<Strategy>
+    ensures { MatchOption result
+        ((s : Strategy) → SpellsStrategy (words line.now) s → ⊥)
+        (λ s. SpellsStrategy (words line.now) s) }
+{
+    let Some((name, rest)) = next_word(line) else {
+        return None;
+    };
+    if !is_text(name, b"strategy") {
+        return None;
+    }
+    let Some((name, rest)) = next_word(rest) else {
+        return None;
+    };
+    if is_text(name, b"static-quorum") {
+        return read_quorum(rest);
+    }
+    if next_word(rest).is_some() {
+        return None;
+    }
+    bare_strategy(name)
+}
+
+// A quorum, from the words behind its name.
+fn read_quorum(rest: &[u8]) -> Option<Strategy>
+    ensures { MatchOption result
+        ((s : Strategy) → SpellsStrategy (codes "strategy" ∷ codes "static-quorum" ∷ words rest.now) s → ⊥)
+        (λ s. SpellsStrategy (codes "strategy" ∷ codes "static-quorum" ∷ words rest.now) s) }
+{
+    let Some(number) = one_word(rest) else {
+        return None;
+    };
+    match parse_number(number, 1, MOST_QUORUM) {
+        Some(number) => return Some(Strategy::StaticQuorum(number as u32)),
+        None => return None,
+    }
+}
+
+// A strategy that is a name alone.
+fn bare_strategy(name: &[u8]) -> Option<Strategy>
+    ensures { MatchOption result
+        ((s : Strategy) → SpellsStrategy (codes "strategy" ∷ name.now ∷ []) s → ⊥)
+        (λ s. SpellsStrategy (codes "strategy" ∷ name.now ∷ []) s) }
+{
+    if is_text(name, b"keep-majority") {
+        return Some(Strategy::KeepMajority);
+    }
+    if is_text(name, b"down-all") {
+        return Some(Strategy::DownAll);
+    }
+    None
+}
+
+/// The addresses of a header line. Refused as `NotBuilt` exactly where the line is no such header.
+pub(crate) fn read_listing(alloc: Global, line: &[u8]) -> Result<Vec<Address>, LineFault>
+    ensures { MatchResult result
+        (λ listed. SpellsListing (words line.now) listed.items)
+        (RefusesValue (SpellsListing (words line.now))) }
+{
+    let Some((name, rest)) = next_word(line) else {
+        return Err(LineFault::NotBuilt);
+    };
+    if !is_text(name, b"listed") {
+        return Err(LineFault::NotBuilt);
+    }
+    match read_addresses(alloc, rest) {
+        Ok(listed) => return Ok(listed),
+        Err(fault) => return Err(fault),
+    }
+}
+
+fn read_addresses(alloc: Global, names: &[u8]) -> Result<Vec<Address>, LineFault>
+    ensures { MatchResult result
+        (λ listed. SpellsAddresses (words names.now) listed.items)
+        (RefusesValue (SpellsAddresses (words names.now))) }
+{
+    let mut listed = Vec::new(alloc);
+    let mut rest = names;
+    'names: while let Some((name, behind)) = next_word(rest) {
+        let address = next_address(alloc, name, &listed)?;
+        if listed.push(address).is_err() {
+            return Err(LineFault::NoMemory);
+        }
+        rest = behind;
+    }
+    if listed.is_empty() {
+        return Err(LineFault::NotBuilt);
+    }
+    Ok(listed)
+}
+
+// One more address, which is not among these.
+fn next_address(alloc: Global, name: &[u8], listed: &[Address]) -> Result<Address, LineFault>
+    ensures { MatchResult result
+        (SpellsNext name.now listed.now)
+        (RefusesValue (SpellsNext name.now listed.now)) }
+{
+    if listed.len() >= MOST_LISTED {
+        return Err(LineFault::NotBuilt);
+    }
+    match listed_address(alloc, name) {
+        Err(fault) => return Err(fault),
+        Ok(address) => {
+            if contains_address(listed, &address) {
+                return Err(LineFault::NotBuilt);
+            }
+            return Ok(address);
+        }
+    }
+}
+
+fn listed_address(alloc: Global, name: &[u8]) -> Result<Address, LineFault>
+    ensures { MatchResult result (SpellsAddress name.now) (RefusesValue (SpellsAddress name.now)) }
+{
+    match parse_address(alloc, name) {
+        Ok(address) => return Ok(address),
+        Err(AddressFault::BadHost) => return Err(LineFault::NotBuilt),
+        Err(AddressFault::BadPort) => return Err(LineFault::NotBuilt),
+        Err(AddressFault::BadUid) => return Err(LineFault::NotBuilt),
+        Err(AddressFault::NoMemory) => return Err(LineFault::NoMemory),
+    }
+}

@@ -1,0 +1,22 @@
+//! The text of a recorded schedule: its settings, its events, and the lines that spell them.
+#![tactic(auto)]
+
+mod draft;
+mod event;
+mod fault;
+mod header;
+mod kind;
+mod laws;
+mod line;
+mod print;
+mod read;
+mod settings;
+
+pub use draft::Draft;
+pub use event::Event;
+pub use fault::LineFault;
+pub use laws::{lines_are_read_one_way, passed_over_lines_spell_nothing, printed_events_are_read};
+pub use line::{MOST_BYTES, is_passed_over, next_line, next_word};
+pub use print::print_event;
+pub use read::read_line;
+pub use settings::{Header, Settings, Strategy};

@@ -1,0 +1,242 @@
+ghost use Rattle.std.specs.Prelude.{◌≡◌, ◌↔◌, ◌+◌, ◌-◌, ◌^◌, ◌≤◌, ◌∷◌, IsTrue, MatchOption, All, ℕ};
+ghost use Rattle.ak_address.specs.Spelling.{SpellsAddress, SpellsUnique};
+ghost use Rattle.ak_schedule.specs.Line.{words};
+ghost use Rattle.ak_schedule.specs.Kind.{kind_name};
+ghost use Rattle.ak_schedule.specs.Reading.{Reads, SpellsOne, SpellsTwo};
+ghost use Rattle.ak_schedule.specs.Schedule.{SpellsEvent, SpellsWords, SpellsNumber, IsEntity};
+
+use crate::event::Event;
+use crate::fault::LineFault;
+use crate::kind::{Kind, kind_of};
+use crate::line::{MOST_BYTES, next_word, one_word, three_words, two_words};
+use ak_address::{Address, AddressFault, Text, Unique, parse_address, parse_number, parse_unique};
+use std::alloc::Global;
+
+const MOST_TICK_WORD: u64 = 4294967295;
+
+const MOST_NUMBER: u64 = 9223372036854775807;
+
+const MOST_ENTITY_BYTES: usize = 64;
+
+/// The event that the line spells. Refused as `Malformed` exactly where it spells none; a line that is
+/// passed over spells none. Only memory can fail besides. The spellings are this project's choice.
+pub fn read_line(alloc: Global, line: &[u8]) -> Result<Event, LineFault>
+    ensures { Reads (SpellsEvent line.now) result }
+{
+    if line.len() > MOST_BYTES {
+        return Err(LineFault::Malformed);
+    }
+    read_words(alloc, line)
+}
+
+fn read_words(alloc: Global, line: &[u8]) -> Result<Event, LineFault>
+    ensures { Reads (SpellsWords (words line.now)) result }
+{
+    let Some((name, rest)) = next_word(line) else {
+        return Err(LineFault::Malformed);
+    };
+    let Some(kind) = kind_of(name) else {
+        return Err(LineFault::Malformed);
+    };
+    read_kind(alloc, kind, rest)
+}
+
+// The event of this kind, from the words behind its name.
+fn read_kind(alloc: Global, kind: Kind, rest: &[u8]) -> Result<Event, LineFault>
+    ensures { Reads (SpellsWords (kind_name kind ∷ words rest.now)) result }
+{
+    match kind {
+        Kind::Start => return read_start(alloc, rest),
+        Kind::Found => return read_found(alloc, rest),
+        Kind::Join => return read_join(alloc, rest),
+        Kind::Tick => return read_tick(alloc, rest),
+        Kind::Deliver => return read_deliver(rest),
+        Kind::Leave => return read_leave(alloc, rest),
+        Kind::Down => return read_down(alloc, rest),
+        Kind::Offer => return read_offer(alloc, rest),
+        Kind::Stop => return read_stop(alloc, rest),
+    }
+}
+
+fn read_start(alloc: Global, rest: &[u8]) -> Result<Event, LineFault>
+    ensures { Reads (SpellsWords (kind_name Kind.Start ∷ words rest.now)) result }
+{
+    match one_unique(alloc, rest) {
+        Ok(who) => return Ok(Event::Start(who)),
+        Err(fault) => return Err(fault),
+    }
+}
+
+fn read_found(alloc: Global, rest: &[u8]) -> Result<Event, LineFault>
+    ensures { Reads (SpellsWords (kind_name Kind.Found ∷ words rest.now)) result }
+{
+    match one_unique(alloc, rest) {
+        Ok(who) => return Ok(Event::Found(who)),
+        Err(fault) => return Err(fault),
+    }
+}
+
+fn read_stop(alloc: Global, rest: &[u8]) -> Result<Event, LineFault>
+    ensures { Reads (SpellsWords (kind_name Kind.Stop ∷ words rest.now)) result }
+{
+    match one_unique(alloc, rest) {
+        Ok(who) => return Ok(Event::Stop(who)),
+        Err(fault) => return Err(fault),
+    }
+}
+
+fn read_leave(alloc: Global, rest: &[u8]) -> Result<Event, LineFault>
+    ensures { Reads (SpellsWords (kind_name Kind.Leave ∷ words rest.now)) result }
+{
+    match two_uniques(alloc, rest) {
+        Ok((who, member)) => return Ok(Event::Leave(who, member)),
+        Err(fault) => return Err(fault),
+    }
+}
+
+fn read_down(alloc: Global, rest: &[u8]) -> Result<Event, LineFault>
+    ensures { Reads (SpellsWords (kind_name Kind.Down ∷ words rest.now)) result }
+{
+    match two_uniques(alloc, rest) {
+        Ok((who, member)) => return Ok(Event::Down(who, member)),
+        Err(fault) => return Err(fault),
+    }
+}
+
+fn read_join(alloc: Global, rest: &[u8]) -> Result<Event, LineFault>
+    ensures { Reads (SpellsWords (kind_name Kind.Join ∷ words rest.now)) result }
+{
+    let Some((who, target)) = two_words(rest) else {
+        return Err(LineFault::Malformed);
+    };
+    match unique_of(alloc, who) {
+        Err(fault) => return Err(fault),
+        Ok(who) => match address_of(alloc, target) {
+            Ok(target) => return Ok(Event::Join(who, target)),
+            Err(fault) => return Err(fault),
+        },
+    }
+}
+
+fn read_tick(alloc: Global, rest: &[u8]) -> Result<Event, LineFault>
+    ensures { Reads (SpellsWords (kind_name Kind.Tick ∷ words rest.now)) result }
+{
+    let Some((who, word)) = two_words(rest) else {
+        return Err(LineFault::Malformed);
+    };
+    let Some(word) = number_of(word, MOST_TICK_WORD) else {
+        return Err(LineFault::Malformed);
+    };
+    match unique_of(alloc, who) {
+        Ok(who) => return Ok(Event::Tick(who, word as u32)),
+        Err(fault) => return Err(fault),
+    }
+}
+
+fn read_deliver(rest: &[u8]) -> Result<Event, LineFault>
+    ensures { Reads (SpellsWords (kind_name Kind.Deliver ∷ words rest.now)) result }
+{
+    let Some(packet) = one_word(rest) else {
+        return Err(LineFault::Malformed);
+    };
+    match number_of(packet, MOST_NUMBER) {
+        Some(packet) => return Ok(Event::Deliver(packet)),
+        None => return Err(LineFault::Malformed),
+    }
+}
+
+fn read_offer(alloc: Global, rest: &[u8]) -> Result<Event, LineFault>
+    ensures { Reads (SpellsWords (kind_name Kind.Offer ∷ words rest.now)) result }
+{
+    let Some((who, entity, payload)) = three_words(rest) else {
+        return Err(LineFault::Malformed);
+    };
+    if !is_entity(entity) {
+        return Err(LineFault::Malformed);
+    }
+    let Some(payload) = number_of(payload, MOST_NUMBER) else {
+        return Err(LineFault::Malformed);
+    };
+    match unique_of(alloc, who) {
+        Err(fault) => return Err(fault),
+        Ok(who) => match Text::from_bytes(alloc, entity) {
+            Ok(entity) => return Ok(Event::Offer(who, entity, payload)),
+            Err(_) => return Err(LineFault::NoMemory),
+        },
+    }
+}
+
+// The one word, as a unique.
+fn one_unique(alloc: Global, rest: &[u8]) -> Result<Unique, LineFault>
+    ensures { Reads (SpellsOne (words rest.now)) result }
+{
+    match one_word(rest) {
+        Some(word) => return unique_of(alloc, word),
+        None => return Err(LineFault::Malformed),
+    }
+}
+
+// The two words, as uniques.
+fn two_uniques(alloc: Global, rest: &[u8]) -> Result<(Unique, Unique), LineFault>
+    ensures { Reads (SpellsTwo (words rest.now)) result }
+{
+    let Some((one, other)) = two_words(rest) else {
+        return Err(LineFault::Malformed);
+    };
+    match unique_of(alloc, one) {
+        Err(fault) => return Err(fault),
+        Ok(one) => match unique_of(alloc, other) {
+            Ok(other) => return Ok((one, other)),
+            Err(fault) => return Err(fault),
+        },
+    }
+}
+
+fn unique_of(alloc: Global, word: &[u8]) -> Result<Unique, LineFault>
+    ensures { Reads (SpellsUnique word.now) result }
+{
+    match parse_unique(alloc, word) {
+        Ok(unique) => return Ok(unique),
+        Err(AddressFault::BadHost) => return Err(LineFault::Malformed),
+        Err(AddressFault::BadPort) => return Err(LineFault::Malformed),
+        Err(AddressFault::BadUid) => return Err(LineFault::Malformed),
+        Err(AddressFault::NoMemory) => return Err(LineFault::NoMemory),
+    }
+}
+
+fn address_of(alloc: Global, word: &[u8]) -> Result<Address, LineFault>
+    ensures { Reads (SpellsAddress word.now) result }
+{
+    match parse_address(alloc, word) {
+        Ok(address) => return Ok(address),
+        Err(AddressFault::BadHost) => return Err(LineFault::Malformed),
+        Err(AddressFault::BadPort) => return Err(LineFault::Malformed),
+        Err(AddressFault::BadUid) => return Err(LineFault::Malformed),
+        Err(AddressFault::NoMemory) => return Err(LineFault::NoMemory),
+    }
+}
+
+// The number from 0 to the most.
+fn number_of(word: &[u8], most: u64) -> Option<u64>
+    ensures { MatchOption result ((n : ℕ) → SpellsNumber word.now 0 most n → ⊥) (λ n. SpellsNumber word.now 0 most n) }
+{
+    parse_number(word, 0, most)
+}
+
+fn is_entity(word: &[u8]) -> bool
+    ensures { IsTrue result ↔ IsEntity word.now }
+{
+    if word.is_empty() {
+        return false;
+    }
+    if word.len() > MOST_ENTITY_BYTES {
+        return false;
+    }
+    all_printable(word)
+}
+
+fn all_printable(word: &[u8]) -> bool
+    ensures { IsTrue result ↔ All (λ b. (33 ≤ b) × (b ≤ 126)) word.now }
+{
+    word.iter().all(|b| *b >= b'!' && *b <= b'~')
+}

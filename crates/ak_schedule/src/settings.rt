@@ -1,0 +1,133 @@
+ghost use Rattle.std.specs.Prelude.{◌≡◌, ◌↔◌, IsTrue, IfOk, Contains};
+ghost use Rattle.ak_address.specs.Unique.{Endpoint};
+ghost use Rattle.ak_schedule.specs.Settings.{settling_size};
+
+use ak_address::Address;
+use std::alloc::{AllocError, Global};
+use std::marker::Model;
+
+/// How the resolver decides which side of a partition goes on (Akka's Split Brain Resolver, "Strategies").
+#[derive(Clone, Copy, Debug, PartialEq, Eq)]
+pub enum Strategy {
+    /// The side with at least this many addresses goes on, 1 to 32.
+    StaticQuorum(u32),
+    KeepMajority,
+    DownAll,
+}
+
+/// The nine header lines of a schedule, in their order.
+#[derive(Clone, Copy, Debug, PartialEq, Eq)]
+pub enum Header {
+    Listed,
+    Strategy,
+    Margin,
+    Deadline,
+    Stable,
+    Shards,
+    Buffer,
+    Threshold,
+    Limit,
+}
+
+/// The settings of a run. That each is in its range is an invariant of the type; the ranges are this
+/// project's choice.
+#[derive(Debug, Drop)]
+pub struct Settings {
+    /// The addresses that belong to the cluster, 1 to 32 different ones.
+    pub listed: Vec<Address>,
+    pub strategy: Strategy,
+    /// How many ticks a node waits before it takes over from a member that is gone, 1 to 1,000,000.
+    pub margin: u32,
+    /// After how many silent ticks a watched member is unreachable, 1 to 1,000,000.
+    pub deadline: u32,
+    /// For how many ticks the statuses must stand still before the resolver decides, 1 to 1,000,000.
+    pub stable: u32,
+    /// How many shards there are, 1 to 1,000.
+    pub shards: u32,
+    /// How many messages a region keeps for shards without a home, 1 to 100,000.
+    pub buffer: u32,
+    /// By how much loads may differ before shards move, 1 to 1,000.
+    pub threshold: u32,
+    /// How many shards may move at once, 1 to 1,000.
+    pub limit: u32,
+}
+
+impl Model for Settings {
+    ghost use Rattle.ak_schedule.specs.Settings.{Setup, coded_setup, IsSetup};
+
+    ghost Value = { Setup };
+
+    ghost coded = { coded_setup };
+
+    ghost view = { λ s. record { listed = s.listed.items; strategy = s.strategy; margin = s.margin; deadline = s.deadline; stable = s.stable; shards = s.shards; buffer = s.buffer; threshold = s.threshold; limit = s.limit } };
+
+    ghost invariant = { λ s. IsSetup (record { listed = s.listed.items; strategy = s.strategy; margin = s.margin; deadline = s.deadline; stable = s.stable; shards = s.shards; buffer = s.buffer; threshold = s.threshold; limit = s.limit }) };
+}
+
+impl Settings {
+    /// How many addresses a settled view counts at least: the quorum, or 1 under another strategy.
+    /// Takes no memory.
+    pub fn settling(&self) -> u32
+        ensures { result ≡ settling_size self.now.strategy }
+    {
+        match self.strategy {
+            Strategy::StaticQuorum(quorum) => return quorum,
+            Strategy::KeepMajority => return 1,
+            Strategy::DownAll => return 1,
+        }
+    }
+
+    /// True exactly where the address belongs to the cluster. Takes no memory.
+    pub fn is_listed(&self, at: &Address) -> bool
+        ensures { IsTrue result ↔ Contains self.now.listed at.now }
+    {
+        contains_address(&self.listed, at)
+    }
+
+    /// Equal settings. Only memory can fail.
+    pub fn copy(&self, alloc: Global) -> Result<Settings, AllocError>
+        ensures { IfOk result (λ copy. copy ≡ self.now) }
+    {
+        let listed = copy_addresses(alloc, &self.listed)?;
+        Ok(Settings {
+            listed,
+            strategy: self.strategy,
+            margin: self.margin,
+            deadline: self.deadline,
+            stable: self.stable,
+            shards: self.shards,
+            buffer: self.buffer,
+            threshold: self.threshold,
+            limit: self.limit,
+        })
+    }
+}
+
+/// True exactly where the address is among these. Takes no memory.
+pub(crate) fn contains_address(listed: &[Address], at: &Address) -> bool
+    ensures { IsTrue result ↔ Contains listed.now at.now }
+{
+    'rows: for each in listed {
+        if is_same(each, at) {
+            return true;
+        }
+    }
+    false
+}
+
+fn is_same(one: &Address, other: &Address) -> bool
+    ensures { IsTrue result ↔ (one.now ≡ other.now) }
+{
+    one.compare(other).is_eq()
+}
+
+fn copy_addresses(alloc: Global, listed: &[Address]) -> Result<Vec<Address>, AllocError>
+    ensures { IfOk result (λ copies. copies.items ≡ listed.now) }
+{
+    let mut copies = Vec::new(alloc);
+    'rows: for each in listed {
+        let copy = each.copy(alloc)?;
+        copies.push(copy)?;
+    }
+    Ok(copies)
+}
