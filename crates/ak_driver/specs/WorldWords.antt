@@ -39,7 +39,7 @@ pub record Accepts (event : Event) (old : Chronicle) (step : Step) (new : Chroni
   pub done : Done
   pub happened : happens old.setup event old.state ≡ Ok done
   pub world : new ≡ record { setup = old.setup; state = done.world; events = old.events ++ event ∷ []; spent = false }
-  pub step : Shows old.state step done
+  pub shown : Shows old.state step done
 
 -- An event was refused for the first reason that applies, and nothing changed.
 pub record Refuses (event : Event) (old : Chronicle) (why : Refused) (new : Chronicle) : Type 0 where

@@ -1,7 +1,7 @@
 //! What a node knows of the cluster, and what it makes of a gossip that comes (Akka's Cluster Specification,
 //! "Gossip" and "Gossip Convergence").
 
-ghost use Rattle.std.specs.Prelude.{◌≡◌, ℕ, ◌<◌, ◌^◌, if◌then◌else◌, IfOk, OnOk, OnErr};
+ghost use Rattle.std.specs.Prelude.{◌≡◌, ℕ, ◌+◌, ◌<◌, ◌^◌, if◌then◌else◌, IfOk, OnOk, OnErr};
 ghost use Rattle.ak_clock.specs.Version.{count};
 ghost use Rattle.ak_address.specs.Uniques.{has, with_one, those, union, how_many};
 ghost use Rattle.ak_driver.specs.Gossip.{GossipState, nothing_known, updated, seen_by, same, both, receive};

@@ -1,5 +1,7 @@
 //! The reading of a schedule, as far as its limits on lines let it go.
 
+ghost use Rattle.std.specs.Prelude.{◌≡◌};
+
 use ak_outside::{Read, Source};
 use std::alloc::{AllocError, Global};
 
