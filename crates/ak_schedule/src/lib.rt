@@ -11,6 +11,8 @@ mod line;
 mod print;
 mod read;
 mod settings;
+#[cfg(test)]
+mod tests;
 
 pub use draft::Draft;
 pub use event::Event;
