@@ -1,5 +1,5 @@
 -- What is printed of an event spells it.
-use Rattle.std.proofs.Common.{◌≡◌, ℕ, ◌+◌, ◌-◌, ◌^◌, ◌<◌, ◌≤◌, Bool, true, false, not, ◌==◌, List, [], ◌∷◌, ◌++◌, length, codes, sym, ◌∙◌, ap, subst, refl, arith, append_assoc, length-append}
+use Rattle.std.proofs.Common.{◌≡◌, ℕ, ◌+◌, ◌-◌, ◌^◌, ◌<◌, ◌≤◌, Bool, true, false, not, ◌==◌, List, [], ◌∷◌, ◌++◌, length, codes, ◌∙◌, ap, refl, arith, append_assoc, length-append}
 use Rattle.std.specs.Prelude.{All, filter, decimal}
 use Rattle.std.specs.List.{slice_split, list_all}
 use Rattle.std.proofs.lemmas.List.Splits.{slice_split_at, slice_split_none}
@@ -7,7 +7,7 @@ use Rattle.std.proofs.lemmas.List.Elements.{All-weaker, All-from_recursion}
 use Rattle.std.proofs.lemmas.List.Sums.{AllPass-from_list_all}
 use Rattle.std.proofs.lemmas.Bool.Decides.{nat_tests}
 use Rattle.ak_address.specs.Unique.{Endpoint, Process, IsUnique, IsAddress}
-use Rattle.ak_address.specs.Spelling.{IsNumber, IsWord, SpellsAddress, SpellsUnique, address_text, unique_text}
+use Rattle.ak_address.specs.Spelling.{IsWord, address_text, unique_text}
 use Rattle.ak_address.proofs.Spelled.{number_word, address_word, unique_word, number_text_spells, address_text_spells, unique_text_spells}
 use Rattle.ak_schedule.specs.declared.event.Event.{Event}
 use Rattle.ak_schedule.specs.declared.event.Event.TheVariants.{Start, Found, Join, Tick, Deliver, Leave, Down, Offer, Stop}
