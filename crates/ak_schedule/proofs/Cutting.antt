@@ -104,7 +104,7 @@ nothing_dropped (x ∷ y ∷ ys) zero l h = absurd (omega arith)
 nothing_dropped (x ∷ y ∷ ys) (suc n) l h = ap (λ (t : List ℕ). x ∷ t) (nothing_dropped (y ∷ ys) n (omega arith) h)
 
 -- a line that an LF ends is one, also an empty one
-begun_more : (line : List ℕ) (parts : List (List ℕ)) → 0 < length parts → begun (line ∷ parts) ≡ line ∷ begun parts
+pub begun_more : (line : List ℕ) (parts : List (List ℕ)) → 0 < length parts → begun (line ∷ parts) ≡ line ∷ begun parts
 begun_more [] [] h = absurd (omega arith)
 begun_more (b ∷ bs) [] h = absurd (omega arith)
 begun_more [] (next ∷ parts) h = refl
