@@ -1,25 +1,20 @@
 -- What is printed of an event spells it.
-use Rattle.std.proofs.Common.{◌≡◌, ℕ, ◌+◌, ◌-◌, ◌^◌, ◌<◌, ◌≤◌, Bool, true, false, not, ◌==◌, List, [], ◌∷◌, ◌++◌, length, codes, sym, ◌∙◌, ap, subst, refl, arith, append_assoc, length-append}
-use Rattle.std.specs.Prelude.{All, filter, decimal}
-use Rattle.std.specs.List.{slice_split, list_all}
-use Rattle.std.proofs.lemmas.List.Splits.{slice_split_at, slice_split_none}
+use Rattle.std.proofs.Common.{◌≡◌, ℕ, ◌+◌, ◌-◌, ◌^◌, ◌<◌, ◌≤◌, Bool, true, false, not, ◌==◌, List, [], ◌∷◌, ◌++◌, length, codes, ◌∙◌, ap, refl, arith, append_assoc, length-append}
+use Rattle.std.specs.Prelude.{decimal}
+use Rattle.std.specs.List.{list_all}
 use Rattle.std.proofs.lemmas.List.Elements.{All-weaker, All-from_recursion}
 use Rattle.std.proofs.lemmas.List.Sums.{AllPass-from_list_all}
 use Rattle.std.proofs.lemmas.Bool.Decides.{nat_tests}
 use Rattle.ak_address.specs.Unique.{Endpoint, Process, IsUnique, IsAddress}
-use Rattle.ak_address.specs.Spelling.{IsNumber, IsWord, SpellsAddress, SpellsUnique, address_text, unique_text}
+use Rattle.ak_address.specs.Spelling.{IsWord, address_text, unique_text}
 use Rattle.ak_address.proofs.Spelled.{number_word, address_word, unique_word, number_text_spells, address_text_spells, unique_text_spells}
 use Rattle.ak_schedule.specs.declared.event.Event.{Event}
 use Rattle.ak_schedule.specs.declared.event.Event.TheVariants.{Start, Found, Join, Tick, Deliver, Leave, Down, Offer, Stop}
 use Rattle.ak_schedule.specs.declared.kind.Kind as kind
 use Rattle.ak_schedule.specs.Line.{words, begins, most_bytes}
 use Rattle.ak_schedule.specs.Kind.{kind_name}
+use Rattle.ak_schedule.proofs.LineParts.{IsPlain, next_words, one_word}
 use Rattle.ak_schedule.specs.Schedule.{SpellsEvent, SpellsWords, SpellsNumber, IsEntity, IsEvent, IsSpelled, event_text}
-
--- bytes that are one word of a line
-record IsPlain (word : List ℕ) : Type 0 where
-  begun : begins word ≡ true
-  letters : All (λ b. (b == 32) ≡ false) word
 
 no_space : (b : ℕ) → 32 < b → (b == 32) ≡ false
 no_space b above = grind (arith, nat_tests)
@@ -71,18 +66,8 @@ plain_name kind.TheVariants.Down = plain_bytes (codes "down") refl refl
 plain_name kind.TheVariants.Offer = plain_bytes (codes "offer") refl refl
 plain_name kind.TheVariants.Stop = plain_bytes (codes "stop") refl refl
 
-first_kept : (w : List ℕ) (parts : List (List ℕ)) → begins w ≡ true → filter begins (w ∷ parts) ≡ w ∷ filter begins parts
-first_kept w parts begun = rw begun refl
-
-last_word : (w : List ℕ) → IsPlain w → words w ≡ w ∷ []
-last_word w plain = ap (filter begins) (slice_split_none (λ b. b == 32) w plain.letters) ∙ first_kept w [] plain.begun
-
-next_words : (w rest : List ℕ) → IsPlain w → words (w ++ 32 ∷ rest) ≡ w ∷ words rest
-next_words w rest plain =
-    ap (filter begins) (slice_split_at (λ b. b == 32) w 32 rest plain.letters refl) ∙ first_kept w (slice_split (λ b. b == 32) rest) plain.begun
-
 two : (a b : List ℕ) → IsPlain a → IsPlain b → words (a ++ 32 ∷ b) ≡ a ∷ b ∷ []
-two a b first second = next_words a b first ∙ ap (λ (ws : List (List ℕ)). a ∷ ws) (last_word b second)
+two a b first second = next_words a b first ∙ ap (λ (ws : List (List ℕ)). a ∷ ws) (one_word b second)
 
 three : (a b c : List ℕ) → IsPlain a → IsPlain b → IsPlain c → words (a ++ 32 ∷ (b ++ 32 ∷ c)) ≡ a ∷ b ∷ c ∷ []
 three a b c first second third = next_words a (b ++ 32 ∷ c) first ∙ ap (λ (ws : List (List ℕ)). a ∷ ws) (two b c second third)

@@ -1,16 +1,14 @@
 -- A text cut at its first line end, and a line cut at the end of its first word.
-use Rattle.std.proofs.Common.{◌≡◌, ℕ, ◌+◌, ◌-◌, ◌<◌, ◌≤◌, Bool, true, false, cond, not, ◌==◌, nat_lt, List, [], ◌∷◌, ◌++◌, length, take, drop, refl, sym, ◌≢◌, zero, suc, one-add, ◌∙◌, ap, subst, get_or, Option, Some, None, arith, add-one, drop-cons, ltb, length-append, length-drop}
-use Rattle.std.specs.Option.{MatchOption}
+use Rattle.std.proofs.Common.{◌≡◌, ℕ, ◌+◌, ◌-◌, ◌<◌, Bool, true, false, cond, not, ◌==◌, List, [], ◌∷◌, length, take, drop, refl, sym, ◌≢◌, zero, suc, one-add, ◌∙◌, ap, get_or, Some, None, arith, drop-cons, length-drop}
 use Rattle.std.specs.Prelude.{filter, position, map}
-use Rattle.std.specs.List.{slice_split, onto_first, position_or_len, prefix_len, before_first, after_first, All}
-use Rattle.std.proofs.lemmas.List.{take_rest, take_all, length-take-le}
+use Rattle.std.specs.List.{slice_split, onto_first, position_or_len}
+use Rattle.std.proofs.lemmas.List.{take_rest, length-take-le}
 use Rattle.std.proofs.Math.Seq.{drop-length}
 use Rattle.std.proofs.lemmas.List.Splits.{length-slice_split, slice_split_first, slice_split_none, slice_split-cons_yes, slice_split-cons_no}
 use Rattle.std.proofs.lemmas.List.Sums.{fails_before_first, passes_at_first, prefix_len-le-length}
 use Rattle.std.proofs.lemmas.List.Elements.{All-from_get_or}
-use Rattle.std.proofs.lemmas.List.Quantifiers.{position-Some}
 use Rattle.std.proofs.lemmas.Bool.Decides.{nat_tests}
-use Rattle.ak_schedule.specs.Line.{words, begins, without_cr, begun, lines, IsFirstPart, IsFirstLine, IsFirstWord}
+use Rattle.ak_schedule.specs.Line.{words, begins, without_cr, begun, IsFirstPart, IsFirstLine, IsFirstWord}
 
 -- what `position` answers, as a number
 position_at : (p : ℕ → Bool) (xs : List ℕ) (i : ℕ) → Some i ≡ position p xs → (i ≡ position_or_len p xs) × (i < length xs)
@@ -106,7 +104,7 @@ nothing_dropped (x ∷ y ∷ ys) zero l h = absurd (omega arith)
 nothing_dropped (x ∷ y ∷ ys) (suc n) l h = ap (λ (t : List ℕ). x ∷ t) (nothing_dropped (y ∷ ys) n (omega arith) h)
 
 -- a line that an LF ends is one, also an empty one
-begun_more : (line : List ℕ) (parts : List (List ℕ)) → 0 < length parts → begun (line ∷ parts) ≡ line ∷ begun parts
+pub begun_more : (line : List ℕ) (parts : List (List ℕ)) → 0 < length parts → begun (line ∷ parts) ≡ line ∷ begun parts
 begun_more [] [] h = absurd (omega arith)
 begun_more (b ∷ bs) [] h = absurd (omega arith)
 begun_more [] (next ∷ parts) h = refl

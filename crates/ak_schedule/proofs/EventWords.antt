@@ -1,5 +1,5 @@
 -- What the words behind the name of an event's kind spell.
-use Rattle.std.proofs.Common.{◌≡◌, ℕ, List, [], ◌∷◌, codes, if◌then◌else◌, Bool, true, false, Result, Ok, Err, sym, ◌∙◌, ap, subst, refl}
+use Rattle.std.proofs.Common.{◌≡◌, ℕ, List, [], ◌∷◌, codes, if◌then◌else◌, Result, Ok, Err, sym, ◌∙◌, ap, subst, refl}
 use Rattle.std.specs.Str.{bytes_eq}
 use Rattle.ak_address.specs.Unique.{Endpoint, Process}
 use Rattle.ak_address.specs.Spelling.{SpellsAddress, SpellsUnique}

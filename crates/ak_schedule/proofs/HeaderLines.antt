@@ -1,5 +1,5 @@
 -- Which lines are the next header.
-use Rattle.std.proofs.Common.{◌≡◌, ℕ, ◌≤◌, List, length, Err, subst, refl}
+use Rattle.std.proofs.Common.{◌≡◌, ℕ, List, Err, subst, refl}
 use Rattle.std.specs.Prelude.{Some, slice_get}
 use Rattle.ak_schedule.specs.declared.settings.Header.{Header}
 use Rattle.ak_schedule.specs.declared.fault.LineFault.{LineFault}

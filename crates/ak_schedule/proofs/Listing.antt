@@ -1,9 +1,9 @@
 -- The addresses of a header line, read one after another.
-use Rattle.std.proofs.Common.{◌≡◌, ◌≢◌, ℕ, ◌+◌, ◌<◌, ◌≤◌, List, [], ◌∷◌, ◌++◌, length, get_or, sym, ◌∙◌, ap, subst, refl, arith, append_assoc, length-append, inl, inr, rules}
-use Rattle.std.specs.Prelude.{MatchOption, Option, Contains, All}
+use Rattle.std.proofs.Common.{◌≡◌, ◌≢◌, ℕ, ◌≤◌, List, [], ◌∷◌, ◌++◌, length, sym, ◌∙◌, ap, subst, refl, arith, append_assoc, length-append, rules}
+use Rattle.std.specs.Prelude.{MatchOption, Option, Contains}
 use Rattle.std.specs.List.{AllZip, AllPairs, AllByRecursion}
 use Rattle.std.proofs.lemmas.List.{get_or_append_left, get_or_at}
-use Rattle.std.proofs.lemmas.List.Elements.{All-from_recursion, recursion_from_All, All-push, All-get_or, Contains-get_or}
+use Rattle.std.proofs.lemmas.List.Elements.{All-from_recursion, recursion_from_All, All-push, Contains-get_or}
 use Rattle.std.proofs.lemmas.List.Quantifiers.{all_pairs_push}
 use Rattle.ak_address.specs.Unique.{Endpoint, IsAddress}
 use Rattle.ak_address.specs.Spelling.{SpellsAddress}
@@ -11,8 +11,8 @@ use Rattle.ak_address.proofs.Spelled.{address_same}
 use Rattle.ak_schedule.specs.declared.fault.LineFault.{LineFault}
 use Rattle.ak_schedule.specs.declared.fault.LineFault.TheVariants.{Malformed, NotBuilt, NoMemory}
 use Rattle.ak_schedule.specs.declared.settings.Strategy.{Strategy}
-use Rattle.ak_schedule.specs.Settings.{IsListing, IsWithin}
-use Rattle.ak_schedule.specs.Draft.{RefusesValue, SpellsAddresses, MayFollow, SpellsNext}
+use Rattle.ak_schedule.specs.Settings.{IsListing}
+use Rattle.ak_schedule.specs.Draft.{RefusesValue, SpellsAddresses, SpellsNext}
 use Rattle.ak_schedule.specs.Schedule.{SpellsStrategy}
 
 -- the names up to here spell these addresses, and each list that all names spell begins with them

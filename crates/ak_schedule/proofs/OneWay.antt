@@ -1,6 +1,5 @@
 -- A line is read in one way at most.
 use Rattle.std.proofs.Common.{◌≡◌, ℕ, List, [], ◌∷◌, sym, ◌∙◌, ap, subst, refl, codes, arith}
-use Rattle.std.specs.Prelude.{Some, slice_get}
 use Rattle.std.specs.List.{AllZip}
 use Rattle.ak_address.specs.Unique.{Endpoint, Process}
 use Rattle.ak_address.specs.Spelling.{IsNumber, SpellsAddress, SpellsUnique}
@@ -11,7 +10,7 @@ use Rattle.ak_schedule.specs.declared.settings.Header as header
 use Rattle.ak_schedule.specs.declared.settings.Strategy.{Strategy}
 use Rattle.ak_schedule.specs.declared.settings.Strategy.TheVariants.{StaticQuorum, KeepMajority, DownAll}
 use Rattle.ak_schedule.specs.Settings.{Setup}
-use Rattle.ak_schedule.specs.Schedule.{headers, Sets, SetsHeader, SpellsEvent, SpellsWords, SpellsNumber, SpellsSetting, SpellsStrategy, SpellsListing}
+use Rattle.ak_schedule.specs.Schedule.{Sets, SetsHeader, SpellsEvent, SpellsWords, SpellsSetting, SpellsStrategy, SpellsListing}
 use Rattle.ak_schedule.specs.Draft.{Drafted, ReadsHeader}
 use Rattle.ak_schedule.specs.Line.{words}
 use Rattle.ak_schedule.specs.Kind.{kind_name}

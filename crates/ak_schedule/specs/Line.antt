@@ -1,6 +1,6 @@
 -- The lines of a recorded schedule and the words of a line (this project's format).
-use Rattle.std.specs.Prelude.{◌≡◌, ℕ, ◌+◌, ◌<◌, ◌≤◌, ◌⊎◌, Bool, true, false, ◌||◌, ◌&&◌, ◌==◌, not, List, [], ◌∷◌, filter, map, length, if◌then◌else◌}
-use Rattle.std.specs.List.{slice_split, list_all}
+use Rattle.std.specs.Prelude.{◌≡◌, ℕ, ◌+◌, ◌<◌, ◌≤◌, ◌⊎◌, Bool, true, false, ◌==◌, List, [], ◌∷◌, filter, map, length, if◌then◌else◌}
+use Rattle.std.specs.List.{slice_split}
 
 -- a list is not empty
 abbrev pub begins : List ℕ → Bool

@@ -1,7 +1,7 @@
 -- What a reader answers.
 use Rattle.std.specs.Prelude.{◌≡◌, ℕ, Result, Ok, Err, List, [], ◌∷◌}
-use Rattle.ak_address.specs.Unique.{Endpoint, Process}
-use Rattle.ak_address.specs.Spelling.{SpellsAddress, SpellsUnique}
+use Rattle.ak_address.specs.Unique.{Process}
+use Rattle.ak_address.specs.Spelling.{SpellsUnique}
 use Rattle.ak_schedule.specs.declared.fault.LineFault.{LineFault}
 use Rattle.ak_schedule.specs.declared.fault.LineFault.TheVariants.{Malformed, NotBuilt, NoMemory}
 

@@ -1,8 +1,8 @@
 -- The grammar of a recorded schedule: nine header lines and then events, one a line (this project's format).
-use Rattle.std.specs.Prelude.{◌≡◌, ℕ, ◌+◌, ◌-◌, ◌^◌, ◌<◌, ◌≤◌, List, [], ◌∷◌, ◌++◌, length, codes, Option, Some, None}
+use Rattle.std.specs.Prelude.{◌≡◌, ℕ, ◌-◌, ◌^◌, ◌<◌, ◌≤◌, List, [], ◌∷◌, ◌++◌, length, codes}
 use Rattle.std.specs.List.{AllZip, AllByRecursion}
 use Rattle.std.specs.Fmt.{decimal}
-use Rattle.ak_address.specs.Unique.{Endpoint, Process, IsAddress, IsUnique}
+use Rattle.ak_address.specs.Unique.{Endpoint, IsAddress, IsUnique}
 use Rattle.ak_address.specs.Spelling.{IsNumber, SpellsAddress, SpellsUnique, address_text, unique_text}
 use Rattle.ak_schedule.specs.declared.settings.Strategy.{Strategy}
 use Rattle.ak_schedule.specs.declared.settings.Strategy.TheVariants.{StaticQuorum, KeepMajority, DownAll}
@@ -10,7 +10,7 @@ use Rattle.ak_schedule.specs.declared.event.Event.{Event}
 use Rattle.ak_schedule.specs.declared.event.Event.TheVariants.{Start, Found, Join, Tick, Deliver, Leave, Down, Offer, Stop}
 use Rattle.ak_schedule.specs.declared.settings.Header as header
 use Rattle.ak_schedule.specs.Line.{words, most_bytes}
-use Rattle.ak_schedule.specs.Settings.{Setup, IsListing, IsWithin}
+use Rattle.ak_schedule.specs.Settings.{Setup, IsListing}
 
 -- a word is a number from least to most
 pub record SpellsNumber (word : List ℕ) (least most n : ℕ) : Type 0 where

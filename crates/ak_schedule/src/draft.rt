@@ -68,7 +68,7 @@ impl Draft {
         if line.len() > MOST_BYTES {
             return Err(LineFault::NotBuilt);
         }
-        self.next(alloc, line)
+        self.set_next(alloc, line)
     }
 
     /// The settings, exactly where all nine headers are read. Else the draft is given back.
@@ -108,7 +108,7 @@ impl Draft {
 
 impl Draft {
     // Sets the setting that is next.
-    fn next(&mut self, alloc: Global, line: &[u8]) -> Result<bool, LineFault>
+    fn set_next(&mut self, alloc: Global, line: &[u8]) -> Result<bool, LineFault>
         requires more { self.old.read < HEADERS }
         requires short { length line.now ≤ MOST_BYTES }
         ensures { HeaderAnswers result line.now self.old self.new }

@@ -1,6 +1,6 @@
-ghost use Rattle.std.specs.Prelude.{◌≡◌, ℕ, List};
+ghost use Rattle.std.specs.Prelude.{◌≡◌, ◌≢◌, ℕ, List, [], ◌∷◌, ◌++◌, All};
 ghost use Rattle.ak_schedule.specs.Draft.{Drafted, ReadsHeader};
-ghost use Rattle.ak_schedule.specs.Line.{IsPassedOver};
+ghost use Rattle.ak_schedule.specs.Line.{lines, words, without_cr, IsPassedOver};
 ghost use Rattle.ak_schedule.specs.Settings.{Setup};
 ghost use Rattle.ak_schedule.specs.Schedule.{SpellsEvent, SetsHeader, IsSpelled, IsEvent, event_text};
 
@@ -27,4 +27,25 @@ pub fn printed_events_are_read()
 pub fn passed_over_lines_spell_nothing()
     ensures events { (line : List ℕ) (e : Event) → IsPassedOver line → SpellsEvent line e → ⊥ }
     ensures headers { (which : Header) (line : List ℕ) (old new : Setup) → IsPassedOver line → SetsHeader which line old new → ⊥ }
+{}
+
+/// A line ends with its LF or with the text, and no line begins behind a last LF.
+pub fn lines_end_at_line_feeds()
+    ensures none { lines [] ≡ [] }
+    ensures ended { (line rest : List ℕ) → All (λ b. b ≢ 10) line → lines (line ++ 10 ∷ rest) ≡ without_cr line ∷ lines rest }
+    ensures last { (line : List ℕ) → All (λ b. b ≢ 10) line → line ≢ [] → lines line ≡ without_cr line ∷ [] }
+{}
+
+/// One CR at the end of a line is no part of it.
+pub fn a_carriage_return_is_dropped()
+    ensures dropped { (line : List ℕ) → without_cr (line ++ 13 ∷ []) ≡ line }
+    ensures others { (line : List ℕ) (b : ℕ) → b ≢ 13 → without_cr (line ++ b ∷ []) ≡ line ++ b ∷ [] }
+{}
+
+/// Words stand between spaces, of which there may be several, also at both ends.
+pub fn words_stand_between_spaces()
+    ensures none { words [] ≡ [] }
+    ensures space { (line : List ℕ) → words (32 ∷ line) ≡ words line }
+    ensures first { (word line : List ℕ) → All (λ b. b ≢ 32) word → word ≢ [] → words (word ++ 32 ∷ line) ≡ word ∷ words line }
+    ensures last { (word : List ℕ) → All (λ b. b ≢ 32) word → word ≢ [] → words word ≡ word ∷ [] }
 {}

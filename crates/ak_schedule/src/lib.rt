@@ -11,11 +11,16 @@ mod line;
 mod print;
 mod read;
 mod settings;
+#[cfg(test)]
+mod tests;
 
 pub use draft::Draft;
 pub use event::Event;
 pub use fault::LineFault;
-pub use laws::{lines_are_read_one_way, passed_over_lines_spell_nothing, printed_events_are_read};
+pub use laws::{
+    a_carriage_return_is_dropped, lines_are_read_one_way, lines_end_at_line_feeds,
+    passed_over_lines_spell_nothing, printed_events_are_read, words_stand_between_spaces,
+};
 pub use line::{MOST_BYTES, is_passed_over, next_line, next_word};
 pub use print::print_event;
 pub use read::read_line;

@@ -1,4 +1,4 @@
-use Rattle.std.proofs.Common.{◌≡◌, List, ℕ, Err, Result, subst}
+use Rattle.std.proofs.Common.{◌≡◌, Err, subst}
 use Rattle.ak_address.specs.Unique.{Endpoint}
 use Rattle.ak_address.specs.Spelling.{ReadsAs}
 use Rattle.ak_address.specs.declared.parse.AddressFault.{AddressFault}

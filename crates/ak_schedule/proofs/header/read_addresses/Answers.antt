@@ -3,7 +3,7 @@ use Rattle.std.proofs.lemmas.Grind.{common_steps}
 use Rattle.std.proofs.lemmas.Result.{err_from_is_err_and}
 use Rattle.ak_address.specs.Unique.{Endpoint}
 use Rattle.ak_schedule.specs.Line.{words}
-use Rattle.ak_schedule.specs.Draft.{RefusesValue, SpellsAddresses, SpellsNext}
+use Rattle.ak_schedule.specs.Draft.{RefusesValue, SpellsNext}
 use Rattle.ak_schedule.proofs.Listing.{SpelledSoFar, spelled_more, spelled_all, listing_refused}
 use Rattle.ak_schedule.proofs.header.read_addresses.Goals as goal
 

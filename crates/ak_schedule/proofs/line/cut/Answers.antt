@@ -1,4 +1,3 @@
-use Rattle.std.proofs.Common.{sym}
 use Rattle.ak_schedule.proofs.Cutting.{cut_at, cut_none}
 use Rattle.ak_schedule.proofs.line.cut.Goals as goal
 

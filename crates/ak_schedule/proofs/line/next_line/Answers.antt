@@ -1,4 +1,4 @@
-use Rattle.ak_schedule.proofs.Cutting.{line_cut, last_line}
+use Rattle.ak_schedule.proofs.Cutting.{line_cut}
 use Rattle.ak_schedule.proofs.line.next_line.Goals as goal
 
 pub returns-in-Some : goal.returns-in-Some

@@ -1,9 +1,8 @@
 use Rattle.ak_schedule.specs.Line.{words}
 use Rattle.ak_schedule.specs.Kind.{kind_name}
 use Rattle.ak_schedule.specs.declared.kind.Kind as kind
-use Rattle.ak_schedule.specs.Reading.{SpellsOne, SpellsTwo}
+use Rattle.ak_schedule.specs.Reading.{SpellsTwo}
 use Rattle.ak_schedule.specs.Schedule.{SpellsWords}
-use Rattle.ak_address.specs.Spelling.{SpellsUnique, SpellsAddress}
 use Rattle.std.proofs.Common.{◌∷◌}
 use Rattle.ak_schedule.proofs.EventWords.{refused, down_only}
 use Rattle.ak_schedule.proofs.read.read_down.Goals as goal
