@@ -1,12 +1,12 @@
 -- The orders of addresses and of processes are total, and only equal ones tie.
-use Rattle.std.proofs.Common.{◌≡◌, ℕ, List, ap}
+use Rattle.std.proofs.Common.{ℕ, List, ap}
 use Rattle.std.specs.Ordering.{nat_cmp}
 use Rattle.std.specs.Cmp.{IsTotalOrder}
 use Rattle.std.specs.Cmp.Lexicographic.{slice_cmp}
 use Rattle.std.specs.FinMap.{IsAntisymmetric}
 use Rattle.std.proofs.lemmas.Cmp.{on_total, then_total, nat_cmp_total, nat_list_cmp_total}
 use Rattle.std.proofs.lemmas.Map.Lookups.{exact_pairs, exact_bytes, exact_unsigned}
-use Rattle.ak_address.specs.Unique.{Endpoint, Process, address_cmp, unique_cmp}
+use Rattle.ak_address.specs.Unique.{Endpoint, address_cmp, unique_cmp}
 
 pub address_total : IsTotalOrder address_cmp
 address_total = then_total (on_total (λ a. a.host) nat_list_cmp_total) (on_total (λ a. a.port) nat_cmp_total)
