@@ -1,4 +1,4 @@
-ghost use Rattle.std.specs.Prelude.{◌≤◌, ◌<◌, ◌^◌};
+ghost use Rattle.std.specs.Prelude.{◌≤◌};
 
 use crate::address::{Address, Unique};
 use crate::table::Table;
@@ -7,16 +7,51 @@ use crate::uniques::Uniques;
 use std::alloc::{AllocError, Global};
 use std::test::Fail;
 
-fn process(alloc: Global, uid: u64) -> Result<Unique, AllocError>
-    requires low { 1 ≤ uid }
-    requires high { uid < 2 ^ 63 }
+fn process(alloc: Global, uid: u32) -> Result<Unique, AllocError>
+    requires { 1 ≤ uid }
 {
     let host = Text::from_bytes(alloc, b"a")?;
     let address = Address { host, port: 1 };
+    let uid = u64::from(uid);
     Ok(Unique { address, uid })
 }
 
-// The uid and the count at a place, or nothing but zeros past the end.
+// The table of these uids and counts, put in from the left.
+fn table_of(alloc: Global, rows: &[(u32, u64)]) -> Result<Table<u64>, AllocError> {
+    let mut table = Table::empty(alloc);
+    for &(uid, count) in rows {
+        if uid >= 1 {
+            let who = process(alloc, uid)?;
+            table.insert(who, count)?;
+        }
+    }
+    Ok(table)
+}
+
+fn merged(
+    alloc: Global,
+    left: &[(u32, u64)],
+    right: &[(u32, u64)],
+) -> Result<Table<u64>, AllocError> {
+    let left = table_of(alloc, left)?;
+    let right = table_of(alloc, right)?;
+    let mut both = left.copy(alloc)?;
+    both.merge(alloc, &right)?;
+    Ok(both)
+}
+
+fn set_of(alloc: Global, uids: &[u32]) -> Result<Uniques, AllocError> {
+    let mut set = Uniques::empty(alloc);
+    for &uid in uids {
+        if uid >= 1 {
+            let who = process(alloc, uid)?;
+            set.insert(alloc, &who)?;
+        }
+    }
+    set.copy(alloc)
+}
+
+// The uid and the count at a place, zeros past the end.
 fn row(table: &Table<u64>, place: usize) -> (u64, u64) {
     match table.at(place) {
         Some((who, count)) => (who.uid, *count),
@@ -32,35 +67,26 @@ fn uid(set: &Uniques, place: usize) -> u64 {
 }
 
 #[test]
-fn tables_and_sets_stand_in_order(rt: HostRuntime) -> Result<(), Fail> {
-    let alloc = rt.alloc();
-    let mut left = Table::empty(alloc);
-    left.insert(process(alloc, 3)?, 30)?;
-    left.insert(process(alloc, 1)?, 10)?;
-    left.insert(process(alloc, 3)?, 31)?;
-    assert_eq!(rt; row(&left, 0), (1, 10));
-    assert_eq!(rt; row(&left, 1), (3, 31));
-    assert_eq!(rt; row(&left, 2), (0, 0));
+fn tables_stand_in_order_and_merge(rt: HostRuntime) -> Result<(), Fail> {
+    let table = table_of(rt.alloc(), &[(3, 30), (1, 10), (3, 31)])?;
+    assert_eq!(rt;
+        [row(&table, 0), row(&table, 1), row(&table, 2)],
+        [(1, 10), (3, 31), (0, 0)]
+    );
+    let both = merged(rt.alloc(), &[(3, 31), (1, 10)], &[(3, 29), (2, 20)])?;
+    assert_eq!(rt;
+        [row(&both, 0), row(&both, 1), row(&both, 2)],
+        [(1, 10), (2, 20), (3, 31)]
+    );
+    Ok(())
+}
 
-    let mut right = left.copy(alloc)?;
-    right.remove(&process(alloc, 1)?);
-    right.insert(process(alloc, 2)?, 20)?;
-    right.insert(process(alloc, 3)?, 29)?;
-    left.merge(alloc, &right)?;
-    assert_eq!(rt; left.len(), 3);
-    assert_eq!(rt; row(&left, 1), (2, 20));
-    assert_eq!(rt; row(&left, 2), (3, 31));
-    assert_eq!(rt; right.len(), 2);
-
-    let mut set = Uniques::empty(alloc);
-    set.insert(alloc, &process(alloc, 2)?)?;
-    set.insert(alloc, &process(alloc, 1)?)?;
-    set.insert(alloc, &process(alloc, 2)?)?;
-    let copy = set.copy(alloc)?;
-    set.remove(&process(alloc, 1)?);
-    assert_eq!(rt; copy.len(), 2);
-    assert_eq!(rt; uid(&copy, 0), 1);
-    assert!(rt; !set.contains(&process(alloc, 1)?));
-    assert!(rt; set.contains(&process(alloc, 2)?));
+#[test]
+fn sets_stand_in_order(rt: HostRuntime) -> Result<(), Fail> {
+    let mut set = set_of(rt.alloc(), &[2, 1, 2])?;
+    assert_eq!(rt; [uid(&set, 0), uid(&set, 1), uid(&set, 2)], [1, 2, 0]);
+    let first = process(rt.alloc(), 1)?;
+    set.remove(&first);
+    assert!(rt; !set.contains(&first));
     Ok(())
 }

@@ -1,14 +1,14 @@
 -- What versions count after a merge and a bump, and the order that covering is.
-use Rattle.std.proofs.Common.{◌≡◌, ◌≢◌, ℕ, zero, suc, ◌+◌, ◌<◌, ◌≤◌, max, leb, Bool, true, false, cond, ◌&&◌, ◌↔◌, ◌⊎◌, inl, inr, T, List, [], ◌∷◌, Option, Some, None, is_some, unwrap_or, slice_get, Result, Ok, Err, OnOk, OnErr, refl, sym, ap, ◌∙◌, subst, arith, true≢false, leb-true, le-leb}
+use Rattle.std.proofs.Common.{◌≡◌, ◌≢◌, ℕ, zero, suc, ◌+◌, ◌<◌, ◌≤◌, max, leb, Bool, true, false, ◌&&◌, ◌↔◌, inl, inr, T, List, [], ◌∷◌, Option, Some, None, is_some, unwrap_or, slice_get, Result, Ok, Err, OnOk, OnErr, refl, sym, ap, ◌∙◌, subst, arith, true≢false, leb-true, le-leb}
 use Rattle.std.specs.List.{list_all}
 use Rattle.std.specs.FinMap as map
-use Rattle.ak_address.specs.Unique.{Process, unique_cmp}
-use Rattle.ak_address.specs.Table.{joined_at, joined}
+use Rattle.ak_address.specs.Unique.{Process}
+use Rattle.ak_address.specs.Table.{joined_at}
 use Rattle.ak_address.proofs.TableLaws.{same_table, get-empty, get-insert_here, get-insert_elsewhere, get-joined, get_at, place_of_get, same_or_apart}
 use Rattle.ak_clock.specs.declared.version.TheConstants.{BOUND}
 use Rattle.ak_clock.specs.declared.version.Relation.{Relation}
 use Rattle.ak_clock.specs.declared.version.Relation.TheVariants.{Same, Before, After, Concurrent}
-use Rattle.ak_clock.specs.Version.{Counts, count, IsVersion, Covers, IsBelow, Relates, covers, relation_by, relation, merged, bumped}
+use Rattle.ak_clock.specs.Version.{Counts, count, IsVersion, Covers, Relates, covers, relation_by, relation, merged, bumped}
 
 -- ---- one process
 max_at : (a b : Option ℕ) → unwrap_or (joined_at max a b) 0 ≡ max (unwrap_or a 0) (unwrap_or b 0)

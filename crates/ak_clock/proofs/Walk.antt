@@ -1,10 +1,10 @@
 -- The walk along two lists of counts answers whether the first covers the second.
-use Rattle.std.proofs.Common.{◌≡◌, ◌≢◌, ℕ, zero, suc, ◌+◌, ◌<◌, ◌≤◌, leb, Bool, true, false, cond, not, ◌&&◌, T, List, [], ◌∷◌, drop, length, Option, Some, None, is_some, is_none, drop_of_length-le, unwrap_or, option_map, slice_get, refl, sym, ap, ◌∙◌, subst, arith, true≢false, leb-true, le-leb}
+use Rattle.std.proofs.Common.{◌≡◌, ◌≢◌, ℕ, zero, suc, ◌+◌, ◌<◌, ◌≤◌, leb, Bool, true, false, cond, not, ◌&&◌, T, List, [], ◌∷◌, drop, Option, Some, None, is_some, is_none, drop_of_length-le, unwrap_or, option_map, slice_get, refl, sym, ap, ◌∙◌, subst, arith, true≢false, leb-true, le-leb}
 use Rattle.std.specs.declared.cmp.Ordering.{Ordering}
 use Rattle.std.specs.declared.cmp.Ordering.TheVariants.{Less, Equal, Greater}
 use Rattle.std.specs.List.{list_all}
-use Rattle.std.specs.Ordering.{is_lt, is_eq, is_gt, ordering_reverse, eq_by_cmp}
-use Rattle.std.specs.Cmp.{tied_itself, tied_back}
+use Rattle.std.specs.Ordering.{is_lt, is_eq, is_gt, ordering_reverse}
+use Rattle.std.specs.Cmp.{tied_back}
 use Rattle.std.specs.FinMap as map
 use Rattle.std.specs.FinMap.Entries.{by_order, below_all, find}
 use Rattle.ak_address.specs.Unique.{Process, unique_cmp}

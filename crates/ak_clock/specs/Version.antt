@@ -1,6 +1,6 @@
 -- Versions (Akka's Cluster Specification, "Gossip": vector clocks): for each process, how many entries of its
 -- history are seen.
-use Rattle.std.specs.Prelude.{◌≡◌, ◌≢◌, ℕ, ◌+◌, ◌≤◌, max, Bool, true, false, List, Some, unwrap_or, nat_le}
+use Rattle.std.specs.Prelude.{◌≡◌, ◌≢◌, ℕ, ◌+◌, ◌≤◌, max, Bool, true, false, Some, unwrap_or, nat_le}
 use Rattle.std.specs.List.{list_all}
 use Rattle.std.specs.FinMap as map
 use Rattle.ak_address.specs.Unique.{Process, unique_cmp}

@@ -1,4 +1,4 @@
-ghost use Rattle.std.specs.Prelude.{◌≡◌, ◌≢◌, ℕ, ◌+◌, ◌≤◌, ◌↔◌, max};
+ghost use Rattle.std.specs.Prelude.{◌≡◌, ◌≢◌, ◌+◌, ◌↔◌, max};
 ghost use Rattle.ak_address.specs.Unique.{Process};
 ghost use Rattle.ak_clock.specs.Version.{Counts, count, Covers, IsVersion, relation, Relates, merged, bumped};
 

@@ -1,6 +1,5 @@
-ghost use Rattle.std.specs.Prelude.{◌≡◌, ◌≢◌, ℕ, ◌+◌, ◌<◌, ◌≤◌, ◌↔◌, Some, IfOk, OnOk, OnErr, IfSome, IsTrue, slice_get, option_map};
+ghost use Rattle.std.specs.Prelude.{◌≡◌, ◌+◌, ◌<◌, ◌≤◌, ◌↔◌, IfOk, OnOk, OnErr, IfSome, IsTrue, slice_get, option_map};
 ghost use Rattle.std.specs.FinMap as map;
-ghost use Rattle.ak_address.specs.Unique.{Process};
 ghost use Rattle.ak_clock.specs.Version.{count, covers, Covers, relation, relation_by, Relates, merged, bumped};
 ghost use Rattle.ak_clock.specs.Walk.{reached};
 

@@ -1,20 +1,19 @@
-ghost use Rattle.std.specs.Prelude.{◌≤◌, ◌<◌, ◌^◌};
+ghost use Rattle.std.specs.Prelude.{◌≤◌};
 
 use crate::version::{BOUND, Relation, Version};
 use ak_address::{Address, Text, Unique};
 use std::alloc::{AllocError, Global};
 use std::test::Fail;
 
-fn process(alloc: Global, uid: u64) -> Result<Unique, AllocError>
-    requires low { 1 ≤ uid }
-    requires high { uid < 2 ^ 63 }
+fn process(alloc: Global, uid: u32) -> Result<Unique, AllocError>
+    requires { 1 ≤ uid }
 {
     let host = Text::from_bytes(alloc, b"a")?;
     let address = Address { host, port: 1 };
+    let uid = u64::from(uid);
     Ok(Unique { address, uid })
 }
 
-// As many entries of the process again.
 fn bump_by(
     alloc: Global,
     version: &mut Version,
@@ -30,11 +29,27 @@ fn bump_by(
 }
 
 // The version that has seen this many entries of two processes.
-fn seen(alloc: Global, first: u64, second: u64) -> Result<Version, AllocError> {
+fn seen(alloc: Global, entries: (u64, u64)) -> Result<Version, AllocError> {
     let mut version = Version::empty(alloc);
-    bump_by(alloc, &mut version, &process(alloc, 1)?, first)?;
-    bump_by(alloc, &mut version, &process(alloc, 2)?, second)?;
+    let first = process(alloc, 1)?;
+    let second = process(alloc, 2)?;
+    bump_by(alloc, &mut version, &second, entries.1)?;
+    bump_by(alloc, &mut version, &first, entries.0)?;
     Ok(version)
+}
+
+fn relation(alloc: Global, left: (u64, u64), right: (u64, u64)) -> Result<Relation, AllocError> {
+    let left = seen(alloc, left)?;
+    let right = seen(alloc, right)?;
+    Ok(left.compare(&right))
+}
+
+fn merged(alloc: Global, left: (u64, u64), right: (u64, u64)) -> Result<Version, AllocError> {
+    let left = seen(alloc, left)?;
+    let right = seen(alloc, right)?;
+    let mut both = left.copy(alloc)?;
+    both.merge(alloc, &right)?;
+    Ok(both)
 }
 
 fn row(version: &Version, place: usize) -> (u64, u64) {
@@ -45,24 +60,29 @@ fn row(version: &Version, place: usize) -> (u64, u64) {
 }
 
 #[test]
-fn versions_are_compared_and_merged(rt: HostRuntime) -> Result<(), Fail> {
-    let alloc = rt.alloc();
-    let mut x = seen(alloc, 2, 1)?;
-    let y = seen(alloc, 1, 2)?;
-    let nothing = seen(alloc, 0, 0)?;
-    assert_eq!(rt; x.compare(&y), Relation::Concurrent);
-    assert_eq!(rt; nothing.compare(&x), Relation::Before);
-    assert_eq!(rt; x.compare(&nothing), Relation::After);
-    assert_eq!(rt; x.compare(&x.copy(alloc)?), Relation::Same);
-    assert_eq!(rt; seen(alloc, 0, 1)?.compare(&x), Relation::Before);
+fn versions_are_compared(rt: HostRuntime) -> Result<(), Fail> {
+    let cases = [
+        ((2, 1), (1, 2), Relation::Concurrent),
+        ((0, 0), (2, 1), Relation::Before),
+        ((2, 1), (0, 0), Relation::After),
+        ((0, 1), (2, 1), Relation::Before),
+        ((2, 1), (2, 0), Relation::After),
+        ((0, 3), (1, 0), Relation::Concurrent),
+        ((2, 1), (2, 1), Relation::Same),
+    ];
+    for (left, right, wanted) in cases {
+        assert_eq!(rt; relation(rt.alloc(), left, right)?, wanted);
+    }
+    Ok(())
+}
 
-    x.merge(alloc, &y)?;
-    assert_eq!(rt; x.len(), 2);
-    assert_eq!(rt; row(&x, 0), (1, 2));
-    assert_eq!(rt; row(&x, 1), (2, 2));
-    assert_eq!(rt; row(&x, 2), (0, 0));
-    assert!(rt; x.covers(&y));
-    assert!(rt; !y.covers(&x));
-    assert_eq!(rt; nothing.count(&process(alloc, 1)?), 0);
+#[test]
+fn versions_are_merged(rt: HostRuntime) -> Result<(), Fail> {
+    let cases = [((2, 1), (1, 2), (2, 2)), ((0, 3), (1, 0), (1, 3))];
+    for (left, right, wanted) in cases {
+        let both = merged(rt.alloc(), left, right)?;
+        assert_eq!(rt; row(&both, 0), (1, wanted.0));
+        assert_eq!(rt; row(&both, 1), (2, wanted.1));
+    }
     Ok(())
 }

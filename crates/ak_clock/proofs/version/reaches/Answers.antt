@@ -1,4 +1,4 @@
-use Rattle.std.proofs.Common.{◌≡◌, ◌≤◌, ◌<◌, ◌+◌, length, drop, Some, None, Less, Equal, Greater, sym, ap, ◌∙◌, arith}
+use Rattle.std.proofs.Common.{◌≤◌, ◌+◌, drop, sym, ap, ◌∙◌, arith}
 use Rattle.std.specs.FinMap as map
 use Rattle.ak_clock.specs.Walk.{reached}
 use Rattle.ak_clock.proofs.Walk.{reached_end, reached_nothing, reached_less, reached_equal, reached_short, reached_greater, reached_last, is_greater, is_equal, is_less}

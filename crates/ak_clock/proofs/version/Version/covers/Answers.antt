@@ -1,5 +1,5 @@
-use Rattle.std.proofs.Common.{◌≡◌, true, sym, subst, ◌∙◌}
-use Rattle.ak_clock.specs.Version.{covers, Covers}
+use Rattle.std.proofs.Common.{◌≡◌, sym, ◌∙◌}
+use Rattle.ak_clock.specs.Version.{covers}
 use Rattle.ak_clock.proofs.VersionLaws.{covers_from_test, test_from_covers}
 use Rattle.ak_clock.proofs.Walk.{walk_covers}
 use Rattle.ak_clock.proofs.version.Version.covers.Goals as goal
