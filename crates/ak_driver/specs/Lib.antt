@@ -6,4 +6,5 @@ pub mod NodeWords
 pub mod ReplayText
 pub mod StepText
 pub mod World
+pub mod Worked
 pub mod WorldWords

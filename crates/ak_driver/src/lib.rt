@@ -9,6 +9,7 @@ pub mod node;
 mod replay;
 pub mod report;
 pub mod wire;
+mod worked;
 pub mod world;
 
 use ak_address::Text;
@@ -16,6 +17,7 @@ pub use ak_outside::Status;
 use ak_outside::{Sink, Source, write_all};
 pub use replay::run_replay;
 use std::alloc::Global;
+pub use worked::worked_schedules;
 
 // The one word is `replay`.
 fn is_replay(words: &[Text]) -> bool {

@@ -1,0 +1,310 @@
+-- The text of two schedules, from the definitions.
+use Rattle.std.proofs.Common.{◌≡◌, ℕ, ◌+◌, ◌^◌, ◌<◌, ◌≤◌, ◌⊎◌, List, [], ◌∷◌, ◌++◌, length, refl, sym, subst, ap, ◌∙◌, inl, inr, arith, lit<, lit≤, Some, None, Ok, Err, Bool, true, false, not, ◌&&◌, cond, zero, suc, ◌≢◌, get_or, unwrap_or, if◌then◌else◌}
+use Rattle.std.specs.Prelude.{codes, slice_get, IfSome, IsTrue}
+use Rattle.std.specs.Fmt.{digits, decimal}
+use Rattle.std.specs.Prelude.{nat_le, map as list_map}
+use Rattle.std.specs.List.{AllZip, AllByRecursion, AllPairs, list_all}
+use Rattle.std.specs.FinMap as map
+use Rattle.ak_address.specs.Uniques.{no_one, with_one}
+use Rattle.ak_address.proofs.TableLaws.{get-empty, entries-insert-empty}
+use Rattle.ak_address.proofs.UniquesLaws.{has-no_one}
+use Rattle.ak_clock.specs.Version.{count, covers, relation_by}
+use Rattle.ak_address.specs.Unique.{Endpoint, Process, IsHost, IsAddress, IsUnique}
+use Rattle.ak_address.specs.Spelling.{SpellsAddress, IsNumber, address_text}
+use Rattle.ak_address.proofs.Spelled.{number_text_spells, address_text_spells}
+use Rattle.ak_schedule.specs.declared.settings.Strategy.{Strategy}
+use Rattle.ak_schedule.specs.declared.settings.Strategy.TheVariants.{StaticQuorum}
+use Rattle.ak_schedule.specs.declared.settings.Header as header
+use Rattle.ak_schedule.specs.declared.event.Event.{Event}
+use Rattle.ak_schedule.specs.declared.event.Event.TheVariants.{Start, Found}
+use Rattle.ak_schedule.specs.Line.{words, most_bytes}
+use Rattle.ak_schedule.specs.Settings.{Setup, IsListing, IsWithin}
+use Rattle.ak_schedule.specs.Schedule.{headers, Sets, SetsHeader, SpellsEvent, SpellsListing, SpellsStrategy, SpellsSetting, SpellsNumber, event_text}
+use Rattle.ak_schedule.proofs.Canonical.{canonical}
+use Rattle.ak_schedule.proofs.PassedOver.{no_event, no_header}
+use Rattle.ak_driver.specs.declared.member.Effect.TheVariants.{Joined}
+use Rattle.ak_driver.specs.declared.node.State.{State}
+use Rattle.ak_driver.specs.declared.node.Action.{Action}
+use Rattle.ak_driver.specs.declared.node.Action as action
+use Rattle.ak_driver.specs.declared.node.NodeEvent as event
+use Rattle.ak_driver.specs.Gossip.{GossipState}
+use Rattle.ak_driver.specs.Node.{Outcome, started, nothing, update, closed, step, is_same, is_other}
+use Rattle.ak_driver.specs.StepText.{step_text, listed_text, count_text, member_text, view_text, item}
+use Rattle.ak_driver.specs.World.{WorldState, Done, empty_world, happens, stepped}
+use Rattle.ak_driver.specs.ReplayText.{Progress, Judgement, Judged, GoesOn, Replays, at_start, unset, IsReplay, most_lines, most_events}
+use Rattle.ak_driver.specs.ReplayText as replay
+use Rattle.ak_driver.specs.Worked.{text_of, and_limits, empty_schedule, empty_text, founding_schedule, founding_text}
+
+-- so many headers are read, and nothing has happened
+abbrev headed : ℕ → Setup → Progress
+headed n setup = record { line = n + 1; headers = n; setup = setup; world = empty_world; steps = 0 }
+
+-- a header line sets its setting, and the replay goes on
+header_line : (n : ℕ) (old new : Setup) (line : List ℕ) (rest : List (List ℕ)) (which : header.Header) (status : ℕ) (text : List ℕ)
+    → n < 9 → slice_get headers n ≡ Some which → SetsHeader which line old new
+    → Replays (headed (n + 1) new) rest status text → Replays (headed n old) (line ∷ rest) status text
+header_line n old new line rest which status text few next sets more = (
+  replay.Sets new,
+  (
+    record { in_limit = omega arith; not_passed = λ passed. no_header which line old new passed sets; heading = few },
+    subst (λ o. IfSome o (λ w. SetsHeader w line old new)) (sym next) sets,
+  ),
+  more,
+)
+
+-- a number in its canonical text
+number : (n most : ℕ) → 1 ≤ n → n ≤ most → most < 2 ^ 64 → SpellsNumber (decimal n) 1 most n
+number n most low high fits = record { number = number_text_spells n (omega arith); from = low; to = high }
+
+-- a setting whose line is its name and its number
+setting : (name : List ℕ) (most n : ℕ) (line : List ℕ) → words line ≡ name ∷ decimal n ∷ [] → 1 ≤ n → n ≤ most → most < 2 ^ 64 → SpellsSetting name most (words line) n
+setting name most n line is low high fits = (decimal n, is, number n most low high fits)
+
+abbrev with_margin : Setup → Setup
+with_margin s = record s { margin = 2 }
+
+abbrev with_deadline : Setup → Setup
+with_deadline s = record s { deadline = 9 }
+
+abbrev with_stable : Setup → Setup
+with_stable s = record s { stable = 9 }
+
+abbrev with_shards : Setup → Setup
+with_shards s = record s { shards = 10 }
+
+abbrev with_buffer : Setup → Setup
+with_buffer s = record s { buffer = 2 }
+
+abbrev with_threshold : Setup → Setup
+with_threshold s = record s { threshold = 1 }
+
+abbrev with_limit : Setup → Setup
+with_limit s = record s { limit = 1 }
+
+-- the settings of both schedules, but for addresses and strategy
+abbrev limited : List Endpoint → Strategy → Setup
+limited listed strategy = record { listed = listed; strategy = strategy; margin = 2; deadline = 9; stable = 9; shards = 10; buffer = 2; threshold = 1; limit = 1 }
+
+-- lines without their first
+abbrev behind : List (List ℕ) → List (List ℕ)
+behind [] = []
+behind (line ∷ lines) = lines
+
+limit_lines : (s : Setup) (rest : List (List ℕ)) (status : ℕ) (text : List ℕ)
+    → Replays (headed 9 (limited s.listed s.strategy)) rest status text → Replays (headed 2 s) (and_limits rest) status text
+unfolding digits
+limit_lines s rest status text more =
+    let l3 = behind (and_limits rest) in
+    let l4 = behind l3 in
+    let l5 = behind l4 in
+    let l6 = behind l5 in
+    let l7 = behind l6 in
+    let l8 = behind l7 in
+    let s_margin : Setup = with_margin s in
+    let s_deadline : Setup = with_deadline s_margin in
+    let s_stable : Setup = with_stable s_deadline in
+    let s_shards : Setup = with_shards s_stable in
+    let s_buffer : Setup = with_buffer s_shards in
+    let s_threshold : Setup = with_threshold s_buffer in
+    header_line 2 s s_margin (codes "margin 2") l3 header.TheVariants.Margin status text (lit< tt) refl
+    (record { short = lit≤ tt; words = (2, setting (codes "margin") 1000000 2 (codes "margin 2") refl (lit≤ tt) (lit≤ tt) (lit< tt), refl) })
+    (header_line 3 s_margin s_deadline (codes "deadline 9") l4 header.TheVariants.Deadline status text (lit< tt) refl
+    (record { short = lit≤ tt; words = (9, setting (codes "deadline") 1000000 9 (codes "deadline 9") refl (lit≤ tt) (lit≤ tt) (lit< tt), refl) })
+    (header_line 4 s_deadline s_stable (codes "stable 9") l5 header.TheVariants.Stable status text (lit< tt) refl
+    (record { short = lit≤ tt; words = (9, setting (codes "stable") 1000000 9 (codes "stable 9") refl (lit≤ tt) (lit≤ tt) (lit< tt), refl) })
+    (header_line 5 s_stable s_shards (codes "shards 10") l6 header.TheVariants.Shards status text (lit< tt) refl
+    (record { short = lit≤ tt; words = (10, setting (codes "shards") 1000 10 (codes "shards 10") refl (lit≤ tt) (lit≤ tt) (lit< tt), refl) })
+    (header_line 6 s_shards s_buffer (codes "buffer 2") l7 header.TheVariants.Buffer status text (lit< tt) refl
+    (record { short = lit≤ tt; words = (2, setting (codes "buffer") 100000 2 (codes "buffer 2") refl (lit≤ tt) (lit≤ tt) (lit< tt), refl) })
+    (header_line 7 s_buffer s_threshold (codes "threshold 1") l8 header.TheVariants.Threshold status text (lit< tt) refl
+    (record { short = lit≤ tt; words = (1, setting (codes "threshold") 1000 1 (codes "threshold 1") refl (lit≤ tt) (lit≤ tt) (lit< tt), refl) })
+    (header_line 8 s_threshold (limited s.listed s.strategy) (codes "limit 1") rest header.TheVariants.Limit status text (lit< tt) refl
+    (record { short = lit≤ tt; words = (1, setting (codes "limit") 1000 1 (codes "limit 1") refl (lit≤ tt) (lit≤ tt) (lit< tt), refl) })
+    more))))))
+
+-- the first two headers
+first_lines : (listing strategy : List ℕ) (listed : List Endpoint) (quorum : ℕ) (rest : List (List ℕ)) (status : ℕ) (text : List ℕ)
+    → length listing ≤ most_bytes → SpellsListing (words listing) listed
+    → length strategy ≤ most_bytes → SpellsStrategy (words strategy) (StaticQuorum quorum)
+    → Replays (headed 9 (limited listed (StaticQuorum quorum))) rest status text → Replays at_start (listing ∷ strategy ∷ and_limits rest) status text
+first_lines listing strategy listed quorum rest status text short spelled short' spelled' more =
+    header_line 0 unset (record unset { listed = listed }) listing (strategy ∷ and_limits rest) header.TheVariants.Listed status text (lit< tt) refl
+    (record { short = short; words = (listed, spelled, refl) })
+    (header_line 1 (record unset { listed = listed }) (record unset { listed = listed; strategy = StaticQuorum quorum }) strategy (and_limits rest) header.TheVariants.Strategy status text (lit< tt) refl
+    (record { short = short'; words = (StaticQuorum quorum, spelled', refl) })
+    (limit_lines (record unset { listed = listed; strategy = StaticQuorum quorum }) rest status text more))
+
+-- the two addresses
+abbrev at_a : Endpoint
+at_a = record { host = codes "a"; port = 1 }
+
+abbrev at_b : Endpoint
+at_b = record { host = codes "b"; port = 1 }
+
+is_a : IsAddress at_a
+is_a = record { host = record { not_empty = lit≤ tt; short = lit≤ tt; letters = refl }; port = lit≤ tt; port_fits = lit< tt }
+
+is_b : IsAddress at_b
+is_b = record { host = record { not_empty = lit≤ tt; short = lit≤ tt; letters = refl }; port = lit≤ tt; port_fits = lit< tt }
+
+listing_a : SpellsListing (words (codes "listed a:1")) (at_a ∷ [])
+unfolding digits
+listing_a = (
+  codes "a:1" ∷ [],
+  refl,
+  (address_text_spells at_a is_a, tt),
+  record {
+    count = record { from = lit≤ tt; to = lit≤ tt };
+    addresses = (is_a, tt);
+    different = λ i j d lt in_range. absurd (omega arith);
+  },
+)
+
+strategy_of : (quorum : ℕ) (line : List ℕ) → words line ≡ codes "strategy" ∷ codes "static-quorum" ∷ decimal quorum ∷ [] → 1 ≤ quorum → quorum ≤ 32 → SpellsStrategy (words line) (StaticQuorum quorum)
+strategy_of quorum line is low high = (decimal quorum, is, number quorum 32 low high (lit< tt))
+
+pub empty : IsReplay empty_schedule 0 empty_text
+unfolding digits
+empty =
+    first_lines (codes "listed a:1") (codes "strategy static-quorum 1") (at_a ∷ []) 1 [] 0 empty_text
+    (lit≤ tt) listing_a (lit≤ tt) (strategy_of 1 (codes "strategy static-quorum 1") refl (lit≤ tt) (lit≤ tt))
+    (inl (lit≤ tt, refl, refl))
+
+-- two different addresses
+two_different : (a b : Endpoint) → a ≢ b → AllPairs (λ x y. x ≢ y) (a ∷ b ∷ [])
+two_different a b differ zero zero d lt in_range = absurd (omega arith)
+two_different a b differ zero (suc zero) d lt in_range = differ
+two_different a b differ zero (suc (suc j)) d lt in_range = absurd (omega arith)
+two_different a b differ (suc i) j d lt in_range = absurd (omega arith)
+
+a_is_not_b : at_a ≢ at_b
+a_is_not_b same = omega (arith, ap (λ x. get_or x.host 0 0) same)
+
+listing_ab : SpellsListing (words (codes "listed a:1 b:1")) (at_a ∷ at_b ∷ [])
+unfolding digits
+listing_ab = (
+  codes "a:1" ∷ codes "b:1" ∷ [],
+  refl,
+  (address_text_spells at_a is_a, (address_text_spells at_b is_b, tt)),
+  record {
+    count = record { from = lit≤ tt; to = lit≤ tt };
+    addresses = (is_a, (is_b, tt));
+    different = two_different at_a at_b a_is_not_b;
+  },
+)
+
+-- the two processes
+abbrev a_1 : Process
+a_1 = record { address = at_a; uid = 1 }
+
+abbrev b_1 : Process
+b_1 = record { address = at_b; uid = 1 }
+
+is_a_1 : IsUnique a_1
+is_a_1 = record { address = is_a; uid = lit≤ tt; uid_fits = lit< tt }
+
+is_b_1 : IsUnique b_1
+is_b_1 = record { address = is_b; uid = lit≤ tt; uid_fits = lit< tt }
+
+-- an event line is a step, and the replay goes on
+event_line : (p : Progress) (line : List ℕ) (rest : List (List ℕ)) (e : Event) (done : Done) (status : ℕ) (more text : List ℕ)
+    → p.line ≤ most_lines → 9 ≤ p.headers → p.steps < most_events → SpellsEvent line e → happens p.setup e p.world ≡ Ok done
+    → Replays (record p { line = p.line + 1; steps = p.steps + 1; world = done.world }) rest status more
+    → text ≡ step_text (length p.world.packets + 1) (p.steps + 1) e done ++ more
+    → Replays p (line ∷ rest) status text
+event_line p line rest e done status more text limit whole few spelled happened goes is = (
+  replay.Steps e done,
+  (record { in_limit = limit; not_passed = λ passed. no_event line e passed spelled; running = whole }, few, spelled, happened),
+  (more, goes, is),
+)
+
+abbrev settled : Setup
+settled = limited (at_a ∷ at_b ∷ []) (StaticQuorum 2)
+
+abbrev node_a : State
+node_a = started a_1 settled
+
+abbrev node_b : State
+node_b = started b_1 settled
+
+abbrev one_started : WorldState
+one_started = record empty_world { nodes = node_a ∷ [] }
+
+abbrev both_started : WorldState
+both_started = record empty_world { nodes = node_a ∷ node_b ∷ [] }
+
+-- what the founder knows then
+abbrev founders_gossip : GossipState
+founders_gossip = record { version = map.insert map.empty a_1 1; members = with_one no_one a_1; seen = with_one no_one a_1 }
+
+abbrev founder_a : State
+founder_a = record node_a { steps = 1; founder = true; gossip = founders_gossip }
+
+abbrev founding : List Action
+founding = action.TheVariants.Update 1 (Joined a_1 ∷ []) ∷ action.TheVariants.View ∷ []
+
+none_counted : count map.empty a_1 + 1 ≡ 1
+none_counted = ap (λ o. unwrap_or o 0 + 1) (get-empty a_1)
+
+not_same : (b : Bool) → not (is_same (relation_by false b)) ≡ true
+not_same true = refl
+not_same false = refl
+
+not_covered : covers map.empty (map.insert map.empty a_1 1) ≡ false
+unfolding covers
+not_covered =
+    ap (list_all (λ row. nat_le row.1 (count map.empty row.0))) (entries-insert-empty a_1 1)
+    ∙ ap (λ o. nat_le 1 (unwrap_or o 0) && true) (get-empty a_1)
+
+other : is_other map.empty (map.insert map.empty a_1 1) ≡ true
+other = ap (λ b. not (is_same (relation_by b (covers (map.insert map.empty a_1 1) map.empty)))) not_covered ∙ not_same _
+
+abbrev updated_by : ℕ → Outcome
+updated_by number = (
+  record node_a { steps = 1; founder = true; gossip = record founders_gossip { version = map.insert map.empty a_1 number } },
+  action.TheVariants.Update number (Joined a_1 ∷ []) ∷ [],
+)
+
+founds : step event.TheVariants.Found node_a ≡ (founder_a, founding)
+founds =
+    ap (λ b. closed node_a (if b then nothing (record node_a { steps = 1 }) else update (Joined a_1 ∷ []) (record node_a { steps = 1; founder = true }))) (has-no_one a_1)
+    ∙ ap (λ number. closed node_a (updated_by number)) none_counted
+    ∙ ap (λ b. if b then (founder_a, founding) else updated_by 1) other
+
+abbrev founded : Done
+founded = stepped 0 (founder_a, founding) (record both_started { founded = true })
+
+abbrev view_with : List (Process × ℕ) → List (Process × Unit {0}) → List ℕ
+view_with rows keys = codes "view " ++ listed_text (list_map count_text rows) ++ codes " | " ++ listed_text (list_map member_text (list_map (λ e. e.0) keys)) ++ codes " | -"
+
+view_is : view_text founders_gossip ≡ codes "view a:1#1=1 | a:1#1 joining | -"
+unfolding digits
+view_is =
+    ap (λ rows. view_with rows (map.entries (with_one no_one a_1))) (entries-insert-empty a_1 1)
+    ∙ ap (view_with ((a_1, 1) ∷ [])) (entries-insert-empty a_1 tt)
+
+abbrev summary : List ℕ
+summary = text_of (codes "steps 3" ∷ codes "packets 0" ∷ codes "history 1" ∷ codes "margin kept" ∷ codes "doubles none" ∷ [])
+
+abbrev third_with : List ℕ → List ℕ
+third_with view =
+    codes "3 found a:1#1" ++ 10 ∷ [] ++ (item (codes "update 1 joined a:1#1") ++ (item view ++ [])) ++ summary
+
+pub founding_text_is : IsReplay founding_schedule 0 founding_text
+unfolding digits
+founding_text_is =
+    first_lines (codes "listed a:1 b:1") (codes "strategy static-quorum 2") (at_a ∷ at_b ∷ []) 2 (codes "start a:1#1" ∷ codes "start b:1#1" ∷ codes "found a:1#1" ∷ []) 0 founding_text
+    (lit≤ tt) listing_ab (lit≤ tt) (strategy_of 2 (codes "strategy static-quorum 2") refl (lit≤ tt) (lit≤ tt))
+    (event_line (headed 9 settled) (codes "start a:1#1") (codes "start b:1#1" ∷ codes "found a:1#1" ∷ []) (Start a_1) (record { world = one_started; node = Some 0; actions = [] }) 0
+    (text_of (codes "2 start b:1#1" ∷ []) ++ third_with (codes "view a:1#1=1 | a:1#1 joining | -")) founding_text
+    (lit≤ tt) (lit≤ tt) (lit< tt) (canonical (Start a_1) is_a_1) refl
+    (event_line (record { line = 11; headers = 9; setup = settled; world = one_started; steps = 1 }) (codes "start b:1#1") (codes "found a:1#1" ∷ []) (Start b_1) (record { world = both_started; node = Some 1; actions = [] }) 0
+    (third_with (codes "view a:1#1=1 | a:1#1 joining | -")) (text_of (codes "2 start b:1#1" ∷ []) ++ third_with (codes "view a:1#1=1 | a:1#1 joining | -"))
+    (lit≤ tt) (lit≤ tt) (lit< tt) (canonical (Start b_1) is_b_1) refl
+    (event_line (record { line = 12; headers = 9; setup = settled; world = both_started; steps = 2 }) (codes "found a:1#1") [] (Found a_1) founded 0
+    summary (third_with (codes "view a:1#1=1 | a:1#1 joining | -"))
+    (lit≤ tt) (lit≤ tt) (lit< tt) (canonical (Found a_1) is_a_1) (ap (λ o. Ok (stepped 0 o (record both_started { founded = true }))) founds)
+    (inl (lit≤ tt, refl, refl))
+    (ap third_with (sym view_is)))
+    refl)
+    refl)
