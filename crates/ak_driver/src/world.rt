@@ -1,7 +1,9 @@
 //! A recorded world: the nodes that were started, every packet that was ever sent, and the history of the cluster.
 
-ghost use Rattle.std.specs.Prelude.{◌≡◌, ℕ, ◌+◌, ◌-◌, ◌<◌, ◌≤◌, ◌^◌, ◌++◌, ◌∷◌, [], true, false, length, slice_get, IfOk, OnOk, OnErr, Option, None, Some};
-ghost use Rattle.std.specs.Option.{option_copied, option_map};
+ghost use Rattle.std.specs.Prelude.{◌≡◌, ℕ, ◌+◌, ◌-◌, ◌<◌, ◌≤◌, ◌^◌, ◌++◌, ◌∷◌, [], true, false, length, slice_get, codes, IfOk, OnOk, OnErr, Option, None, Some};
+ghost use Rattle.std.specs.Fmt.{decimal};
+ghost use Rattle.std.specs.Option.{option_and_then, option_copied, option_map};
+ghost use Rattle.ak_schedule.specs.Schedule.{event_text};
 ghost use Rattle.ak_driver.specs.World as rules;
 ghost use Rattle.ak_driver.specs.WorldWords.{Applies};
 ghost use Rattle.ak_driver.specs.StepText as text;
@@ -352,7 +354,10 @@ fn print_arrival(
     number: u64,
     node: Option<&Node>,
     out: &mut Vec<u8>,
-) -> Result<(), AllocError> {
+) -> Result<(), AllocError>
+    ensures { OnOk result (out.new.items
+        ≡ out.old.items ++ text.arrival_text (option_map (λ n. n.now.state) node) (rules.packet_at world.now.state number)) }
+{
     if let Some(node) = node {
         if let Some(envelope) = world.packet(number) {
             print_bytes(b"  at ", out)?;
@@ -367,7 +372,9 @@ fn print_arrival(
     print_bytes(b"  dead\n", out)
 }
 
-fn print_head(number: u64, event: &Event, out: &mut Vec<u8>) -> Result<(), AllocError> {
+fn print_head(number: u64, event: &Event, out: &mut Vec<u8>) -> Result<(), AllocError>
+    ensures { OnOk result (out.new.items ≡ out.old.items ++ (decimal number ++ codes " " ++ event_text event.now ++ 10 ∷ [])) }
+{
     print_number(number, out)?;
     print_bytes(b" ", out)?;
     print_event(event, out)?;
@@ -407,14 +414,18 @@ pub fn print_step(
 }
 
 // The node that acted.
-fn acting<'a>(world: &'a World, step: &Step) -> Option<&'a Node> {
+fn acting<'a>(world: &'a World, step: &Step) -> Option<&'a Node>
+    ensures { option_map (λ n. n.now.state) result ≡ option_and_then (slice_get world.now.state.nodes) step.now.node }
+{
     match step.node {
         Some(number) => world.node(number),
         None => None,
     }
 }
 
-fn print_count(name: &[u8], count: u64, out: &mut Vec<u8>) -> Result<(), AllocError> {
+fn print_count(name: &[u8], count: u64, out: &mut Vec<u8>) -> Result<(), AllocError>
+    ensures { OnOk result (out.new.items ≡ out.old.items ++ (name.now ++ decimal count ++ 10 ∷ [])) }
+{
     print_bytes(name, out)?;
     print_number(count, out)?;
     print_bytes(b"\n", out)
