@@ -1,13 +1,17 @@
 -- What is printed of a list, one piece after another; and the numbers of the packets of one action after another.
-use Rattle.std.proofs.Common.{◌≡◌, ℕ, ◌+◌, ◌<◌, ◌≤◌, List, [], ◌∷◌, ◌++◌, length, map, take, drop, get_or, slice_get, Option, Some, None, refl, sym, ap, ◌∙◌, arith, append_assoc, add-one, suc, zero, rules}
+use Rattle.std.proofs.Common.{◌≡◌, ℕ, ◌+◌, ◌<◌, ◌≤◌, List, [], ◌∷◌, ◌++◌, length, map, take, slice_get, Option, Some, None, refl, sym, ap, ◌∙◌, arith, append_assoc, suc, zero, rules}
 use Rattle.std.specs.Prelude.{codes}
+use Rattle.std.specs.Fmt.{decimal}
 use Rattle.std.specs.FinMap as finmap
-use Rattle.std.proofs.lemmas.List.{take_more, take_all, map_push, length-take-le, length-map, nil_from_length, drop_more}
-use Rattle.std.proofs.lemmas.Option.{get_or_from_slice_get, slice_get_within, slice_get-get_or}
+use Rattle.std.proofs.lemmas.List.{take_more, take_all, map_push, length-take-le, length-map, nil_from_length}
+use Rattle.std.proofs.lemmas.Option.{get_or_from_slice_get, slice_get_within}
 use Rattle.ak_address.specs.Uniques.{UniqueSet, in_order, how_many}
-use Rattle.ak_driver.specs.StepText.{listed_text, separator, next_packet, actions_text, action_text, item}
-use Rattle.ak_driver.specs.World.{sent}
-use Rattle.ak_driver.specs.Gossip.{GossipState}
+use Rattle.ak_driver.specs.StepText.{listed_text, separator, next_packet, summary_text, step_text, delivery_text, actions_text, shown, acting}
+use Rattle.ak_driver.specs.World.{WorldState, Done, sent}
+use Rattle.ak_driver.specs.declared.node.State.{State}
+use Rattle.ak_schedule.specs.Schedule.{event_text}
+use Rattle.ak_schedule.specs.declared.event.Event.{Event}
+use Rattle.ak_schedule.specs.declared.event.Event.TheVariants.{Start, Found, Join, Tick, Deliver, Leave, Down, Offer, Stop}
 use Rattle.ak_driver.specs.declared.node.Action.{Action}
 use Rattle.ak_driver.specs.declared.node.Action.TheVariants.{Send, Update, View, Refused, Dead}
 
@@ -80,3 +84,53 @@ sent_counts (Update n effects) actions = omega arith
 sent_counts View actions = omega arith
 sent_counts (Refused why) actions = omega arith
 sent_counts Dead actions = omega arith
+
+-- an equal text was printed
+pub printed_as : (start : List ℕ) {now text same : List ℕ} → text ≡ same → now ≡ start ++ text → now ≡ start ++ same
+printed_as start is printed = printed ∙ ap (λ (t : List ℕ). start ++ t) is
+
+lines : (a b c d e f g h n : List ℕ) → ((((a ++ b ++ n) ++ (c ++ d ++ n)) ++ (e ++ f ++ n)) ++ (g ++ n ++ h ++ n)) ≡ a ++ b ++ n ++ c ++ d ++ n ++ e ++ f ++ n ++ g ++ n ++ h ++ n
+lines a b c d e f g h n = simp append_assoc
+
+-- the lines of a summary, one after another
+pub summary_printed : (steps : ℕ) (w : WorldState) (packets history : ℕ) (t0 t1 t2 t3 t4 : List ℕ) → packets ≡ length w.packets → history ≡ length w.history
+    → t0 ≡ []
+    → t1 ≡ t0 ++ (codes "steps " ++ decimal steps ++ 10 ∷ [])
+    → t2 ≡ t1 ++ (codes "packets " ++ decimal packets ++ 10 ∷ [])
+    → t3 ≡ t2 ++ (codes "history " ++ decimal history ++ 10 ∷ [])
+    → t4 ≡ t3 ++ (codes "margin kept" ++ 10 ∷ [] ++ codes "doubles none" ++ 10 ∷ [])
+    → t4 ≡ summary_text steps w
+summary_printed steps w packets history t0 t1 t2 t3 t4 are_packets are_entries e0 e1 e2 e3 e4 =
+    e4
+    ∙ ap (λ (t : List ℕ). t ++ (codes "margin kept" ++ 10 ∷ [] ++ codes "doubles none" ++ 10 ∷ []))
+    (e3 ∙ ap (λ (t : List ℕ). t ++ (codes "history " ++ decimal history ++ 10 ∷ []))
+    (e2 ∙ ap (λ (t : List ℕ). t ++ (codes "packets " ++ decimal packets ++ 10 ∷ []))
+    (e1 ∙ ap (λ (t : List ℕ). t ++ (codes "steps " ++ decimal steps ++ 10 ∷ [])) e0)))
+    ∙ lines (codes "steps ") (decimal steps) (codes "packets ") (decimal packets) (codes "history ") (decimal history) (codes "margin kept") (codes "doubles none") (10 ∷ [])
+    ∙ ap (λ (p : ℕ). codes "steps " ++ decimal steps ++ 10 ∷ [] ++ codes "packets " ++ decimal p ++ 10 ∷ [] ++ codes "history " ++ decimal history ++ 10 ∷ [] ++ codes "margin kept" ++ 10 ∷ [] ++ codes "doubles none" ++ 10 ∷ []) are_packets
+    ∙ ap (λ (h : ℕ). codes "steps " ++ decimal steps ++ 10 ∷ [] ++ codes "packets " ++ decimal (length w.packets) ++ 10 ∷ [] ++ codes "history " ++ decimal h ++ 10 ∷ [] ++ codes "margin kept" ++ 10 ∷ [] ++ codes "doubles none" ++ 10 ∷ []) are_entries
+
+-- the parts of a step, one after another
+pub step_printed : (first number : ℕ) (e : Event) (done : Done) (n : Option State) (t0 t1 t2 t3 : List ℕ) → n ≡ acting done → t0 ≡ []
+    → t1 ≡ t0 ++ (decimal number ++ codes " " ++ event_text e ++ 10 ∷ [])
+    → t2 ≡ t1 ++ delivery_text e done.world n
+    → t3 ≡ t2 ++ actions_text (shown n) first done.actions
+    → t3 ≡ step_text first number e done
+step_printed first number e done n t0 t1 t2 t3 acts e0 e1 e2 e3 =
+    e3
+    ∙ ap (λ (t : List ℕ). t ++ actions_text (shown n) first done.actions)
+    (e2 ∙ ap (λ (t : List ℕ). t ++ delivery_text e done.world n)
+    (e1 ∙ ap (λ (t : List ℕ). t ++ (decimal number ++ codes " " ++ event_text e ++ 10 ∷ [])) e0))
+    ∙ ap (λ (m : Option State). decimal number ++ codes " " ++ event_text e ++ 10 ∷ [] ++ delivery_text e done.world m ++ actions_text (shown m) first done.actions) acts
+
+-- only a delivery arrives
+pub no_arrival : (e : Event) (w : WorldState) (n : Option State) → ((number : ℕ) → e ≡ Deliver number → ⊥) → delivery_text e w n ≡ []
+no_arrival (Start u) w n not_delivered = refl
+no_arrival (Found u) w n not_delivered = refl
+no_arrival (Join u target) w n not_delivered = refl
+no_arrival (Tick u word) w n not_delivered = refl
+no_arrival (Deliver number) w n not_delivered = absurd (not_delivered number refl)
+no_arrival (Leave u who) w n not_delivered = refl
+no_arrival (Down u who) w n not_delivered = refl
+no_arrival (Offer u entity payload) w n not_delivered = refl
+no_arrival (Stop u) w n not_delivered = refl

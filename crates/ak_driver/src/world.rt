@@ -356,7 +356,7 @@ fn print_arrival(
     out: &mut Vec<u8>,
 ) -> Result<(), AllocError>
     ensures { OnOk result (out.new.items
-        ≡ out.old.items ++ text.arrival_text (option_map (λ n. n.now.state) node) (rules.packet_at world.now.state number)) }
+        ≡ out.old.items ++ text.arrival_text (option_map (λ n. n.now.state) node.entry) (rules.packet_at world.now.state number)) }
 {
     if let Some(node) = node {
         if let Some(envelope) = world.packet(number) {
@@ -397,20 +397,45 @@ pub fn print_step(
     ensures err { OnErr result (out.new.items ≡ out.old.items) }
 {
     let mut text = Vec::new(alloc);
-    print_head(step_number, event, &mut text)?;
     let node = acting(world, step);
-    if let Event::Deliver(number) = event {
-        print_arrival(world, *number, node, &mut text)?;
-    }
-    if let Some(node) = node {
-        print_items(
-            node.gossip(),
-            step.first_packet,
-            step.actions.as_slice(),
-            &mut text,
-        )?;
-    }
+    print_head(step_number, event, &mut text)?;
+    print_delivery(world, event, node, &mut text)?;
+    print_done(alloc, node, step, &mut text)?;
     print_bytes(&text, out)
+}
+
+// What arrived, where the event is a delivery.
+fn print_delivery(
+    world: &World,
+    event: &Event,
+    node: Option<&Node>,
+    out: &mut Vec<u8>,
+) -> Result<(), AllocError>
+    ensures { OnOk result (out.new.items
+        ≡ out.old.items ++ text.delivery_text event.now world.now.state (option_map (λ n. n.now.state) node.entry)) }
+{
+    match event {
+        Event::Deliver(number) => print_arrival(world, *number, node, out),
+        _ => Ok(()),
+    }
+}
+
+// An item for each action. A step in which no node acts shows nothing that is known.
+fn print_done(
+    alloc: Global,
+    node: Option<&Node>,
+    step: &Step,
+    out: &mut Vec<u8>,
+) -> Result<(), AllocError>
+    requires { step.now.first_packet + length (rules.sent step.now.actions) < 2 ^ 64 }
+    ensures { OnOk result (out.new.items
+        ≡ out.old.items ++ text.actions_text (text.shown (option_map (λ n. n.now.state) node.entry)) step.now.first_packet step.now.actions) }
+{
+    let actions = step.actions.as_slice();
+    match node {
+        Some(node) => print_items(node.gossip(), step.first_packet, actions, out),
+        None => print_items(&Gossip::empty(alloc), step.first_packet, actions, out),
+    }
 }
 
 // The node that acted.
