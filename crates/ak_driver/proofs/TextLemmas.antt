@@ -1,4 +1,4 @@
--- What is printed of a list, one piece after another; and the numbers of the packets of one action after another.
+-- What is printed of a list, one piece after another, and of the parts of a step and a summary.
 use Rattle.std.proofs.Common.{◌≡◌, ℕ, ◌+◌, ◌<◌, ◌≤◌, List, [], ◌∷◌, ◌++◌, length, map, take, slice_get, Option, Some, None, refl, sym, ap, ◌∙◌, arith, append_assoc, suc, zero, rules}
 use Rattle.std.specs.Prelude.{codes}
 use Rattle.std.specs.Fmt.{decimal}
@@ -6,14 +6,11 @@ use Rattle.std.specs.FinMap as finmap
 use Rattle.std.proofs.lemmas.List.{take_more, take_all, map_push, length-take-le, length-map, nil_from_length}
 use Rattle.std.proofs.lemmas.Option.{get_or_from_slice_get, slice_get_within}
 use Rattle.ak_address.specs.Uniques.{UniqueSet, in_order, how_many}
-use Rattle.ak_driver.specs.StepText.{listed_text, separator, next_packet, summary_text, step_text, delivery_text, actions_text, shown, acting}
-use Rattle.ak_driver.specs.World.{WorldState, Done, sent}
+use Rattle.ak_driver.specs.StepText.{listed_text, separator, summary_text, step_text, delivery_text, actions_text, shown, acting}
+use Rattle.ak_driver.specs.World.{WorldState, Done}
 use Rattle.ak_driver.specs.declared.node.State.{State}
 use Rattle.ak_schedule.specs.Schedule.{event_text}
 use Rattle.ak_schedule.specs.declared.event.Event.{Event}
-use Rattle.ak_schedule.specs.declared.event.Event.TheVariants.{Start, Found, Join, Tick, Deliver, Leave, Down, Offer, Stop}
-use Rattle.ak_driver.specs.declared.node.Action.{Action}
-use Rattle.ak_driver.specs.declared.node.Action.TheVariants.{Send, Update, View, Refused, Dead}
 
 -- the text of the pieces that are printed so far: of none there is no mark yet
 abbrev pub front : List (List ℕ) → List ℕ
@@ -70,21 +67,6 @@ ended (x ∷ xs) (suc i) none within = ended xs i none (omega arith)
 pub members_counted : (s : UniqueSet) → length (in_order s) ≡ how_many s
 members_counted s = length-map (finmap.entries s) (λ row. row.0) ∙ sym (finmap.len-entries s)
 
--- the number after an action counts what it sends
-pub next_counts : (a : Action) (number : ℕ) → next_packet a number ≡ number + length (sent (a ∷ []))
-next_counts (Send e) number = refl
-next_counts (Update n effects) number = omega arith
-next_counts View number = omega arith
-next_counts (Refused why) number = omega arith
-next_counts Dead number = omega arith
-
-pub sent_counts : (a : Action) (actions : List Action) → length (sent (a ∷ actions)) ≡ length (sent (a ∷ [])) + length (sent actions)
-sent_counts (Send e) actions = omega arith
-sent_counts (Update n effects) actions = omega arith
-sent_counts View actions = omega arith
-sent_counts (Refused why) actions = omega arith
-sent_counts Dead actions = omega arith
-
 -- an equal text was printed
 pub printed_as : (start : List ℕ) {now text same : List ℕ} → text ≡ same → now ≡ start ++ text → now ≡ start ++ same
 printed_as start is printed = printed ∙ ap (λ (t : List ℕ). start ++ t) is
@@ -122,15 +104,3 @@ step_printed first number e done n t0 t1 t2 t3 acts e0 e1 e2 e3 =
     (e2 ∙ ap (λ (t : List ℕ). t ++ delivery_text e done.world n)
     (e1 ∙ ap (λ (t : List ℕ). t ++ (decimal number ++ codes " " ++ event_text e ++ 10 ∷ [])) e0))
     ∙ ap (λ (m : Option State). decimal number ++ codes " " ++ event_text e ++ 10 ∷ [] ++ delivery_text e done.world m ++ actions_text (shown m) first done.actions) acts
-
--- only a delivery arrives
-pub no_arrival : (e : Event) (w : WorldState) (n : Option State) → ((number : ℕ) → e ≡ Deliver number → ⊥) → delivery_text e w n ≡ []
-no_arrival (Start u) w n not_delivered = refl
-no_arrival (Found u) w n not_delivered = refl
-no_arrival (Join u target) w n not_delivered = refl
-no_arrival (Tick u word) w n not_delivered = refl
-no_arrival (Deliver number) w n not_delivered = absurd (not_delivered number refl)
-no_arrival (Leave u who) w n not_delivered = refl
-no_arrival (Down u who) w n not_delivered = refl
-no_arrival (Offer u entity payload) w n not_delivered = refl
-no_arrival (Stop u) w n not_delivered = refl

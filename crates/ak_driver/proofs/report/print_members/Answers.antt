@@ -1,7 +1,7 @@
-use Rattle.std.proofs.Common.{◌≡◌, ◌≤◌, ◌<◌, arith, length, sym, ◌∙◌, map}
+use Rattle.std.proofs.Common.{arith, sym}
 use Rattle.std.proofs.lemmas.Result.{on_ok_weaker}
-use Rattle.ak_address.specs.Uniques.{in_order, how_many}
-use Rattle.ak_driver.specs.StepText.{member_text, listed_text}
+use Rattle.ak_address.specs.Uniques.{in_order}
+use Rattle.ak_driver.specs.StepText.{member_text}
 use Rattle.ak_driver.proofs.TextLemmas.{printed_more, printed_all, printed_none, ended, members_counted}
 use Rattle.ak_driver.proofs.report.print_members.Goals as goal
 use Rattle.ak_driver.proofs.report.print_members.Goals.{in-Some+in_ok-print_separator+in_ok-print_member, in_default}

@@ -1,7 +1,7 @@
-use Rattle.std.proofs.Common.{◌≡◌, ◌≤◌, ◌<◌, arith, length, sym, ◌∙◌, map}
+use Rattle.std.proofs.Common.{arith, sym}
 use Rattle.std.specs.FinMap as finmap
 use Rattle.std.proofs.lemmas.Result.{on_ok_weaker}
-use Rattle.ak_driver.specs.StepText.{count_text, listed_text}
+use Rattle.ak_driver.specs.StepText.{count_text}
 use Rattle.ak_driver.proofs.TextLemmas.{printed_more, printed_all, printed_none, ended}
 use Rattle.ak_driver.proofs.report.print_version.Goals as goal
 use Rattle.ak_driver.proofs.report.print_version.Goals.{in-Some+in_ok-print_separator+in_ok-print_seen, in_default}

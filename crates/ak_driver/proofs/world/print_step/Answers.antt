@@ -1,4 +1,4 @@
-use Rattle.std.proofs.Common.{◌≡◌, ◌∙◌}
+use Rattle.std.proofs.Common.{◌∙◌}
 use Rattle.std.proofs.lemmas.Result.{on_ok_weaker}
 use Rattle.ak_driver.proofs.TextLemmas.{printed_as, step_printed}
 use Rattle.ak_driver.proofs.world.print_step.Goals as goal

@@ -1,6 +1,5 @@
-use Rattle.std.proofs.Common.{◌≡◌, ap, ◌∙◌, length}
+use Rattle.std.proofs.Common.{ap, ◌∙◌, length}
 use Rattle.std.proofs.lemmas.Result.{on_ok_weaker}
-use Rattle.ak_driver.specs.declared.history.Entry.{Entry}
 use Rattle.ak_driver.proofs.TextLemmas.{printed_as, summary_printed}
 use Rattle.ak_driver.proofs.world.print_summary.Goals as goal
 
