@@ -1,14 +1,15 @@
 //! The text of the actions of a step (this project's format).
 
-ghost use Rattle.std.specs.Prelude.{◌≡◌, ℕ, ◌+◌, ◌<◌, ◌^◌, ◌++◌, [], map, length, OnOk, OnErr};
+ghost use Rattle.std.specs.Prelude.{◌≡◌, ℕ, ◌+◌, ◌<◌, ◌^◌, ◌++◌, ◌∷◌, [], map, length, OnOk, OnErr};
 ghost use Rattle.ak_address.specs.Uniques.{in_order};
 ghost use Rattle.ak_driver.specs.StepText as text;
+ghost use Rattle.ak_driver.specs.World as rules;
 
 use crate::gossip::Gossip;
 use crate::member::Effect;
 use crate::node::{Action, Actions};
 use crate::wire::Envelope;
-use ak_address::{Uniques, print_number};
+use ak_address::{Unique, Uniques, print_number};
 use ak_clock::Version;
 use std::alloc::{AllocError, Global};
 
@@ -30,6 +31,15 @@ fn print_separator(place: usize, out: &mut Vec<u8>) -> Result<(), AllocError>
     print_bytes(b", ", out)
 }
 
+// A process and how many of its updates are seen.
+fn print_seen(who: &Unique, count: u64, out: &mut Vec<u8>) -> Result<(), AllocError>
+    ensures { OnOk result (out.new.items ≡ out.old.items ++ text.count_text (who.now, count)) }
+{
+    who.print_into(out)?;
+    print_bytes(b"=", out)?;
+    print_number(count, out)
+}
+
 fn print_version(version: &Version, out: &mut Vec<u8>) -> Result<(), AllocError>
     ensures { OnOk result (out.new.items ≡ out.old.items ++ text.version_text version.now) }
 {
@@ -40,12 +50,17 @@ fn print_version(version: &Version, out: &mut Vec<u8>) -> Result<(), AllocError>
     'counts: for place in 0..count {
         if let Some((who, count)) = version.at(place) {
             print_separator(place, out)?;
-            who.print_into(out)?;
-            print_bytes(b"=", out)?;
-            print_number(count, out)?;
+            print_seen(who, count, out)?;
         }
     }
     Ok(())
+}
+
+fn print_member(who: &Unique, out: &mut Vec<u8>) -> Result<(), AllocError>
+    ensures { OnOk result (out.new.items ≡ out.old.items ++ text.member_text who.now) }
+{
+    who.print_into(out)?;
+    print_bytes(b" joining", out)
 }
 
 fn print_members(members: &Uniques, out: &mut Vec<u8>) -> Result<(), AllocError>
@@ -58,8 +73,7 @@ fn print_members(members: &Uniques, out: &mut Vec<u8>) -> Result<(), AllocError>
     'members: for place in 0..count {
         if let Some(who) = members.at(place) {
             print_separator(place, out)?;
-            who.print_into(out)?;
-            print_bytes(b" joining", out)?;
+            print_member(who, out)?;
         }
     }
     Ok(())
@@ -149,7 +163,7 @@ fn print_action(
 
 // The number of the packet after an action.
 fn next_packet(action: &Action, number: u64) -> u64
-    requires { number + 1 < 2 ^ 64 }
+    requires { number + length (rules.sent (action.now ∷ [])) < 2 ^ 64 }
     ensures { result ≡ text.next_packet action.now number }
 {
     match action {
@@ -165,7 +179,7 @@ pub(crate) fn print_items(
     actions: &[Action],
     out: &mut Vec<u8>,
 ) -> Result<(), AllocError>
-    requires { first_packet + length actions.now < 2 ^ 64 }
+    requires { first_packet + length (rules.sent actions.now) < 2 ^ 64 }
     ensures { OnOk result (out.new.items ≡ out.old.items ++ text.actions_text gossip.now first_packet actions.now) }
 {
     let mut number = first_packet;
@@ -188,7 +202,7 @@ pub fn print_actions(
     actions: &Actions,
     out: &mut Vec<u8>,
 ) -> Result<(), AllocError>
-    requires { first_packet + length actions.now < 2 ^ 64 }
+    requires { first_packet + length (rules.sent actions.now) < 2 ^ 64 }
     ensures ok { OnOk result (out.new.items ≡ out.old.items ++ text.actions_text gossip.now first_packet actions.now) }
     ensures err { OnErr result (out.new.items ≡ out.old.items) }
 {

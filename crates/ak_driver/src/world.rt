@@ -1,7 +1,9 @@
 //! A recorded world: the nodes that were started, every packet that was ever sent, and the history of the cluster.
 
-ghost use Rattle.std.specs.Prelude.{◌≡◌, ℕ, ◌+◌, ◌-◌, ◌<◌, ◌≤◌, ◌^◌, ◌++◌, ◌∷◌, [], true, false, length, slice_get, IfOk, OnOk, OnErr, Option, None, Some};
-ghost use Rattle.std.specs.Option.{option_copied, option_map};
+ghost use Rattle.std.specs.Prelude.{◌≡◌, ℕ, ◌+◌, ◌-◌, ◌<◌, ◌≤◌, ◌^◌, ◌++◌, ◌∷◌, [], true, false, length, slice_get, codes, IfOk, OnOk, OnErr, Option, None, Some};
+ghost use Rattle.std.specs.Fmt.{decimal};
+ghost use Rattle.std.specs.Option.{option_and_then, option_copied, option_map};
+ghost use Rattle.ak_schedule.specs.Schedule.{event_text};
 ghost use Rattle.ak_driver.specs.World as rules;
 ghost use Rattle.ak_driver.specs.WorldWords.{Applies};
 ghost use Rattle.ak_driver.specs.StepText as text;
@@ -352,7 +354,10 @@ fn print_arrival(
     number: u64,
     node: Option<&Node>,
     out: &mut Vec<u8>,
-) -> Result<(), AllocError> {
+) -> Result<(), AllocError>
+    ensures { OnOk result (out.new.items
+        ≡ out.old.items ++ text.arrival_text (option_map (λ n. n.now.state) node.entry) (rules.packet_at world.now.state number)) }
+{
     if let Some(node) = node {
         if let Some(envelope) = world.packet(number) {
             print_bytes(b"  at ", out)?;
@@ -367,7 +372,9 @@ fn print_arrival(
     print_bytes(b"  dead\n", out)
 }
 
-fn print_head(number: u64, event: &Event, out: &mut Vec<u8>) -> Result<(), AllocError> {
+fn print_head(number: u64, event: &Event, out: &mut Vec<u8>) -> Result<(), AllocError>
+    ensures { OnOk result (out.new.items ≡ out.old.items ++ (decimal number ++ codes " " ++ event_text event.now ++ 10 ∷ [])) }
+{
     print_number(number, out)?;
     print_bytes(b" ", out)?;
     print_event(event, out)?;
@@ -390,31 +397,60 @@ pub fn print_step(
     ensures err { OnErr result (out.new.items ≡ out.old.items) }
 {
     let mut text = Vec::new(alloc);
-    print_head(step_number, event, &mut text)?;
     let node = acting(world, step);
-    if let Event::Deliver(number) = event {
-        print_arrival(world, *number, node, &mut text)?;
-    }
-    if let Some(node) = node {
-        print_items(
-            node.gossip(),
-            step.first_packet,
-            step.actions.as_slice(),
-            &mut text,
-        )?;
-    }
+    print_head(step_number, event, &mut text)?;
+    print_delivery(world, event, node, &mut text)?;
+    print_done(alloc, node, step, &mut text)?;
     print_bytes(&text, out)
 }
 
+// What arrived, where the event is a delivery.
+fn print_delivery(
+    world: &World,
+    event: &Event,
+    node: Option<&Node>,
+    out: &mut Vec<u8>,
+) -> Result<(), AllocError>
+    ensures { OnOk result (out.new.items
+        ≡ out.old.items ++ text.delivery_text event.now world.now.state (option_map (λ n. n.now.state) node.entry)) }
+{
+    match event {
+        Event::Deliver(number) => print_arrival(world, *number, node, out),
+        _ => Ok(()),
+    }
+}
+
+// An item for each action. A step in which no node acts shows nothing that is known.
+fn print_done(
+    alloc: Global,
+    node: Option<&Node>,
+    step: &Step,
+    out: &mut Vec<u8>,
+) -> Result<(), AllocError>
+    requires { step.now.first_packet + length (rules.sent step.now.actions) < 2 ^ 64 }
+    ensures { OnOk result (out.new.items
+        ≡ out.old.items ++ text.actions_text (text.shown (option_map (λ n. n.now.state) node.entry)) step.now.first_packet step.now.actions) }
+{
+    let actions = step.actions.as_slice();
+    match node {
+        Some(node) => print_items(node.gossip(), step.first_packet, actions, out),
+        None => print_items(&Gossip::empty(alloc), step.first_packet, actions, out),
+    }
+}
+
 // The node that acted.
-fn acting<'a>(world: &'a World, step: &Step) -> Option<&'a Node> {
+fn acting<'a>(world: &'a World, step: &Step) -> Option<&'a Node>
+    ensures { option_map (λ n. n.now.state) result ≡ option_and_then (slice_get world.now.state.nodes) step.now.node }
+{
     match step.node {
         Some(number) => world.node(number),
         None => None,
     }
 }
 
-fn print_count(name: &[u8], count: u64, out: &mut Vec<u8>) -> Result<(), AllocError> {
+fn print_count(name: &[u8], count: u64, out: &mut Vec<u8>) -> Result<(), AllocError>
+    ensures { OnOk result (out.new.items ≡ out.old.items ++ (name.now ++ decimal count ++ 10 ∷ [])) }
+{
     print_bytes(name, out)?;
     print_number(count, out)?;
     print_bytes(b"\n", out)

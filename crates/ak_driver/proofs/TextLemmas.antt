@@ -1,0 +1,106 @@
+-- What is printed of a list, one piece after another, and of the parts of a step and a summary.
+use Rattle.std.proofs.Common.{◌≡◌, ℕ, ◌+◌, ◌<◌, ◌≤◌, List, [], ◌∷◌, ◌++◌, length, map, take, slice_get, Option, Some, None, refl, sym, ap, ◌∙◌, arith, append_assoc, suc, zero, rules}
+use Rattle.std.specs.Prelude.{codes}
+use Rattle.std.specs.Fmt.{decimal}
+use Rattle.std.specs.FinMap as finmap
+use Rattle.std.proofs.lemmas.List.{take_more, take_all, map_push, length-take-le, length-map, nil_from_length}
+use Rattle.std.proofs.lemmas.Option.{get_or_from_slice_get, slice_get_within}
+use Rattle.ak_address.specs.Uniques.{UniqueSet, in_order, how_many}
+use Rattle.ak_driver.specs.StepText.{listed_text, separator, summary_text, step_text, delivery_text, actions_text, shown, acting}
+use Rattle.ak_driver.specs.World.{WorldState, Done}
+use Rattle.ak_driver.specs.declared.node.State.{State}
+use Rattle.ak_schedule.specs.Schedule.{event_text}
+use Rattle.ak_schedule.specs.declared.event.Event.{Event}
+
+-- the text of the pieces that are printed so far: of none there is no mark yet
+abbrev pub front : List (List ℕ) → List ℕ
+front [] = []
+front (piece ∷ pieces) = listed_text (piece ∷ pieces)
+
+listed_push : (p : List ℕ) (ps : List (List ℕ)) (y : List ℕ) → listed_text (p ∷ (ps ++ y ∷ [])) ≡ listed_text (p ∷ ps) ++ (codes ", " ++ y)
+listed_push p [] y = append_assoc p (codes ", ") y
+listed_push p (q ∷ ps) y = ap (λ (t : List ℕ). (p ++ codes ", ") ++ t) (listed_push q ps y) ∙ sym (append_assoc (p ++ codes ", ") (listed_text (q ∷ ps)) (codes ", " ++ y))
+
+separator_later : (n : ℕ) → separator (suc n) ≡ codes ", "
+separator_later n = search rules
+
+front_push : (ps : List (List ℕ)) (y : List ℕ) → front (ps ++ y ∷ []) ≡ front ps ++ (separator (length ps) ++ y)
+front_push [] y = refl
+front_push (p ∷ ps) y = listed_push p ps y ∙ ap (λ (t : List ℕ). listed_text (p ∷ ps) ++ (t ++ y)) (sym (separator_later (length ps)))
+
+-- one more element is printed, after its separator
+pub front_more : {X : Type 0} (f : X → List ℕ) (xs : List X) (place : ℕ) (x : X) → slice_get xs place ≡ Some x → front (map f (take (place + 1) xs)) ≡ front (map f (take place xs)) ++ (separator place ++ f x)
+front_more {X = X} f xs place x at =
+    let within : place < length xs = slice_get_within xs place x at in
+    let more : take (place + 1) xs ≡ take place xs ++ x ∷ [] = take_more xs place x within ∙ ap (λ (y : X). take place xs ++ y ∷ []) (get_or_from_slice_get xs place x x at) in
+    let shorter : length (map f (take place xs)) ≡ place = length-map (take place xs) f ∙ length-take-le place xs (omega arith) in
+    ap (λ (ys : List X). front (map f ys)) more ∙ ap front (map_push f (take place xs) x) ∙ front_push (map f (take place xs)) (f x) ∙ ap (λ (n : ℕ). front (map f (take place xs)) ++ (separator n ++ f x)) shorter
+
+-- the same of a text: what was printed, then the separator, then the element
+pub printed_more : {X : Type 0} (f : X → List ℕ) (xs : List X) (place : ℕ) (x : X) (start was parted now : List ℕ) → slice_get xs place ≡ Some x
+    → was ≡ start ++ front (map f (take place xs)) → parted ≡ was ++ separator place → now ≡ parted ++ f x → now ≡ start ++ front (map f (take (place + 1) xs))
+printed_more f xs place x start was parted now at so_far apart printed =
+    printed ∙ ap (λ (t : List ℕ). t ++ f x) (apart ∙ ap (λ (t : List ℕ). t ++ separator place) so_far)
+    ∙ append_assoc (start ++ front (map f (take place xs))) (separator place) (f x)
+    ∙ append_assoc start (front (map f (take place xs))) (separator place ++ f x)
+    ∙ ap (λ (t : List ℕ). start ++ t) (sym (front_more f xs place x at))
+
+front_all : {X : Type 0} (f : X → List ℕ) (xs : List X) (place : ℕ) → length xs ≤ place → 0 < length xs → front (map f (take place xs)) ≡ listed_text (map f xs)
+front_all f [] place past some = absurd (omega arith)
+front_all {X = X} f (x ∷ xs) place past some = ap (λ (ys : List X). front (map f ys)) (take_all place (x ∷ xs) past)
+
+-- all elements are printed
+pub printed_all : {X : Type 0} (f : X → List ℕ) (xs : List X) (place : ℕ) (start now : List ℕ) → length xs ≤ place → 0 < length xs
+    → now ≡ start ++ front (map f (take place xs)) → now ≡ start ++ listed_text (map f xs)
+printed_all f xs place start now past some printed = printed ∙ ap (λ (t : List ℕ). start ++ t) (front_all f xs place past some)
+
+-- there is nothing to print
+pub printed_none : {X : Type 0} (f : X → List ℕ) (xs : List X) (start now : List ℕ) → length xs ≡ 0 → now ≡ start ++ codes "-" → now ≡ start ++ listed_text (map f xs)
+printed_none {X = X} f xs start now none printed = printed ∙ ap (λ (ys : List X). start ++ listed_text (map f ys)) (sym (nil_from_length xs none))
+
+-- where no element stands, the list has ended
+pub ended : {X : Type 0} (xs : List X) (place : ℕ) → slice_get xs place ≡ None → place < length xs → ⊥
+ended [] place none within = omega arith
+ended (x ∷ xs) zero none within = cc
+ended (x ∷ xs) (suc i) none within = ended xs i none (omega arith)
+
+pub members_counted : (s : UniqueSet) → length (in_order s) ≡ how_many s
+members_counted s = length-map (finmap.entries s) (λ row. row.0) ∙ sym (finmap.len-entries s)
+
+-- an equal text was printed
+pub printed_as : (start : List ℕ) {now text same : List ℕ} → text ≡ same → now ≡ start ++ text → now ≡ start ++ same
+printed_as start is printed = printed ∙ ap (λ (t : List ℕ). start ++ t) is
+
+lines : (a b c d e f g h n : List ℕ) → ((((a ++ b ++ n) ++ (c ++ d ++ n)) ++ (e ++ f ++ n)) ++ (g ++ n ++ h ++ n)) ≡ a ++ b ++ n ++ c ++ d ++ n ++ e ++ f ++ n ++ g ++ n ++ h ++ n
+lines a b c d e f g h n = simp append_assoc
+
+-- the lines of a summary, one after another
+pub summary_printed : (steps : ℕ) (w : WorldState) (packets history : ℕ) (t0 t1 t2 t3 t4 : List ℕ) → packets ≡ length w.packets → history ≡ length w.history
+    → t0 ≡ []
+    → t1 ≡ t0 ++ (codes "steps " ++ decimal steps ++ 10 ∷ [])
+    → t2 ≡ t1 ++ (codes "packets " ++ decimal packets ++ 10 ∷ [])
+    → t3 ≡ t2 ++ (codes "history " ++ decimal history ++ 10 ∷ [])
+    → t4 ≡ t3 ++ (codes "margin kept" ++ 10 ∷ [] ++ codes "doubles none" ++ 10 ∷ [])
+    → t4 ≡ summary_text steps w
+summary_printed steps w packets history t0 t1 t2 t3 t4 are_packets are_entries e0 e1 e2 e3 e4 =
+    e4
+    ∙ ap (λ (t : List ℕ). t ++ (codes "margin kept" ++ 10 ∷ [] ++ codes "doubles none" ++ 10 ∷ []))
+    (e3 ∙ ap (λ (t : List ℕ). t ++ (codes "history " ++ decimal history ++ 10 ∷ []))
+    (e2 ∙ ap (λ (t : List ℕ). t ++ (codes "packets " ++ decimal packets ++ 10 ∷ []))
+    (e1 ∙ ap (λ (t : List ℕ). t ++ (codes "steps " ++ decimal steps ++ 10 ∷ [])) e0)))
+    ∙ lines (codes "steps ") (decimal steps) (codes "packets ") (decimal packets) (codes "history ") (decimal history) (codes "margin kept") (codes "doubles none") (10 ∷ [])
+    ∙ ap (λ (p : ℕ). codes "steps " ++ decimal steps ++ 10 ∷ [] ++ codes "packets " ++ decimal p ++ 10 ∷ [] ++ codes "history " ++ decimal history ++ 10 ∷ [] ++ codes "margin kept" ++ 10 ∷ [] ++ codes "doubles none" ++ 10 ∷ []) are_packets
+    ∙ ap (λ (h : ℕ). codes "steps " ++ decimal steps ++ 10 ∷ [] ++ codes "packets " ++ decimal (length w.packets) ++ 10 ∷ [] ++ codes "history " ++ decimal h ++ 10 ∷ [] ++ codes "margin kept" ++ 10 ∷ [] ++ codes "doubles none" ++ 10 ∷ []) are_entries
+
+-- the parts of a step, one after another
+pub step_printed : (first number : ℕ) (e : Event) (done : Done) (n : Option State) (t0 t1 t2 t3 : List ℕ) → n ≡ acting done → t0 ≡ []
+    → t1 ≡ t0 ++ (decimal number ++ codes " " ++ event_text e ++ 10 ∷ [])
+    → t2 ≡ t1 ++ delivery_text e done.world n
+    → t3 ≡ t2 ++ actions_text (shown n) first done.actions
+    → t3 ≡ step_text first number e done
+step_printed first number e done n t0 t1 t2 t3 acts e0 e1 e2 e3 =
+    e3
+    ∙ ap (λ (t : List ℕ). t ++ actions_text (shown n) first done.actions)
+    (e2 ∙ ap (λ (t : List ℕ). t ++ delivery_text e done.world n)
+    (e1 ∙ ap (λ (t : List ℕ). t ++ (decimal number ++ codes " " ++ event_text e ++ 10 ∷ [])) e0))
+    ∙ ap (λ (m : Option State). decimal number ++ codes " " ++ event_text e ++ 10 ∷ [] ++ delivery_text e done.world m ++ actions_text (shown m) first done.actions) acts
