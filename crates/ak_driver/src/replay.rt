@@ -160,8 +160,9 @@ fn heading(alloc: Global, draft: &mut Draft, line: &[u8]) -> Result<bool, Stop>
 {
     match draft.header(alloc, line) {
         Ok(whole) => Ok(whole),
+        Err(LineFault::Malformed) => Err(Stop::Refused(Code::Malformed)),
+        Err(LineFault::NotBuilt) => Err(Stop::Refused(Code::NotBuilt)),
         Err(LineFault::NoMemory) => Err(Stop::NoMemory),
-        Err(_) => Err(Stop::Refused(Code::NotBuilt)),
     }
 }
 
@@ -210,7 +211,7 @@ fn print_refusal(
 }
 
 // Writes what was printed, and answers the status unless the sink fails.
-fn written<W: Sink>(output: &mut W, text: &[u8], status: Status) -> Status
+pub(crate) fn written<W: Sink>(output: &mut W, text: &[u8], status: Status) -> Status
     ensures count { W.faults output.old ≤ W.faults output.new }
     ensures written { Written status text.now result (Rose (W.faults output.old) (W.faults output.new)) (W.taken output.old) (W.taken output.new) }
 {
