@@ -1,9 +1,12 @@
 pub mod Gossip
 pub mod GossipWords
 pub mod History
+pub mod InputWords
 pub mod Node
 pub mod NodeWords
 pub mod ReplayText
+pub mod ReplayWords
+pub mod StatusWords
 pub mod StepText
 pub mod World
 pub mod Worked

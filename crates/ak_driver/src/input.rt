@@ -1,6 +1,8 @@
 //! The reading of a schedule, as far as its limits on lines let it go.
 
-ghost use Rattle.std.specs.Prelude.{◌≡◌};
+ghost use Rattle.std.specs.Prelude.{◌≡◌, ℕ, ◌+◌, ◌≤◌, false, length, IfErr};
+ghost use Rattle.std.specs.Bool.{OnFalse};
+ghost use Rattle.ak_driver.specs.InputWords.{reach, UnreadCause};
 
 use ak_outside::{Read, Source};
 use std::alloc::{AllocError, Global};
@@ -22,13 +24,16 @@ struct Extent {
     lines: u32,
     bytes: u32,
     past: bool,
+    ghost within: { (lines ≤ 200000) × (bytes ≤ 4097) },
 }
 
 // A line may have this many bytes, and then one CR.
 const MOST_BYTES: u32 = 4096;
 
 impl Extent {
-    fn new() -> Extent {
+    fn new() -> Extent
+        ensures { result.past ≡ false }
+    {
         Extent {
             lines: 0,
             bytes: 0,
@@ -37,7 +42,10 @@ impl Extent {
     }
 
     // One more byte.
-    fn take(&mut self, byte: u8) {
+    fn take(&mut self, byte: u8)
+        ensures grown { OnFalse self.new.past (reach self.old.lines self.old.bytes + 1 ≤ reach self.new.lines self.new.bytes) }
+        ensures kept { OnFalse self.new.past (self.old.past ≡ false) }
+    {
         if self.past {
             return;
         }
@@ -57,7 +65,10 @@ impl Extent {
         self.bytes += 1;
     }
 
-    fn take_all(&mut self, bytes: &[u8]) {
+    fn take_all(&mut self, bytes: &[u8])
+        ensures grown { OnFalse self.new.past (reach self.old.lines self.old.bytes + length bytes.now ≤ reach self.new.lines self.new.bytes) }
+        ensures kept { OnFalse self.new.past (self.old.past ≡ false) }
+    {
         'bytes: for byte in bytes {
             self.take(*byte);
         }
@@ -66,7 +77,10 @@ impl Extent {
 
 /// Reads the input to its end, or until a line is longer than may be or there are more lines than may be: so an
 /// endless input ends too. After the first failed read no other is asked.
-pub fn read_all<S: Source>(alloc: Global, input: &mut S) -> Result<Vec<u8>, Unread> {
+pub fn read_all<S: Source>(alloc: Global, input: &mut S) -> Result<Vec<u8>, Unread>
+    ensures count { S.faults input.old ≤ S.faults input.new }
+    ensures cause { IfErr result (λ why. UnreadCause (S.faults input.old) (S.faults input.new) why) }
+{
     let mut bytes = Vec::new(alloc);
     let mut buffer = vec![in alloc; 0; 65536]?;
     let mut extent = Extent::new();

@@ -12,41 +12,53 @@ pub mod wire;
 mod worked;
 pub mod world;
 
+ghost use Rattle.std.specs.Prelude.{◌≡◌, ◌≤◌, ◌↔◌, IsTrue};
+ghost use Rattle.ak_outside.specs.Outside.{Rose};
+ghost use Rattle.ak_driver.specs.StatusWords.{AsksReplay, ReplayCause, Written, memory_line, usage_line};
+
 use ak_address::Text;
 pub use ak_outside::Status;
-use ak_outside::{Sink, Source, write_all};
+use ak_outside::{Sink, Source};
 pub use replay::run_replay;
+use replay::written;
 use std::alloc::Global;
 pub use worked::worked_schedules;
 
 // The one word is `replay`.
-fn is_replay(words: &[Text]) -> bool {
-    words.len() == 1 && words[0].bytes() == b"replay".as_slice()
+fn is_replay(words: &[Text]) -> bool
+    ensures { IsTrue result ↔ AsksReplay words.now }
+{
+    match words {
+        [word] => word.bytes() == b"replay".as_slice(),
+        _ => false,
+    }
 }
 
 /// Does what the words after the program's name ask for: `replay` alone replays the schedule in the input. Any other
-/// words take no memory and answer `Usage`, or `Write` where the sink failed.
+/// words take no memory, read nothing, and answer `Usage` after one line that says so, or `Write` where the sink failed.
 pub fn run<S: Source, W: Sink>(
     alloc: Global,
     words: &[Text],
     input: &mut S,
     output: &mut W,
-) -> Status {
+) -> Status
+    ensures read { S.faults input.old ≤ S.faults input.new }
+    ensures written { W.faults output.old ≤ W.faults output.new }
+    ensures replay { AsksReplay words.now → ReplayCause result (Rose (S.faults input.old) (S.faults input.new)) (Rose (W.faults output.old) (W.faults output.new)) }
+    ensures usage { (AsksReplay words.now → ⊥) → Written Status.Usage usage_line result (Rose (W.faults output.old) (W.faults output.new)) (W.taken output.old) (W.taken output.new) }
+    ensures unread { (AsksReplay words.now → ⊥) → input.new ≡ input.old }
+{
     if is_replay(words) {
         return run_replay(alloc, input, output);
     }
-    if write_all(output, b"error 2 usage\n") {
-        Status::Usage
-    } else {
-        Status::Write
-    }
+    written(output, b"error 2 usage\n", Status::Usage)
 }
 
-/// Answers that there was no memory for the words themselves.
-pub fn run_without_words<W: Sink>(output: &mut W) -> Status {
-    if write_all(output, b"error 7 memory\n") {
-        Status::Memory
-    } else {
-        Status::Write
-    }
+/// Answers that there was no memory for the words themselves: `Memory` after one line that says so, or `Write` where
+/// the sink failed.
+pub fn run_without_words<W: Sink>(output: &mut W) -> Status
+    ensures count { W.faults output.old ≤ W.faults output.new }
+    ensures written { Written Status.Memory memory_line result (Rose (W.faults output.old) (W.faults output.new)) (W.taken output.old) (W.taken output.new) }
+{
+    written(output, b"error 7 memory\n", Status::Memory)
 }

@@ -1,5 +1,12 @@
 //! The replay of a recorded schedule: reads it whole, applies one line at a time, and prints each step.
 
+ghost use Rattle.std.specs.Prelude.{◌≡◌, ◌+◌, ◌≤◌, ◌<◌, ◌^◌, ◌++◌, OnOk, OnErr, length, codes};
+ghost use Rattle.ak_outside.specs.Outside.{Rose};
+ghost use Rattle.ak_schedule.specs.Draft.{first_draft};
+ghost use Rattle.ak_driver.specs.ReplayText.{refusal_text, code_text};
+ghost use Rattle.ak_driver.specs.ReplayWords.{IsReady, IsWhole, opened, code_of, HeadingAnswers, RunningAnswers};
+ghost use Rattle.ak_driver.specs.StatusWords.{ReplayCause, Written, memory_line};
+
 use crate::input::{MOST_LINES, Unread, read_all};
 use crate::report::print_bytes;
 use crate::world::{Refused, World, print_step, print_summary};
@@ -27,7 +34,9 @@ enum Code {
 }
 
 impl Code {
-    fn text(&self) -> &'static [u8] {
+    fn text(&self) -> &'static [u8]
+        ensures { result.now ≡ code_text (code_of self.now) }
+    {
         match self {
             Code::Malformed => b"S1",
             Code::PastLimit => b"S12",
@@ -44,6 +53,10 @@ enum Stop {
 }
 
 impl From<AllocError> for Stop {
+    ghost use Rattle.ak_driver.specs.declared.replay.Stop.TheVariants.{NoMemory};
+
+    ghost from_gives = { λ _ e. e ≡ NoMemory };
+
     fn from(_error: AllocError) -> Stop {
         Stop::NoMemory
     }
@@ -65,7 +78,9 @@ struct Replay {
 }
 
 impl Replay {
-    fn new(alloc: Global) -> Replay {
+    fn new(alloc: Global) -> Replay
+        ensures { result ≡ record { stage = Stage.Heading first_draft; line = 1; steps = 0 } }
+    {
         Replay {
             stage: Stage::Heading(Draft::new(alloc)),
             line: 1,
@@ -74,7 +89,10 @@ impl Replay {
     }
 
     // What one line does.
-    fn turn(&mut self, alloc: Global, line: &[u8], out: &mut Vec<u8>) -> Result<(), Stop> {
+    fn turn(&mut self, alloc: Global, line: &[u8], out: &mut Vec<u8>) -> Result<(), Stop>
+        requires { IsReady self.old.stage self.old.steps }
+        ensures ready { OnOk result (IsReady self.new.stage self.new.steps) }
+    {
         if self.line > u64::from(MOST_LINES) {
             return Err(Stop::Refused(Code::PastLimit));
         }
@@ -85,7 +103,11 @@ impl Replay {
         Ok(())
     }
 
-    fn advance(&mut self, alloc: Global, line: &[u8], out: &mut Vec<u8>) -> Result<(), Stop> {
+    fn advance(&mut self, alloc: Global, line: &[u8], out: &mut Vec<u8>) -> Result<(), Stop>
+        requires { IsReady self.old.stage self.old.steps }
+        ensures ready { OnOk result (IsReady self.new.stage self.new.steps) }
+        ensures line { self.new.line ≡ self.old.line }
+    {
         match &mut self.stage {
             Stage::Heading(draft) => {
                 if heading(alloc, draft, line)? {
@@ -105,7 +127,10 @@ impl Replay {
     }
 
     // The headers are whole: the world begins.
-    fn open(&mut self, alloc: Global) {
+    fn open(&mut self, alloc: Global)
+        requires { IsWhole self.old.stage }
+        ensures { self.new ≡ record { stage = opened self.old.stage; line = self.old.line; steps = self.old.steps } }
+    {
         let stage = mem::replace(&mut self.stage, Stage::Heading(Draft::new(alloc)));
         self.stage = match stage {
             Stage::Heading(draft) => match draft.finish() {
@@ -129,11 +154,15 @@ impl Replay {
 }
 
 // One header line; true where it was the last.
-fn heading(alloc: Global, draft: &mut Draft, line: &[u8]) -> Result<bool, Stop> {
+fn heading(alloc: Global, draft: &mut Draft, line: &[u8]) -> Result<bool, Stop>
+    requires { draft.old.read < 9 }
+    ensures { HeadingAnswers result line.now draft.old draft.new }
+{
     match draft.header(alloc, line) {
         Ok(whole) => Ok(whole),
+        Err(LineFault::Malformed) => Err(Stop::Refused(Code::Malformed)),
+        Err(LineFault::NotBuilt) => Err(Stop::Refused(Code::NotBuilt)),
         Err(LineFault::NoMemory) => Err(Stop::NoMemory),
-        Err(_) => Err(Stop::Refused(Code::NotBuilt)),
     }
 }
 
@@ -144,7 +173,10 @@ fn running(
     number: u64,
     line: &[u8],
     out: &mut Vec<u8>,
-) -> Result<(), Stop> {
+) -> Result<(), Stop>
+    requires { length world.old.events < 2 ^ 62 }
+    ensures { RunningAnswers result line.now number world.old world.new out.old.items out.new.items }
+{
     let event = match read_line(alloc, line) {
         Ok(event) => event,
         Err(LineFault::NoMemory) => return Err(Stop::NoMemory),
@@ -165,7 +197,10 @@ fn print_refusal(
     code: Code,
     line: u64,
     out: &mut Vec<u8>,
-) -> Result<(), AllocError> {
+) -> Result<(), AllocError>
+    ensures ok { OnOk result (out.new.items ≡ out.old.items ++ refusal_text (code_of code) line) }
+    ensures err { OnErr result (out.new.items ≡ out.old.items) }
+{
     let mut text = Vec::new(alloc);
     print_bytes(b"error 4 ", &mut text)?;
     print_bytes(code.text(), &mut text)?;
@@ -176,7 +211,10 @@ fn print_refusal(
 }
 
 // Writes what was printed, and answers the status unless the sink fails.
-fn written<W: Sink>(output: &mut W, text: &[u8], status: Status) -> Status {
+pub(crate) fn written<W: Sink>(output: &mut W, text: &[u8], status: Status) -> Status
+    ensures count { W.faults output.old ≤ W.faults output.new }
+    ensures written { Written status text.now result (Rose (W.faults output.old) (W.faults output.new)) (W.taken output.old) (W.taken output.new) }
+{
     if write_all(output, text) {
         status
     } else {
@@ -185,7 +223,10 @@ fn written<W: Sink>(output: &mut W, text: &[u8], status: Status) -> Status {
 }
 
 // Whole steps stand in the output, and then the line on memory.
-fn out_of_memory<W: Sink>(output: &mut W, text: &[u8]) -> Status {
+fn out_of_memory<W: Sink>(output: &mut W, text: &[u8]) -> Status
+    ensures count { W.faults output.old ≤ W.faults output.new }
+    ensures cause { ReplayCause result ⊥ (Rose (W.faults output.old) (W.faults output.new)) }
+{
     if !write_all(output, text) {
         return Status::Write;
     }
@@ -199,7 +240,10 @@ fn ended<W: Sink>(
     line: u64,
     out: &mut Vec<u8>,
     output: &mut W,
-) -> Status {
+) -> Status
+    ensures count { W.faults output.old ≤ W.faults output.new }
+    ensures cause { ReplayCause result ⊥ (Rose (W.faults output.old) (W.faults output.new)) }
+{
     match end {
         Ok(()) => written(output, out, Status::Done),
         Err(Stop::NoMemory) => out_of_memory(output, out),
@@ -211,7 +255,10 @@ fn ended<W: Sink>(
 }
 
 // Replays these bytes.
-fn replay_bytes<W: Sink>(alloc: Global, bytes: &[u8], output: &mut W) -> Status {
+fn replay_bytes<W: Sink>(alloc: Global, bytes: &[u8], output: &mut W) -> Status
+    ensures count { W.faults output.old ≤ W.faults output.new }
+    ensures cause { ReplayCause result ⊥ (Rose (W.faults output.old) (W.faults output.new)) }
+{
     let mut replay = Replay::new(alloc);
     let mut out = Vec::new(alloc);
     let mut rest = bytes;
@@ -236,7 +283,11 @@ fn replay_bytes<W: Sink>(alloc: Global, bytes: &[u8], output: &mut W) -> Status 
 /// Answers `Done` where every line is accepted; `Schedule` where a line is refused, after the steps before it and a
 /// line that says which and why; `Read` where the source failed, and nothing else is read then; `Write` where the sink
 /// failed, and nothing else is written then; and `Memory`, after whole steps.
-pub fn run_replay<S: Source, W: Sink>(alloc: Global, input: &mut S, output: &mut W) -> Status {
+pub fn run_replay<S: Source, W: Sink>(alloc: Global, input: &mut S, output: &mut W) -> Status
+    ensures read { S.faults input.old ≤ S.faults input.new }
+    ensures written { W.faults output.old ≤ W.faults output.new }
+    ensures cause { ReplayCause result (Rose (S.faults input.old) (S.faults input.new)) (Rose (W.faults output.old) (W.faults output.new)) }
+{
     match read_all(alloc, input) {
         Ok(bytes) => replay_bytes(alloc, &bytes, output),
         Err(Unread::Failed) => written(output, b"error 5 read\n", Status::Read),

@@ -1,0 +1,14 @@
+use Rattle.std.proofs.Common.{◌≡◌, ℕ, ◌+◌, ◌-◌, ◌*◌, ◌<◌, ◌≤◌, length, if◌then◌else◌, suc}
+use Rattle.ak_driver.specs.InputWords.{reach}
+use Rattle.ak_driver.proofs.input.read_all.Given as goal
+
+abbrev pub invariant-reads : goal.invariant-reads
+invariant-reads g l =
+    (length l.buffer.items ≡ 65536)
+    × (l.extent.lines ≤ 200000)
+    × (l.extent.bytes ≤ 4097)
+    × (g.S.Source.faults l.initial.input ≤ g.S.Source.faults l.input)
+
+-- what the input may still grow by
+abbrev pub decreases-reads : goal.decreases-reads
+decreases-reads g l = if l.extent.past then 0 else (819604098 - reach l.extent.lines l.extent.bytes)
