@@ -1,5 +1,5 @@
 -- What is added to those that have seen a gossip, and what receiving comes to.
-use Rattle.std.proofs.Common.{◌≡◌, ℕ, zero, suc, ◌+◌, ◌<◌, ◌≤◌, ◌^◌, ◌-◌, min, Bool, true, false, ◌||◌, ◌&&◌, if◌then◌else◌, List, [], ◌∷◌, length, get_or, take, Option, Some, None, Result, Ok, Err, slice_get, ltb, nat_lt, cond, refl, sym, ap, ◌∙◌, subst, arith, true≢false}
+use Rattle.std.proofs.Common.{◌≡◌, ℕ, zero, suc, ◌+◌, ◌<◌, ◌≤◌, ◌^◌, ◌-◌, min, Bool, true, false, ◌||◌, ◌&&◌, if◌then◌else◌, List, [], ◌∷◌, length, get_or, take, Option, Some, None, is_some, unwrap_or, Result, Ok, Err, slice_get, ltb, nat_lt, cond, refl, sym, ap, ◌∙◌, subst, arith, true≢false}
 use Rattle.std.proofs.lemmas.Option.{get_or_from_slice_get, slice_get_within}
 use Rattle.std.proofs.lemmas.List.Folds.{list_any_more, list_any_at}
 use Rattle.std.proofs.lemmas.Bool.{lt-ltb, le-ltb}
@@ -15,6 +15,7 @@ use Rattle.ak_clock.specs.declared.version.Relation.{Relation}
 use Rattle.ak_driver.specs.declared.gossip.Received.{Received}
 use Rattle.ak_driver.specs.declared.gossip.GossipFault.{GossipFault}
 use Rattle.ak_driver.specs.declared.gossip.GossipFault.TheVariants.{ForeignCount, TooManyUniques}
+use Rattle.ak_driver.specs.GossipWords.{excess_of}
 use Rattle.ak_driver.specs.Gossip.{GossipState, receive, noted, taken, most_uniques}
 use Rattle.ak_address.proofs.TableLaws.{key_itself, same_key}
 use Rattle.ak_address.proofs.UniquesLaws.{has-with_one, has-those, has-union, same_uniques, has_at, place_of_has}
@@ -138,18 +139,38 @@ unfolding union joined
 how_many-union s t = omega (arith, len-with_rows (λ _ _. tt) s (map.entries t), map.len-entries t)
 
 -- ---- the three outcomes of receiving
+pub few_of : (n : ℕ) → n ≤ most_uniques → None ≡ excess_of n
+few_of n few = sym (ap (λ b. if b then Some (min n (2 ^ 32 - 1)) else None) (le-ltb _ _ few))
+
+is_excess : (b : Bool) (n k : ℕ) → Some k ≡ (if b then Some n else None) → (b ≡ true) × (k ≡ n)
+is_excess true n k is = (refl, ap (λ o. unwrap_or o 0) is)
+is_excess false n k is = absurd (true≢false (ap is_some is))
+
+is_none : (b : Bool) (n : ℕ) → None ≡ (if b then Some n else None) → b ≡ false
+is_none true n is = absurd (true≢false (sym (ap is_some is)))
+is_none false n is = refl
+
+by_tests : {A : Type 0} (a b c d : Bool) (x y z : A) → a ≡ c → b ≡ d → (if a then x else (if b then y else z)) ≡ (if c then x else (if d then y else z))
+by_tests a b c d x y z is are = ap (λ t. if t then x else (if b then y else z)) is ∙ ap (λ t. if c then x else (if t then y else z)) are
+
 module _ (me : Process) (own incoming : GossipState) where
-  Outcome : Type 0
-  Outcome = Result (Received × GossipState) GossipFault
+  both_hold : ℕ
+  both_hold = how_many (union own.members incoming.members)
 
-  pub refused_foreign : count own.version me < count incoming.version me → receive me own incoming ≡ Err (ForeignCount (count own.version me) (count incoming.version me))
-  refused_foreign more =
-      ap (λ b. if b then Err (ForeignCount (count own.version me) (count incoming.version me)) else _) (lt-ltb _ _ more)
+  foreign : GossipFault
+  foreign = ForeignCount (count own.version me) (count incoming.version me)
 
-  pub refused_full : count incoming.version me ≤ count own.version me → most_uniques < how_many (union own.members incoming.members) →
-    receive me own incoming ≡ Err (TooManyUniques (min (how_many (union own.members incoming.members)) (2 ^ 32 - 1)))
-  refused_full known full = ?
+  outcome : Bool → Bool → Result (Received × GossipState) GossipFault
+  unfolding foreign both_hold
+  outcome a b =
+      if a then Err (ForeignCount (count own.version me) (count incoming.version me))
+      else (if b then Err (TooManyUniques (min (how_many (union own.members incoming.members)) (2 ^ 32 - 1)))
+      else Ok (noted me (taken (relation own.version incoming.version) own incoming)))
 
-  pub received : (r : Relation) → count incoming.version me ≤ count own.version me → how_many (union own.members incoming.members) ≤ most_uniques → relation own.version incoming.version ≡ r →
+  pub received : (r : Relation) → count incoming.version me ≤ count own.version me → None ≡ excess_of (how_many (union own.members incoming.members)) → relation own.version incoming.version ≡ r →
     receive me own incoming ≡ Ok (noted me (taken r own incoming))
-  received r known fits is = ?
+  unfolding outcome
+  received r known fits is =
+      ap (λ t. outcome t (nat_lt most_uniques (how_many (union own.members incoming.members)))) (le-ltb _ _ known)
+      ∙ ap (outcome false) (is_none _ _ fits)
+      ∙ ap (λ s. Ok (noted me (taken s own incoming))) is
