@@ -141,6 +141,13 @@ fn one(alloc: Global, action: Action) -> Result<Actions, AllocError>
     Ok(actions)
 }
 
+// The address belongs to the cluster.
+fn is_listed(settings: &Settings, at: &Address) -> bool
+    ensures { result ≡ rules.is_listed settings.now.listed at.now }
+{
+    settings.is_listed(at)
+}
+
 // Both processes are at one address.
 fn is_beside(one: &Unique, other: &Unique) -> bool
     ensures { result ≡ is_eq (address_cmp one.now.address other.now.address) }
@@ -252,7 +259,7 @@ impl State {
         if !self.is_member() {
             return one(alloc, Action::Refused(NOT_MEMBER));
         }
-        if !self.settings.is_listed(&from.address) {
+        if !is_listed(&self.settings, &from.address) {
             return one(alloc, Action::Refused(UNLISTED));
         }
         if self.gossip.members().contains(from) {
