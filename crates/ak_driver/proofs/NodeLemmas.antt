@@ -58,7 +58,7 @@ take_places s n le = take_all n (in_order s) (omega (arith, length-in_order s))
 
 -- ---- the cases of a join
 module _ (from : Process) (n s : State) (a : List Action) where
-  join_by : Bool → Bool → Bool → Bool → Bool → Outcome
+  pub join_by : Bool → Bool → Bool → Bool → Bool → Outcome
   join_by member listed known taken full =
       if not member then refused 3 n
       else (if not listed then refused 4 n
