@@ -4,8 +4,12 @@ use Rattle.std.proofs.lemmas.Option.{get_or_from_slice_get, slice_get_within}
 use Rattle.std.proofs.lemmas.List.Folds.{list_any_more, list_any_at}
 use Rattle.std.proofs.lemmas.List.{length-map, take_all}
 use Rattle.std.specs.List.{list_any}
+use Rattle.std.specs.Prelude.{IsTrue, ◌↔◌}
+use Rattle.ak_address.proofs.Order.{address_total, address_exact}
 use Rattle.std.specs.List.{Contains}
-use Rattle.std.specs.Ordering.{is_eq, eq_by_cmp}
+use Rattle.std.specs.Ordering.{is_eq}
+use Rattle.std.specs.declared.cmp.Ordering.TheVariants.{Less, Equal, Greater}
+use Rattle.std.specs.Cmp.{tied_itself}
 use Rattle.std.proofs.lemmas.Bool.{ltb-false}
 use Rattle.std.specs.FinMap as map
 use Rattle.ak_address.specs.Unique.{Endpoint, Process, address_cmp}
@@ -55,6 +59,31 @@ length-in_order s = length-map (map.entries s) (λ row. row.0) ∙ sym (map.len-
 
 pub take_places : (s : UniqueSet) (n : ℕ) → how_many s ≤ n → take n (in_order s) ≡ in_order s
 take_places s n le = take_all n (in_order s) (omega (arith, length-in_order s))
+
+-- ---- which addresses are listed
+listed_at_head : (b a : Endpoint) (listed : List Endpoint) → (is_listed listed a ≡ true → Contains listed a) → is_listed (b ∷ listed) a ≡ true → Contains (b ∷ listed) a
+listed_at_head b a listed rest is =
+    elim (address_cmp b a) as (λ r. address_cmp b a ≡ r → (is_eq r || is_listed listed a) ≡ true → Contains (b ∷ listed) a) [
+      | Less ↦ λ _ h. Contains-later b a listed (rest h)
+      | Equal ↦ λ tied _. (0, omega arith, address_exact b a tied)
+      | Greater ↦ λ _ h. Contains-later b a listed (rest h)
+    ] refl is
+  where
+    Contains-later : (b a : Endpoint) (listed : List Endpoint) → Contains listed a → Contains (b ∷ listed) a
+    Contains-later b a listed c = (suc c.0, omega (arith, c.1), c.2)
+
+contains_from : (listed : List Endpoint) (a : Endpoint) → is_listed listed a ≡ true → Contains listed a
+contains_from [] a is = absurd (true≢false (sym is))
+contains_from (b ∷ listed) a is = listed_at_head b a listed (contains_from listed a) is
+
+listed_from : (listed : List Endpoint) (a : Endpoint) → Contains listed a → is_listed listed a ≡ true
+listed_from listed a c =
+    list_any_at (λ b. is_eq (address_cmp b a)) listed c.0 a c.1 (ap (λ b. is_eq (address_cmp b a)) c.2 ∙ ap is_eq (tied_itself address_total a))
+
+pub listed_test : (b : Bool) (listed : List Endpoint) (a : Endpoint) → (IsTrue b ↔ Contains listed a) → b ≡ is_listed listed a
+listed_test true listed a means = sym (listed_from listed a (means.0 refl))
+listed_test false listed a means =
+    elim (is_listed listed a) as (λ r. is_listed listed a ≡ r → false ≡ r) [ true ↦ λ is. means.1 (contains_from listed a is) | false ↦ λ _. refl ] refl
 
 -- ---- the cases of a join
 module _ (from : Process) (n s : State) (a : List Action) where
