@@ -1,5 +1,5 @@
 -- What a walk along the members finds, and which addresses are listed.
-use Rattle.std.proofs.Common.{◌≡◌, ℕ, zero, suc, ◌+◌, ◌<◌, ◌≤◌, Bool, true, false, ◌||◌, ◌&&◌, List, [], ◌∷◌, length, get_or, take, Option, Some, None, is_some, slice_get, Result, Ok, Err, if◌then◌else◌, not, ltb, nat_le, nat_lt, min, ◌^◌, ◌-◌, refl, sym, ap, ◌∙◌, subst, arith, true≢false}
+use Rattle.std.proofs.Common.{◌≡◌, ℕ, zero, suc, ◌+◌, ◌<◌, ◌≤◌, Bool, true, false, ◌||◌, ◌&&◌, List, [], ◌∷◌, ◌++◌, length, get_or, take, Option, Some, None, is_some, slice_get, Result, Ok, Err, if◌then◌else◌, not, ltb, nat_le, nat_lt, min, ◌^◌, ◌-◌, refl, sym, ap, ◌∙◌, subst, arith, true≢false}
 use Rattle.std.proofs.lemmas.Option.{get_or_from_slice_get, slice_get_within}
 use Rattle.std.proofs.lemmas.List.Folds.{list_any_more, list_any_at}
 use Rattle.std.proofs.lemmas.List.{length-map, take_all}
@@ -32,7 +32,7 @@ use Rattle.ak_driver.specs.declared.node.NodeEvent.TheVariants as event
 use Rattle.ak_driver.specs.declared.node.Action.{Action}
 use Rattle.ak_driver.specs.declared.node.Action.TheVariants as action
 use Rattle.ak_driver.specs.Gossip.{GossipState, receive, taken, noted, seen_by, most_uniques}
-use Rattle.ak_driver.specs.Node.{Outcome, nothing, refused, update, and_sends, is_member, is_listed, is_taken, most_at_join, on_join, found, join, is_answered, on_received, on_gossip, on_message, is_for, rule, is_other, closed, step}
+use Rattle.ak_driver.specs.Node.{Outcome, nothing, refused, update, and_sends, to_process, is_member, is_listed, is_taken, most_at_join, on_join, found, join, is_answered, on_received, on_gossip, on_message, is_for, rule, is_other, closed, step}
 use Rattle.ak_driver.specs.NodeWords.{Does, IsOwnCount}
 use Rattle.ak_address.specs.Uniques.{UniqueSet, has, union, how_many, in_order}
 
@@ -125,6 +125,14 @@ module _ (from : Process) (n s : State) (a : List Action) where
     false ≡ nat_le most_at_join (how_many n.gossip.members) → Does (and_sends message.Welcome from (update (Joined from ∷ []) n)) s a → Does (on_join from n) s a
   unfolding join_by
   at_free p q r t u does = joins_by true true false false false p q r t u does
+
+-- what was done, and a message with what is known then
+pub sends_does : (what : GossipState → Message) (to : Process) (o : Outcome) (s : State) (first a : List Action) →
+  Does o s first → a ≡ first ++ to_process s to (what s.gossip) ∷ [] → Does (and_sends what to o) s a
+sends_does what to o s first a d is = record {
+  state_after = d.state_after;
+  actions_done = is ∙ (λ i. d.actions_done i ++ to_process (d.state_after i) to (what (d.state_after i).gossip) ∷ []);
+}
 
 -- ---- a node counts at most one more of its own updates after a step
 pub record Keeps (n : State) (o : Outcome) : Type 0 where
