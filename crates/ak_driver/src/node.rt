@@ -448,12 +448,14 @@ impl Node {
         if self.spent {
             return Err(AllocError);
         }
-        let result = self.state.step(alloc, event);
-        if result.is_err() {
-            self.state.gossip = Gossip::empty(alloc);
-            self.spent = true;
+        match self.state.step(alloc, event) {
+            Ok(actions) => Ok(actions),
+            Err(error) => {
+                self.state.gossip = Gossip::empty(alloc);
+                self.spent = true;
+                Err(error)
+            }
         }
-        result
     }
 
     /// The process that it is.
