@@ -1,3 +1,2 @@
 pub mod GossipLemmas
-pub mod HistoryLemmas
 pub mod NodeLemmas
