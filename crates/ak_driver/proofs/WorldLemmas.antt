@@ -1,0 +1,231 @@
+-- Lemmas of the definitions of a world: what a list of actions does by parts, how many nodes a run has and how many
+-- events each was given, and which node a process is.
+use Rattle.std.proofs.Common.{◌≡◌, ℕ, zero, suc, ◌+◌, ◌<◌, ◌≤◌, ◌^◌, leb, ltb, Bool, true, false, cond, not, ◌&&◌, ◌||◌, List, [], ◌∷◌, ◌++◌, map, set, length, Option, Some, None, is_some, position, slice_get, slice_set, Result, Ok, Err, if◌then◌else◌, refl, sym, ap, ◌∙◌, subst, arith, length-append, take, get_or}
+use Rattle.std.proofs.Math.ListN.{length-set}
+use Rattle.std.proofs.lemmas.Option.{same_Some}
+use Rattle.std.proofs.lemmas.Bool.{leb-false}
+use Rattle.std.proofs.lemmas.List.{take_more}
+use Rattle.std.specs.List.{list_any, prefix_len, position_or_len}
+use Rattle.ak_address.specs.Unique.{Process}
+use Rattle.ak_schedule.specs.Settings.{Setup}
+use Rattle.ak_schedule.specs.declared.event.Event.{Event}
+use Rattle.ak_schedule.specs.declared.event.Event.TheVariants.{Start, Found, Join, Tick, Deliver, Leave, Down, Offer, Stop}
+use Rattle.ak_driver.specs.declared.history.Entry.{Entry}
+use Rattle.ak_driver.specs.declared.wire.Envelope.{Envelope}
+use Rattle.ak_driver.specs.declared.wire.Message.{Message}
+use Rattle.ak_driver.specs.declared.wire.Message as message
+use Rattle.ak_driver.specs.declared.gossip.Received as received
+use Rattle.ak_driver.specs.declared.gossip.GossipFault as fault
+use Rattle.ak_driver.specs.declared.node.State.{State}
+use Rattle.ak_driver.specs.declared.node.NodeEvent.{NodeEvent}
+use Rattle.ak_driver.specs.declared.node.NodeEvent as event
+use Rattle.ak_driver.specs.declared.node.Action.{Action}
+use Rattle.ak_driver.specs.declared.node.Action.TheVariants.{Send, Update, View, Refused, Dead}
+use Rattle.ak_driver.specs.declared.world.Refused as refused
+use Rattle.ak_driver.specs.Gossip.{GossipState, receive}
+use Rattle.ak_driver.specs.History.{entries_of}
+use Rattle.ak_driver.specs.Node.{Outcome, started, on_join, on_received, on_gossip, on_message, rule, step}
+use Rattle.ak_driver.specs.NodeWords.{Machine}
+use Rattle.ak_driver.specs.World.{WorldState, Done, sent, recorded, gives, acts, arrives, delivers, starts, happens, after, run_from, run, empty_world, node_of, receiver_of, packet_at}
+use Rattle.ak_driver.specs.WorldWords.{states, IsReady}
+
+-- what actions send and record, by parts
+pub sent-append : (a b : List Action) → sent (a ++ b) ≡ sent a ++ sent b
+sent-append [] b = refl
+sent-append (Send e ∷ a) b = ap (λ (es : List Envelope). e ∷ es) (sent-append a b)
+sent-append (Update number effects ∷ a) b = sent-append a b
+sent-append (View ∷ a) b = sent-append a b
+sent-append (Refused why ∷ a) b = sent-append a b
+sent-append (Dead ∷ a) b = sent-append a b
+
+-- one more action
+pub sent-more : (xs : List Action) (i : ℕ) (a : Action) → i < length xs → a ≡ get_or xs i a → sent (take (i + 1) xs) ≡ sent (take i xs) ++ sent (a ∷ [])
+sent-more xs i a lt is =
+    ap sent (take_more xs i a lt) ∙ sent-append (take i xs) (get_or xs i a ∷ []) ∙ ap (λ (x : Action). sent (take i xs) ++ sent (x ∷ [])) (sym is)
+
+pub recorded-append : (author : Process) (a b : List Action) (history : List Entry) → recorded author (a ++ b) history ≡ recorded author b (recorded author a history)
+recorded-append author [] b history = refl
+recorded-append author (Send e ∷ a) b history = recorded-append author a b history
+recorded-append author (Update number effects ∷ a) b history =
+    recorded-append author a b (record { author = author; number = entries_of author history + 1; effects = effects } ∷ history)
+recorded-append author (View ∷ a) b history = recorded-append author a b history
+recorded-append author (Refused why ∷ a) b history = recorded-append author a b history
+recorded-append author (Dead ∷ a) b history = recorded-append author a b history
+
+pub recorded-more : (author : Process) (xs : List Action) (i : ℕ) (a : Action) (history : List Entry) → i < length xs → a ≡ get_or xs i a
+    → recorded author (take (i + 1) xs) history ≡ recorded author (a ∷ []) (recorded author (take i xs) history)
+recorded-more author xs i a history lt is =
+    ap (λ (acts : List Action). recorded author acts history) (take_more xs i a lt) ∙ recorded-append author (take i xs) (get_or xs i a ∷ []) history
+    ∙ ap (λ (x : Action). recorded author (x ∷ []) (recorded author (take i xs) history)) (sym is)
+
+-- the first node that passes, and whether one does, by the states
+first_state : (p : State → Bool) (xs : List Machine) → prefix_len (λ n. not (p n)) (states xs) ≡ prefix_len (λ (n : Machine). not (p n.state)) xs
+first_state p [] = refl
+first_state p (x ∷ xs) = ap (λ (k : ℕ). cond (not (p x.state)) (1 + k) 0) (first_state p xs)
+
+pub length-states : (xs : List Machine) → length (states xs) ≡ length xs
+length-states [] = refl
+length-states (x ∷ xs) = ap suc (length-states xs)
+
+pub position-states : (p : State → Bool) (xs : List Machine) → position p (states xs) ≡ position (λ (n : Machine). p n.state) xs
+position-states p xs =
+    let place = λ (k n : ℕ). cond (ltb k n) (Some k) None in
+    ap (λ (k : ℕ). place k (length (states xs))) (first_state p xs) ∙ ap (place (position_or_len (λ (n : Machine). p n.state) xs)) (length-states xs)
+
+pub list_any-states : (p : State → Bool) (xs : List Machine) → list_any p (states xs) ≡ list_any (λ (n : Machine). p n.state) xs
+list_any-states p [] = refl
+list_any-states p (x ∷ xs) = ap (λ (b : Bool). p x.state || b) (list_any-states p xs)
+
+-- a place is found where one passes
+found_first : (b : Bool) (k n : ℕ) → ltb (cond (not b) (1 + k) 0) (suc n) ≡ (b || ltb k n)
+found_first true k n = refl
+found_first false k n = refl
+
+found_one : {X : Type 0} (p : X → Bool) (xs : List X) → ltb (position_or_len p xs) (length xs) ≡ list_any p xs
+found_one p [] = refl
+found_one p (x ∷ xs) = found_first (p x) (position_or_len p xs) (length xs) ∙ ap (λ (b : Bool). p x || b) (found_one p xs)
+
+some_if : (b : Bool) (k : ℕ) → is_some (cond b (Some k) None) ≡ b
+some_if true k = refl
+some_if false k = refl
+
+pub is_some-position : {X : Type 0} (p : X → Bool) (xs : List X) → is_some (position p xs) ≡ list_any p xs
+is_some-position p xs = some_if (ltb (position_or_len p xs) (length xs)) (position_or_len p xs) ∙ found_one p xs
+
+-- each step of a node counts one event
+steps_if : (b : Bool) (x y : Outcome) (k : ℕ) → x.0.steps ≡ k → y.0.steps ≡ k → (if b then x else y).0.steps ≡ k
+steps_if true x y k p q = p
+steps_if false x y k p q = q
+
+received_steps : (from : Process) (incoming : GossipState) (n : State) (r : Result (received.Received × GossipState) fault.GossipFault) → (on_received from incoming n r).0.steps ≡ n.steps
+received_steps from incoming n (Err (fault.TheVariants.ForeignCount own theirs)) = refl
+received_steps from incoming n (Err (fault.TheVariants.TooManyUniques union)) = refl
+received_steps from incoming n (Err fault.TheVariants.NoMemory) = refl
+received_steps from incoming n (Ok r) = steps_if _ _ _ _ refl refl
+
+gossip_steps : (from : Process) (incoming : GossipState) (n : State) → (on_gossip from incoming n).0.steps ≡ n.steps
+gossip_steps from incoming n = steps_if _ _ _ _ (received_steps from incoming n (receive n.me n.gossip incoming)) refl
+
+steps_of_five : (a b c d e : Bool) (u v w x y z : Outcome) (k : ℕ) → u.0.steps ≡ k → v.0.steps ≡ k → w.0.steps ≡ k → x.0.steps ≡ k → y.0.steps ≡ k → z.0.steps ≡ k
+    → (if a then u else (if b then v else (if c then w else (if d then x else (if e then y else z))))).0.steps ≡ k
+steps_of_five true b c d e u v w x y z k pu pv pw px py pz = pu
+steps_of_five false true c d e u v w x y z k pu pv pw px py pz = pv
+steps_of_five false false true d e u v w x y z k pu pv pw px py pz = pw
+steps_of_five false false false true e u v w x y z k pu pv pw px py pz = px
+steps_of_five false false false false e u v w x y z k pu pv pw px py pz = steps_if e y z k py pz
+
+join_steps : (from : Process) (n : State) → (on_join from n).0.steps ≡ n.steps
+join_steps from n =
+    steps_of_five _ _ _ _ _ _ _ _ _ _ _ _ refl refl refl refl refl refl
+
+message_steps : (from : Process) (m : Message) (n : State) → (on_message from m n).0.steps ≡ n.steps
+message_steps from message.TheVariants.Join n = join_steps from n
+message_steps from (message.TheVariants.Welcome g) n = gossip_steps from g n
+message_steps from (message.TheVariants.Gossip g) n = gossip_steps from g n
+
+rule_steps : (e : NodeEvent) (n : State) → (rule e n).0.steps ≡ n.steps
+rule_steps event.TheVariants.Found n = steps_if _ _ _ _ refl refl
+rule_steps (event.TheVariants.Join target) n = steps_if _ _ _ _ refl refl
+rule_steps (event.TheVariants.Packet e) n = steps_if _ _ _ _ (message_steps e.from e.message n) refl
+
+step_steps : (e : NodeEvent) (n : State) → (step e n).0.steps ≡ n.steps + 1
+step_steps e n =
+    let counted = rule_steps e (record n { steps = n.steps + 1 }) in
+    steps_if _ _ _ _ counted counted
+
+-- what is true of each node stays true where one is replaced, and where one is added
+set_each : (P : State → Type 0) (xs : List State) (place : ℕ) (x : State) → ((j : ℕ) (m : State) → slice_get xs j ≡ Some m → P m) → P x
+    → (j : ℕ) (m : State) → slice_get (slice_set xs place x) j ≡ Some m → P m
+set_each P [] place x each here j m is = each j m is
+set_each P (y ∷ ys) zero x each here zero m is = subst P (same_Some x m is) here
+set_each P (y ∷ ys) zero x each here (suc j) m is = each (suc j) m is
+set_each P (y ∷ ys) (suc place) x each here zero m is = each zero m is
+set_each P (y ∷ ys) (suc place) x each here (suc j) m is = set_each P ys place x (λ i. each (suc i)) here j m is
+
+push_each : (P : State → Type 0) (xs : List State) (x : State) → ((j : ℕ) (m : State) → slice_get xs j ≡ Some m → P m) → P x
+    → (j : ℕ) (m : State) → slice_get (xs ++ x ∷ []) j ≡ Some m → P m
+push_each P [] x each here zero m is = subst P (same_Some x m is) here
+push_each P [] x each here (suc j) m is = each j m is
+push_each P (y ∷ ys) x each here zero m is = each zero m is
+push_each P (y ∷ ys) x each here (suc j) m is = push_each P ys x (λ i. each (suc i)) here j m is
+
+-- at most 64 nodes, each with at most k events
+record IsYoung (k : ℕ) (w : WorldState) : Type 0 where
+  few : length w.nodes ≤ 64
+  steps : (place : ℕ) (n : State) → slice_get w.nodes place ≡ Some n → n.steps ≤ k
+
+older : (j k : ℕ) (w : WorldState) → j ≤ k → IsYoung j w → IsYoung k w
+older j k w le young = record {
+  few = young.few;
+  steps = λ place n is. let below : n.steps ≤ j = young.steps place n is in omega arith;
+}
+
+young_if : (k : ℕ) (w : WorldState) (b : Bool) (x y : Result Done refused.Refused) → IsYoung k (after w x) → (b ≡ false → IsYoung k (after w y)) → IsYoung k (after w (if b then x else y))
+young_if k w true x y p q = p
+young_if k w false x y p q = q refl
+
+gives_young : (k : ℕ) (e : NodeEvent) (place : ℕ) (o : Option State) (w v : WorldState) → slice_get v.nodes place ≡ o → IsYoung k v → IsYoung (k + 1) w → IsYoung (k + 1) (after w (gives e place o v))
+gives_young k e place (Some n) w v is young old = record {
+  few = let same = length-set v.nodes place (step e n).0 in omega (arith, same, young.few);
+  steps = set_each (λ m. m.steps ≤ k + 1) v.nodes place (step e n).0 (older k (k + 1) v (omega arith) young).steps
+      (let counted = step_steps e n in let below : n.steps ≤ k = young.steps place n is in omega (arith, counted));
+}
+gives_young k e place None w v is young old = old
+
+acts_young : (k : ℕ) (e : NodeEvent) (o : Option ℕ) (w v : WorldState) → IsYoung k v → IsYoung (k + 1) w → IsYoung (k + 1) (after w (acts e o v))
+acts_young k e (Some place) w v young old = gives_young k e place (slice_get v.nodes place) w v refl young old
+acts_young k e None w v young old = old
+
+arrives_young : (k : ℕ) (e : Envelope) (o : Option ℕ) (w : WorldState) → IsYoung k w → IsYoung (k + 1) w → IsYoung (k + 1) (after w (arrives e o w))
+arrives_young k e (Some place) w young old = gives_young k (event.TheVariants.Packet e) place (slice_get w.nodes place) w w refl young old
+arrives_young k e None w young old = old
+
+delivers_young : (k : ℕ) (o : Option Envelope) (w : WorldState) → IsYoung k w → IsYoung (k + 1) w → IsYoung (k + 1) (after w (delivers o w))
+delivers_young k (Some e) w young old = arrives_young k e (receiver_of e w) w young old
+delivers_young k None w young old = old
+
+below_64 : (n : ℕ) → leb 64 n ≡ false → n + 1 ≤ 64
+below_64 n h = let below = leb-false 64 n h in omega (arith, below)
+
+starts_young : (k : ℕ) (setup : Setup) (u : Process) (w : WorldState) → IsYoung (k + 1) w → leb 64 (length w.nodes) ≡ false → IsYoung (k + 1) (starts setup u w).world
+starts_young k setup u w old room = record {
+  few = subst (λ n. n ≤ 64) (sym (length-append w.nodes (started u setup ∷ []))) (below_64 (length w.nodes) room);
+  steps = push_each (λ m. m.steps ≤ k + 1) w.nodes (started u setup) old.steps (omega arith);
+}
+
+happens_young : (k : ℕ) (setup : Setup) (e : Event) (w : WorldState) → IsYoung k w → IsYoung (k + 1) w → IsYoung (k + 1) (after w (happens setup e w))
+happens_young k setup (Start u) w young old =
+    young_if _ w _ _ _ old (λ a. young_if _ w _ _ _ old (λ b. young_if _ w _ _ _ old (λ c. young_if _ w _ _ _ old (λ room. starts_young k setup u w old room))))
+happens_young k setup (Found u) w young old =
+    young_if _ w _ _ _ old (λ a. acts_young k event.TheVariants.Found (node_of u w) w (record w { founded = true }) (record { few = young.few; steps = young.steps }) old)
+happens_young k setup (Join u target) w young old =
+    young_if _ w _ _ _ old (λ a. acts_young k (event.TheVariants.Join target) (node_of u w) w w young old)
+happens_young k setup (Deliver number) w young old = delivers_young k (packet_at w number) w young old
+happens_young k setup (Tick u word) w young old = old
+happens_young k setup (Leave u who) w young old = old
+happens_young k setup (Down u who) w young old = old
+happens_young k setup (Offer u entity payload) w young old = old
+happens_young k setup (Stop u) w young old = old
+
+run_young : (k : ℕ) (setup : Setup) (w : WorldState) (events : List Event) → IsYoung k w → IsYoung (k + length events) (run_from setup w events)
+run_young k setup w [] young = older k (k + 0) w (omega arith) young
+run_young k setup w (e ∷ events) young =
+    older (k + 1 + length events) (k + suc (length events)) _ (omega arith)
+    (run_young (k + 1) setup (after w (happens setup e w)) events (happens_young k setup e w young (older k (k + 1) w (omega arith) young)))
+
+empty_young : IsYoung 0 empty_world
+empty_young = record { few = omega arith; steps = λ place n is. absurd (cc) }
+
+-- the world of fewer than 2 ^ 62 events is ready for one more
+pub ready_run : (setup : Setup) (events : List Event) → length events < 2 ^ 62 → IsReady (run setup events)
+ready_run setup events few =
+    let young = run_young 0 setup empty_world events empty_young in
+    record {
+      few_nodes = young.few;
+      few_steps = λ place n is. let below : n.steps ≤ 0 + length events = young.steps place n is in omega arith;
+    }
+
+-- one more event
+pub run-push : (setup : Setup) (w : WorldState) (events : List Event) (e : Event) → run_from setup w (events ++ e ∷ []) ≡ after (run_from setup w events) (happens setup e (run_from setup w events))
+run-push setup w [] e = refl
+run-push setup w (x ∷ xs) e = run-push setup (after w (happens setup x w)) xs e
