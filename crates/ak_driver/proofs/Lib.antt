@@ -1,1 +1,4 @@
+pub mod GossipLemmas
+pub mod HistoryLemmas
+pub mod NodeLemmas
 pub mod WorldLemmas

@@ -1,6 +1,6 @@
 //! The history of a cluster: every update, and the members that a version shows of it.
 
-ghost use Rattle.std.specs.Prelude.{◌≡◌, ◌+◌, [], ◌∷◌, reverse, length, slice_get, IfOk, OnOk, OnErr};
+ghost use Rattle.std.specs.Prelude.{◌≡◌, ◌+◌, ◌≤◌, [], ◌∷◌, reverse, length, slice_get, IfOk, OnOk, OnErr};
 ghost use Rattle.std.specs.Option.{option_copied};
 ghost use Rattle.ak_driver.specs.History.{entries_of, view};
 
@@ -97,10 +97,13 @@ impl History {
 }
 
 // How many entries the author has.
-fn count_of(entries: &[Entry], author: &Unique) -> u64 {
+fn count_of(entries: &[Entry], author: &Unique) -> u64
+    ensures count { result ≡ entries_of author.now (reverse entries.now) }
+    ensures bounded { result ≤ length entries.now }
+{
     let mut count = 0;
     'entries: for entry in entries {
-        if entry.author.compare(author).is_eq() {
+        if author.compare(&entry.author).is_eq() {
             count += 1;
         }
     }

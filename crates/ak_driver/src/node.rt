@@ -143,12 +143,12 @@ fn one(alloc: Global, action: Action) -> Result<Actions, AllocError>
 fn is_taken(who: &Unique, members: &Uniques) -> bool
     ensures { result ≡ rules.is_taken who.now members.now }
 {
-    let mut place = 0;
-    'members: while let Some(member) = members.at(place) {
-        if member.address.compare(&who.address).is_eq() {
-            return true;
+    'members: for place in 0..members.len() {
+        if let Some(member) = members.at(place) {
+            if member.address.compare(&who.address).is_eq() {
+                return true;
+            }
         }
-        place += 1;
     }
     false
 }
