@@ -1,16 +1,24 @@
 -- Lemmas of the definitions of a world: what a list of actions does by parts, how many nodes a run has and how many
 -- events each was given, and which node a process is.
-use Rattle.std.proofs.Common.{◌≡◌, ℕ, zero, suc, ◌+◌, ◌<◌, ◌≤◌, ◌^◌, leb, ltb, Bool, true, false, cond, not, ◌&&◌, ◌||◌, List, [], ◌∷◌, ◌++◌, map, set, length, Option, Some, None, is_some, position, slice_get, slice_set, Result, Ok, Err, if◌then◌else◌, refl, sym, ap, ◌∙◌, subst, arith, length-append, take, get_or}
+use Rattle.std.proofs.Common.{◌≡◌, ℕ, zero, suc, ◌+◌, ◌<◌, ◌≤◌, ◌^◌, leb, ltb, Bool, true, false, cond, not, ◌&&◌, ◌||◌, List, [], ◌∷◌, ◌++◌, map, set, length, Option, Some, None, is_some, option_map, Contains, IsTrue, ◌↔◌, ◌⊎◌, inl, inr, ⊎_elim, position, slice_get, slice_set, Result, Ok, Err, if◌then◌else◌, refl, sym, ap, ◌∙◌, subst, arith, append_assoc, length-append, take, get_or}
 use Rattle.std.proofs.Math.ListN.{length-set}
-use Rattle.std.proofs.lemmas.Option.{same_Some}
+use Rattle.std.proofs.lemmas.Option.{same_Some, slice_get-map, slice_get-get_or}
 use Rattle.std.proofs.lemmas.Bool.{leb-false}
 use Rattle.std.proofs.lemmas.List.{take_more}
+use Rattle.std.proofs.lemmas.List.Folds.{list_any_at}
+use Rattle.std.proofs.lemmas.Cmp.{tied_itself}
+use Rattle.std.specs.declared.cmp.Ordering.{Ordering}
+use Rattle.std.specs.declared.cmp.Ordering.TheVariants.{Less, Equal, Greater}
+use Rattle.std.specs.Ordering.{is_eq}
+use Rattle.ak_address.proofs.Order.{address_total, address_exact}
 use Rattle.std.specs.List.{list_any, prefix_len, position_or_len}
-use Rattle.ak_address.specs.Unique.{Process}
+use Rattle.ak_address.specs.Unique.{Endpoint, Process, address_cmp}
 use Rattle.ak_schedule.specs.Settings.{Setup}
 use Rattle.ak_schedule.specs.declared.event.Event.{Event}
 use Rattle.ak_schedule.specs.declared.event.Event.TheVariants.{Start, Found, Join, Tick, Deliver, Leave, Down, Offer, Stop}
 use Rattle.ak_driver.specs.declared.history.Entry.{Entry}
+use Rattle.ak_driver.specs.declared.member.Effect.{Effect}
+use Rattle.ak_driver.specs.declared.member.Effect.TheVariants.{Joined}
 use Rattle.ak_driver.specs.declared.wire.Envelope.{Envelope}
 use Rattle.ak_driver.specs.declared.wire.Message.{Message}
 use Rattle.ak_driver.specs.declared.wire.Message as message
@@ -24,7 +32,7 @@ use Rattle.ak_driver.specs.declared.node.Action.TheVariants.{Send, Update, View,
 use Rattle.ak_driver.specs.declared.world.Refused as refused
 use Rattle.ak_driver.specs.Gossip.{GossipState, receive}
 use Rattle.ak_driver.specs.History.{entries_of}
-use Rattle.ak_driver.specs.Node.{Outcome, started, on_join, on_received, on_gossip, on_message, rule, step}
+use Rattle.ak_driver.specs.Node.{Outcome, started, is_listed, nothing, refused as refused_by, and_sends, update, on_join, on_received, on_gossip, on_message, rule, step}
 use Rattle.ak_driver.specs.NodeWords.{Machine}
 use Rattle.ak_driver.specs.World.{WorldState, Done, sent, recorded, gives, acts, arrives, delivers, starts, happens, after, run_from, run, empty_world, node_of, receiver_of, packet_at}
 use Rattle.ak_driver.specs.WorldWords.{states, IsReady}
@@ -43,6 +51,21 @@ pub sent-more : (xs : List Action) (i : ℕ) (a : Action) → i < length xs → 
 sent-more xs i a lt is =
     ap sent (take_more xs i a lt) ∙ sent-append (take i xs) (get_or xs i a ∷ []) ∙ ap (λ (x : Action). sent (take i xs) ++ sent (x ∷ [])) (sym is)
 
+pub sent-kept : (old now new : List Envelope) (xs : List Action) (i : ℕ) (a : Action) → i < length xs → a ≡ get_or xs i a → now ≡ old ++ sent (take i xs) → new ≡ now ++ sent (a ∷ [])
+    → new ≡ old ++ sent (take (i + 1) xs)
+sent-kept old now new xs i a lt is before here =
+    here
+    ∙ ap (λ (es : List Envelope). es ++ sent (a ∷ [])) before
+    ∙ append_assoc old (sent (take i xs)) (sent (a ∷ []))
+    ∙ ap (λ (es : List Envelope). old ++ es) (sym (sent-more xs i a lt is))
+
+pub sent-none : (a : Action) → ((e : Envelope) → a ≡ Send e → ⊥) → sent (a ∷ []) ≡ []
+sent-none (Send e) no = absurd (no e refl)
+sent-none (Update number effects) no = refl
+sent-none View no = refl
+sent-none (Refused why) no = refl
+sent-none Dead no = refl
+
 pub recorded-append : (author : Process) (a b : List Action) (history : List Entry) → recorded author (a ++ b) history ≡ recorded author b (recorded author a history)
 recorded-append author [] b history = refl
 recorded-append author (Send e ∷ a) b history = recorded-append author a b history
@@ -57,6 +80,26 @@ pub recorded-more : (author : Process) (xs : List Action) (i : ℕ) (a : Action)
 recorded-more author xs i a history lt is =
     ap (λ (acts : List Action). recorded author acts history) (take_more xs i a lt) ∙ recorded-append author (take i xs) (get_or xs i a ∷ []) history
     ∙ ap (λ (x : Action). recorded author (x ∷ []) (recorded author (take i xs) history)) (sym is)
+
+pub recorded-kept : (author : Process) (old now new : List Entry) (xs : List Action) (i : ℕ) (a : Action) → i < length xs → a ≡ get_or xs i a → now ≡ recorded author (take i xs) old
+    → new ≡ recorded author (a ∷ []) now → new ≡ recorded author (take (i + 1) xs) old
+recorded-kept author old now new xs i a lt is before here =
+    here ∙ ap (recorded author (a ∷ [])) before ∙ sym (recorded-more author xs i a old lt is)
+
+pub recorded-none : (author : Process) (now : List Entry) (a : Action) → ((n : ℕ) (es : List Effect) → a ≡ Update n es → ⊥) → recorded author (a ∷ []) now ≡ now
+recorded-none author now (Send e) no = refl
+recorded-none author now (Update number effects) no = absurd (no number effects refl)
+recorded-none author now View no = refl
+recorded-none author now (Refused why) no = refl
+recorded-none author now Dead no = refl
+
+pub recorded-pushed : (author : Process) (now new : List Entry) (a : Action) (k n : ℕ) (fs es : List Effect) → a ≡ Update n es → fs ≡ es → k ≡ entries_of author now + 1
+    → new ≡ record { author = author; number = k; effects = fs } ∷ now → new ≡ recorded author (a ∷ []) now
+recorded-pushed author now new a k n fs es is copied number pushed =
+    pushed
+    ∙ ap (λ (j : ℕ). ◌∷◌ {A = Entry} (record { author = author; number = j; effects = fs }) now) number
+    ∙ ap (λ (gs : List Effect). ◌∷◌ {A = Entry} (record { author = author; number = entries_of author now + 1; effects = gs }) now) copied
+    ∙ ap (λ (x : Action). recorded author (x ∷ []) now) (sym is)
 
 -- the first node that passes, and whether one does, by the states
 first_state : (p : State → Bool) (xs : List Machine) → prefix_len (λ n. not (p n)) (states xs) ≡ prefix_len (λ (n : Machine). not (p n.state)) xs
@@ -116,7 +159,8 @@ steps_of_five false false false false e u v w x y z k pu pv pw px py pz = steps_
 
 join_steps : (from : Process) (n : State) → (on_join from n).0.steps ≡ n.steps
 join_steps from n =
-    steps_of_five _ _ _ _ _ _ _ _ _ _ _ _ refl refl refl refl refl refl
+    steps_of_five _ _ _ _ _ (refused_by 3 n) (refused_by 4 n) (and_sends message.TheVariants.Welcome from (nothing n)) (nothing n) (refused_by 6 n)
+    (and_sends message.TheVariants.Welcome from (update (Joined from ∷ []) n)) n.steps refl refl refl refl refl refl
 
 message_steps : (from : Process) (m : Message) (n : State) → (on_message from m n).0.steps ≡ n.steps
 message_steps from message.TheVariants.Join n = join_steps from n
@@ -229,3 +273,39 @@ ready_run setup events few =
 pub run-push : (setup : Setup) (w : WorldState) (events : List Event) (e : Event) → run_from setup w (events ++ e ∷ []) ≡ after (run_from setup w events) (happens setup e (run_from setup w events))
 run-push setup w [] e = refl
 run-push setup w (x ∷ xs) e = run-push setup (after w (happens setup x w)) xs e
+
+-- the state of the node at a place
+pub state-at : (xs : List Machine) (i : ℕ) (n : Machine) → i < length xs → n ≡ get_or xs i n → slice_get (states xs) i ≡ Some n.state
+state-at xs i n lt is =
+    slice_get-map (λ (m : Machine). m.state) xs i
+    ∙ ap (option_map (λ (m : Machine). m.state)) (slice_get-get_or xs i n lt)
+    ∙ ap (λ (m : Machine). Some m.state) (sym is)
+
+-- the addresses that are listed
+listed_here : (b c : Bool) → b ≡ true → (b || c) ≡ true
+listed_here true c e = refl
+listed_here false c e = absurd (cc)
+
+tied_same : (o : Ordering) → is_eq o ≡ true → o ≡ Equal
+tied_same Less e = absurd (cc)
+tied_same Equal e = refl
+tied_same Greater e = absurd (cc)
+
+listed_from : (xs : List Endpoint) (a : Endpoint) → Contains xs a → is_listed xs a ≡ true
+listed_from xs a at =
+    list_any_at (λ b. is_eq (address_cmp b a)) xs at.0 a at.1.0 (ap (λ (b : Endpoint). is_eq (address_cmp b a)) at.1.1 ∙ ap is_eq (tied_itself address_total a))
+
+first_or_rest : (b c : Bool) → (b || c) ≡ true → (b ≡ true) ⊎ (c ≡ true)
+first_or_rest true c e = inl refl
+first_or_rest false c e = inr e
+
+contains_from : (xs : List Endpoint) (a : Endpoint) → is_listed xs a ≡ true → Contains xs a
+contains_from [] a e = absurd (cc)
+contains_from (x ∷ xs) a e =
+    ⊎_elim (λ here. (0, (omega arith, address_exact x a (tied_same (address_cmp x a) here))))
+    (λ later. let at = contains_from xs a later in (suc at.0, (let lt = at.1.0 in omega arith, at.1.1)))
+    (first_or_rest (is_eq (address_cmp x a)) (is_listed xs a) e)
+
+pub listed-test : (xs : List Endpoint) (a : Endpoint) (b : Bool) → (IsTrue b ↔ Contains xs a) → is_listed xs a ≡ b
+listed-test xs a true both = listed_from xs a (both.0 tt)
+listed-test xs a false both = ?

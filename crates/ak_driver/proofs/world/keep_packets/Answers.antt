@@ -1,14 +1,20 @@
-use Rattle.std.proofs.Common.{◌≡◌, [], ◌∷◌, ◌++◌, take, ap, append_assoc}
+use Rattle.std.proofs.Common.{◌≡◌, List, [], ◌∷◌, ◌++◌, ap, sym, ◌∙◌}
 use Rattle.ak_driver.specs.declared.node.Action.{Action}
+use Rattle.ak_driver.specs.declared.wire.Envelope.{Envelope}
 use Rattle.ak_driver.specs.World.{sent}
-use Rattle.ak_driver.proofs.WorldLemmas.{sent-more}
+use Rattle.ak_driver.proofs.WorldLemmas.{sent-kept, sent-none}
 use Rattle.ak_driver.proofs.world.keep_packets.Goals as goal
 use Rattle.ak_driver.proofs.world.keep_packets.Goals.{in-Send+in_ok-copy+in_ok-push, in_default}
 
 pub actions-preserved : goal.actions-preserved
 actions-preserved c =
-    let more = sent-more c.args.actions.now c.actions.action-index c.action-item.result c.actions-test.true c.action-item.is in
-    elim c.match-action.branch [
-      in-Send+in_ok-copy+in_ok-push w ↦ let one = ap (λ (x : Action). sent (x ∷ [])) w.in-Send.is in let h = w.in_ok-push.ensures in ?
-    | in_default w ↦ let h = w.in_default in ?
-    ]
+    sent-kept c.args.packets.now.items c.actions.packets.items c.match-action.packets.items c.args.actions.now c.actions.action-index c.action-item.result c.actions-test.true c.action-item.is c.actions.invariant
+    (elim c.match-action.branch [
+      in-Send+in_ok-copy+in_ok-push w ↦
+        ap (λ v. v.items) w.packets-is
+        ∙ w.in_ok-push.ensures.items
+        ∙ ap (λ (e : Envelope). c.actions.packets.items ++ e ∷ []) w.in_ok-copy.ensures
+        ∙ ap (λ (x : Action). c.actions.packets.items ++ sent (x ∷ [])) (sym w.in-Send.is)
+    | in_default w ↦
+        ap (λ v. v.items) w.packets-is ∙ simp (sent-none c.action-item.result w.in_default.not-Send)
+    ])
