@@ -5,7 +5,7 @@ ghost use Rattle.std.specs.Prelude.{◌≡◌, ℕ, ◌+◌, ◌<◌, ◌^◌, i
 ghost use Rattle.ak_clock.specs.Version.{count};
 ghost use Rattle.ak_address.specs.Uniques.{has, with_one, those, union, how_many};
 ghost use Rattle.ak_driver.specs.Gossip.{GossipState, nothing_known, updated, seen_by, same, both, receive};
-ghost use Rattle.ak_driver.specs.GossipWords.{Receives};
+ghost use Rattle.ak_driver.specs.GossipWords.{Receives, excess_of};
 
 use crate::member::{Effects, apply};
 use ak_address::{Unique, Uniques};
@@ -141,12 +141,8 @@ impl Gossip {
         if own < theirs {
             return Err(GossipFault::ForeignCount { own, theirs });
         }
-        if self.members.len() + incoming.members.len() > MOST_UNIQUES {
-            let union = size_of_both(alloc, &self.members, &incoming.members)?;
-            if union > MOST_UNIQUES {
-                let union = u32::try_from(union).unwrap_or(u32::MAX);
-                return Err(GossipFault::TooManyUniques { union });
-            }
+        if let Some(union) = excess(alloc, &self.members, &incoming.members)? {
+            return Err(GossipFault::TooManyUniques { union });
         }
         match self.version.compare(&incoming.version) {
             Relation::Same => Ok(self.take_same(alloc, me, incoming)?),
@@ -225,6 +221,20 @@ fn size_of_both(alloc: Global, one: &Uniques, other: &Uniques) -> Result<usize, 
     let mut both = one.copy(alloc)?;
     both.merge(alloc, other)?;
     Ok(both.len())
+}
+
+// How many processes are in either set, where a gossip may not hold so many.
+fn excess(alloc: Global, one: &Uniques, other: &Uniques) -> Result<Option<u32>, AllocError>
+    ensures { IfOk result (λ excess. excess ≡ excess_of (how_many (union one.now other.now))) }
+{
+    if one.len() <= MOST_UNIQUES && other.len() <= MOST_UNIQUES - one.len() {
+        return Ok(None);
+    }
+    let union = size_of_both(alloc, one, other)?;
+    if union <= MOST_UNIQUES {
+        return Ok(None);
+    }
+    Ok(Some(u32::try_from(union).unwrap_or(u32::MAX)))
 }
 
 // Adds a process that is a member.

@@ -3,6 +3,8 @@
 
 ghost use Rattle.std.specs.Prelude.{◌≡◌, ℕ, ◌+◌, ◌<◌, ◌^◌, Bool, true, false, [], ◌∷◌, ◌++◌, length, slice_get, IfOk, OnOk, OnErr, IsErr, IsTrue, ◌↔◌, Option, None};
 ghost use Rattle.std.specs.Option.{option_copied};
+ghost use Rattle.std.specs.Ordering.{is_eq};
+ghost use Rattle.ak_address.specs.Unique.{address_cmp};
 ghost use Rattle.ak_clock.specs.Version.{count};
 ghost use Rattle.ak_driver.specs.Node as rules;
 ghost use Rattle.ak_driver.specs.NodeWords.{Does};
@@ -139,13 +141,20 @@ fn one(alloc: Global, action: Action) -> Result<Actions, AllocError>
     Ok(actions)
 }
 
+// Both processes are at one address.
+fn is_beside(one: &Unique, other: &Unique) -> bool
+    ensures { result ≡ is_eq (address_cmp one.now.address other.now.address) }
+{
+    one.address.compare(&other.address).is_eq()
+}
+
 // Another member is at the address of this process.
 fn is_taken(who: &Unique, members: &Uniques) -> bool
     ensures { result ≡ rules.is_taken who.now members.now }
 {
     'members: for place in 0..members.len() {
         if let Some(member) = members.at(place) {
-            if member.address.compare(&who.address).is_eq() {
+            if is_beside(member, who) {
                 return true;
             }
         }
