@@ -1,10 +1,11 @@
 -- Lemmas of the definitions of a world: what a list of actions does by parts, how many nodes a run has and how many
 -- events each was given, and which node a process is.
-use Rattle.std.proofs.Common.{◌≡◌, ℕ, zero, suc, ◌+◌, ◌<◌, ◌≤◌, ◌^◌, leb, ltb, Bool, true, false, cond, not, ◌&&◌, ◌||◌, List, [], ◌∷◌, ◌++◌, map, set, length, Option, Some, None, is_some, option_map, Contains, IsTrue, ◌↔◌, ◌⊎◌, inl, inr, ⊎_elim, position, slice_get, slice_set, Result, Ok, Err, if◌then◌else◌, refl, sym, ap, ◌∙◌, subst, arith, append_assoc, length-append, take, get_or}
+use Rattle.std.proofs.Common.{◌≡◌, ℕ, zero, suc, ◌+◌, ◌<◌, ◌≤◌, ◌^◌, leb, ltb, Bool, true, false, cond, not, ◌&&◌, ◌||◌, List, [], ◌∷◌, ◌++◌, map, set, length, Option, Some, None, is_some, option_map, Contains, IsTrue, ◌↔◌, ◌⊎◌, inl, inr, ⊎_elim, position, slice_get, slice_set, Result, Ok, Err, if◌then◌else◌, refl, sym, ap, ◌∙◌, subst, arith, append_assoc, one-add, le-leb, true≢false, length-append, take, get_or}
 use Rattle.std.proofs.Math.ListN.{length-set}
-use Rattle.std.proofs.lemmas.Option.{same_Some, slice_get-map, slice_get-get_or}
-use Rattle.std.proofs.lemmas.Bool.{leb-false}
-use Rattle.std.proofs.lemmas.List.{take_more}
+use Rattle.std.proofs.lemmas.Option.{same_Some, slice_get-map, slice_get-get_or, cond_some}
+use Rattle.std.proofs.lemmas.Bool.{leb-false, ltb-true, lt-leb}
+use Rattle.std.proofs.lemmas.Bool.Decides.{nat_tests}
+use Rattle.std.proofs.lemmas.List.{take_more, map-set, map-append}
 use Rattle.std.proofs.lemmas.List.Folds.{list_any_at}
 use Rattle.std.proofs.lemmas.Cmp.{tied_itself}
 use Rattle.std.specs.declared.cmp.Ordering.{Ordering}
@@ -30,12 +31,13 @@ use Rattle.ak_driver.specs.declared.node.NodeEvent as event
 use Rattle.ak_driver.specs.declared.node.Action.{Action}
 use Rattle.ak_driver.specs.declared.node.Action.TheVariants.{Send, Update, View, Refused, Dead}
 use Rattle.ak_driver.specs.declared.world.Refused as refused
+use Rattle.ak_driver.specs.declared.world.Step.{Step}
 use Rattle.ak_driver.specs.Gossip.{GossipState, receive}
 use Rattle.ak_driver.specs.History.{entries_of}
-use Rattle.ak_driver.specs.Node.{Outcome, started, is_listed, nothing, refused as refused_by, and_sends, update, on_join, on_received, on_gossip, on_message, rule, step}
+use Rattle.ak_driver.specs.Node.{Outcome, started, is_for, is_listed, nothing, refused as refused_by, and_sends, update, on_join, on_received, on_gossip, on_message, rule, step}
 use Rattle.ak_driver.specs.NodeWords.{Machine}
-use Rattle.ak_driver.specs.World.{WorldState, Done, sent, recorded, gives, acts, arrives, delivers, starts, happens, after, run_from, run, empty_world, node_of, receiver_of, packet_at}
-use Rattle.ak_driver.specs.WorldWords.{states, IsReady}
+use Rattle.ak_driver.specs.World.{WorldState, Done, sent, recorded, gives, acts, arrives, delivers, starts, stepped, is_process, is_used, happens, after, run_from, run, empty_world, node_of, receiver_of, packet_at}
+use Rattle.ak_driver.specs.WorldWords.{states, IsReady, Went, Stayed, Scenes, Chronicle, Accepts, Refuses, Applies}
 
 -- what actions send and record, by parts
 pub sent-append : (a b : List Action) → sent (a ++ b) ≡ sent a ++ sent b
@@ -60,11 +62,11 @@ sent-kept old now new xs i a lt is before here =
     ∙ ap (λ (es : List Envelope). old ++ es) (sym (sent-more xs i a lt is))
 
 pub sent-none : (a : Action) → ((e : Envelope) → a ≡ Send e → ⊥) → sent (a ∷ []) ≡ []
-sent-none (Send e) no = absurd (no e refl)
-sent-none (Update number effects) no = refl
-sent-none View no = refl
-sent-none (Refused why) no = refl
-sent-none Dead no = refl
+sent-none (Send e) other = absurd (other e refl)
+sent-none (Update number effects) other = refl
+sent-none View other = refl
+sent-none (Refused why) other = refl
+sent-none Dead other = refl
 
 pub recorded-append : (author : Process) (a b : List Action) (history : List Entry) → recorded author (a ++ b) history ≡ recorded author b (recorded author a history)
 recorded-append author [] b history = refl
@@ -87,19 +89,18 @@ recorded-kept author old now new xs i a lt is before here =
     here ∙ ap (recorded author (a ∷ [])) before ∙ sym (recorded-more author xs i a old lt is)
 
 pub recorded-none : (author : Process) (now : List Entry) (a : Action) → ((n : ℕ) (es : List Effect) → a ≡ Update n es → ⊥) → recorded author (a ∷ []) now ≡ now
-recorded-none author now (Send e) no = refl
-recorded-none author now (Update number effects) no = absurd (no number effects refl)
-recorded-none author now View no = refl
-recorded-none author now (Refused why) no = refl
-recorded-none author now Dead no = refl
+recorded-none author now (Send e) other = refl
+recorded-none author now (Update number effects) other = absurd (other number effects refl)
+recorded-none author now View other = refl
+recorded-none author now (Refused why) other = refl
+recorded-none author now Dead other = refl
 
 pub recorded-pushed : (author : Process) (now new : List Entry) (a : Action) (k n : ℕ) (fs es : List Effect) → a ≡ Update n es → fs ≡ es → k ≡ entries_of author now + 1
     → new ≡ record { author = author; number = k; effects = fs } ∷ now → new ≡ recorded author (a ∷ []) now
 recorded-pushed author now new a k n fs es is copied number pushed =
-    pushed
-    ∙ ap (λ (j : ℕ). ◌∷◌ {A = Entry} (record { author = author; number = j; effects = fs }) now) number
-    ∙ ap (λ (gs : List Effect). ◌∷◌ {A = Entry} (record { author = author; number = entries_of author now + 1; effects = gs }) now) copied
-    ∙ ap (λ (x : Action). recorded author (x ∷ []) now) (sym is)
+    let with_number : ℕ → List Entry = λ j. record { author = author; number = j; effects = fs } ∷ now in
+    let with_effects : List Effect → List Entry = λ gs. record { author = author; number = entries_of author now + 1; effects = gs } ∷ now in
+    pushed ∙ ap with_number number ∙ ap with_effects copied ∙ ap (λ (x : Action). recorded author (x ∷ []) now) (sym is)
 
 -- the first node that passes, and whether one does, by the states
 first_state : (p : State → Bool) (xs : List Machine) → prefix_len (λ n. not (p n)) (states xs) ≡ prefix_len (λ (n : Machine). not (p n.state)) xs
@@ -121,8 +122,8 @@ list_any-states p (x ∷ xs) = ap (λ (b : Bool). p x.state || b) (list_any-stat
 
 -- a place is found where one passes
 found_first : (b : Bool) (k n : ℕ) → ltb (cond (not b) (1 + k) 0) (suc n) ≡ (b || ltb k n)
-found_first true k n = refl
-found_first false k n = refl
+found_first true k n = grind (arith, nat_tests)
+found_first false k n = ap (λ (m : ℕ). ltb m (suc n)) (one-add k) ∙ grind (arith, nat_tests)
 
 found_one : {X : Type 0} (p : X → Bool) (xs : List X) → ltb (position_or_len p xs) (length xs) ≡ list_any p xs
 found_one p [] = refl
@@ -237,13 +238,22 @@ starts_young k setup u w old room = record {
   steps = push_each (λ m. m.steps ≤ k + 1) w.nodes (started u setup) old.steps (omega arith);
 }
 
+starts_if : (k : ℕ) (w : WorldState) (a b c d : Bool) (done : Done) → IsYoung k w → (d ≡ false → IsYoung k done.world)
+    → IsYoung k (after w (if a then Err refused.TheVariants.Unlisted else (if b then Err refused.TheVariants.UniqueUsed else (if c then Err refused.TheVariants.AddressInUse else (if d then Err refused.TheVariants.TooManyStarts else Ok done)))))
+starts_if k w true b c d done old new = old
+starts_if k w false true c d done old new = old
+starts_if k w false false true d done old new = old
+starts_if k w false false false true done old new = old
+starts_if k w false false false false done old new = new refl
+
 happens_young : (k : ℕ) (setup : Setup) (e : Event) (w : WorldState) → IsYoung k w → IsYoung (k + 1) w → IsYoung (k + 1) (after w (happens setup e w))
 happens_young k setup (Start u) w young old =
-    young_if _ w _ _ _ old (λ a. young_if _ w _ _ _ old (λ b. young_if _ w _ _ _ old (λ c. young_if _ w _ _ _ old (λ room. starts_young k setup u w old room))))
+    starts_if (k + 1) w (not (is_listed setup.listed u.address)) (list_any (is_process u) w.nodes) (is_used u.address w) (leb 64 (length w.nodes)) (starts setup u w) old
+    (starts_young k setup u w old)
 happens_young k setup (Found u) w young old =
-    young_if _ w _ _ _ old (λ a. acts_young k event.TheVariants.Found (node_of u w) w (record w { founded = true }) (record { few = young.few; steps = young.steps }) old)
+    young_if (k + 1) w w.founded (Err refused.TheVariants.SecondFound) (acts event.TheVariants.Found (node_of u w) (record w { founded = true })) old (λ a. acts_young k event.TheVariants.Found (node_of u w) w (record w { founded = true }) (record { few = young.few; steps = young.steps }) old)
 happens_young k setup (Join u target) w young old =
-    young_if _ w _ _ _ old (λ a. acts_young k (event.TheVariants.Join target) (node_of u w) w w young old)
+    young_if (k + 1) w (not (is_listed setup.listed target)) (Err refused.TheVariants.Unlisted) (acts (event.TheVariants.Join target) (node_of u w) w) old (λ a. acts_young k (event.TheVariants.Join target) (node_of u w) w w young old)
 happens_young k setup (Deliver number) w young old = delivers_young k (packet_at w number) w young old
 happens_young k setup (Tick u word) w young old = old
 happens_young k setup (Leave u who) w young old = old
@@ -293,7 +303,7 @@ tied_same Greater e = absurd (cc)
 
 listed_from : (xs : List Endpoint) (a : Endpoint) → Contains xs a → is_listed xs a ≡ true
 listed_from xs a at =
-    list_any_at (λ b. is_eq (address_cmp b a)) xs at.0 a at.1.0 (ap (λ (b : Endpoint). is_eq (address_cmp b a)) at.1.1 ∙ ap is_eq (tied_itself address_total a))
+    list_any_at (λ b. is_eq (address_cmp b a)) xs at.0 a at.1 (ap (λ (b : Endpoint). is_eq (address_cmp b a)) at.2 ∙ ap is_eq (tied_itself address_total a))
 
 first_or_rest : (b c : Bool) → (b || c) ≡ true → (b ≡ true) ⊎ (c ≡ true)
 first_or_rest true c e = inl refl
@@ -302,10 +312,192 @@ first_or_rest false c e = inr e
 contains_from : (xs : List Endpoint) (a : Endpoint) → is_listed xs a ≡ true → Contains xs a
 contains_from [] a e = absurd (cc)
 contains_from (x ∷ xs) a e =
-    ⊎_elim (λ here. (0, (omega arith, address_exact x a (tied_same (address_cmp x a) here))))
-    (λ later. let at = contains_from xs a later in (suc at.0, (let lt = at.1.0 in omega arith, at.1.1)))
+    ⊎_elim (λ here. (0, omega arith, address_exact x a (tied_same (address_cmp x a) here)))
+    (λ later. let at = contains_from xs a later in (suc at.0, (let lt : at.0 < length xs = at.1 in omega arith), at.2))
     (first_or_rest (is_eq (address_cmp x a)) (is_listed xs a) e)
 
+false_unless : (b : Bool) → (b ≡ true → ⊥) → b ≡ false
+false_unless true other = absurd (other refl)
+false_unless false other = refl
+
 pub listed-test : (xs : List Endpoint) (a : Endpoint) (b : Bool) → (IsTrue b ↔ Contains xs a) → is_listed xs a ≡ b
-listed-test xs a true both = listed_from xs a (both.0 tt)
-listed-test xs a false both = ?
+listed-test xs a true both = listed_from xs a (both.0 refl)
+listed-test xs a false both = false_unless (is_listed xs a) (λ e. true≢false (sym (both.1 (contains_from xs a e))))
+
+-- the place of the first that passes is within the list
+pub position-within : {X : Type 0} (p : X → Bool) (xs : List X) (i : ℕ) → position p xs ≡ Some i → i < length xs
+position-within p xs i is =
+    let parts = cond_some (ltb (position_or_len p xs) (length xs)) (position_or_len p xs) i is in
+    subst (λ k. k < length xs) parts.1 (ltb-true (position_or_len p xs) (length xs) parts.0)
+
+-- what a node did with an event is what the world's step says
+pub went-given : (nodes new_nodes : List Machine) (packets new_packets : List Envelope) (history new_history : List Entry) (founded : Bool)
+    (place : ℕ) (e : NodeEvent) (n m : Machine) (actions : List Action) (u : Process) (number : Option ℕ) (first : ℕ)
+    → slice_get (states nodes) place ≡ Some n.state → m.state ≡ (step e n.state).0 → actions ≡ (step e n.state).1
+    → new_nodes ≡ set nodes place m → new_packets ≡ packets ++ sent actions → u ≡ m.state.me → new_history ≡ recorded u actions history
+    → length new_packets < 2 ^ 63 → number ≡ Some place → first ≡ length packets + 1
+    → Went (record { nodes = states nodes; packets = packets; history = history; founded = founded })
+      (gives e place (slice_get (states nodes) place) (record { nodes = states nodes; packets = packets; history = history; founded = founded }))
+      (record { node = number; first_packet = first; actions = actions })
+      (record { nodes = states new_nodes; packets = new_packets; history = new_history; founded = founded })
+went-given nodes new_nodes packets new_packets history new_history founded place e n m actions u number first at state_is actions_are nodes_are packets_are author history_is few number_is first_is =
+    let w : WorldState = record { nodes = states nodes; packets = packets; history = history; founded = founded } in
+    let o = step e n.state in
+    let nodes_eq : states new_nodes ≡ set (states nodes) place o.0 =
+      ap states nodes_are ∙ map-set (λ (x : Machine). x.state) nodes place m ∙ ap (λ (x : State). set (states nodes) place x) state_is in
+    let packets_eq : new_packets ≡ packets ++ sent o.1 = packets_are ∙ ap (λ (xs : List Action). packets ++ sent xs) actions_are in
+    let history_eq : new_history ≡ recorded o.0.me o.1 history =
+      history_is ∙ ap (λ (x : Process). recorded x actions history) (author ∙ ap (λ (x : State). x.me) state_is) ∙ ap (λ (xs : List Action). recorded o.0.me xs history) actions_are in
+    record {
+      done = stepped place o w;
+      happened = ap (λ (x : Option State). gives e place x w) at;
+      world = λ i. record { nodes = nodes_eq i; packets = packets_eq i; history = history_eq i; founded = founded };
+      shown = record { node = number_is; first_packet = first_is; actions = actions_are };
+      numbers =
+        let long : length new_packets ≡ length packets + length (sent actions) = ap length packets_are ∙ length-append packets (sent actions) in
+        omega (arith, long, few, first_is);
+    }
+
+-- a process that started
+pub went-started : (setup : Setup) (u : Process) (nodes new_nodes : List Machine) (packets : List Envelope) (history : List Entry) (founded : Bool)
+    (m : Machine) (actions : List Action) (number : Option ℕ) (first : ℕ)
+    → m.state ≡ started u setup → new_nodes ≡ nodes ++ m ∷ [] → number ≡ Some (length nodes) → first ≡ length packets + 1 → first < 2 ^ 64 → actions ≡ []
+    → Went (record { nodes = states nodes; packets = packets; history = history; founded = founded })
+      (Ok (starts setup u (record { nodes = states nodes; packets = packets; history = history; founded = founded })))
+      (record { node = number; first_packet = first; actions = actions })
+      (record { nodes = states new_nodes; packets = packets; history = history; founded = founded })
+went-started setup u nodes new_nodes packets history founded m actions number first state_is nodes_are number_is first_is few none =
+    let w : WorldState = record { nodes = states nodes; packets = packets; history = history; founded = founded } in
+    let nodes_eq : states new_nodes ≡ states nodes ++ started u setup ∷ [] =
+      ap states nodes_are ∙ map-append (λ (x : Machine). x.state) nodes (m ∷ []) ∙ ap (λ (x : State). states nodes ++ x ∷ []) state_is in
+    record {
+      done = starts setup u w;
+      happened = refl;
+      world = λ i. record { nodes = nodes_eq i; packets = packets; history = history; founded = founded };
+      shown = record { node = number_is ∙ ap (λ (k : ℕ). Some k) (sym (length-states nodes)); first_packet = first_is; actions = none };
+      numbers =
+        let nothing_sent : length (sent actions) ≡ 0 = ap (λ (xs : List Action). length (sent xs)) none in
+        omega (arith, nothing_sent, few);
+    }
+
+-- a refusal by one answer is the same refusal by another
+pub same-refusal : (why : refused.Refused) (w v : WorldState) (a b : Result Done refused.Refused) → ((x : refused.Refused) → a ≡ Err x → b ≡ Err x) → Scenes w a (Err why) v → Scenes w b (Err why) v
+same-refusal refused.TheVariants.NoMemory w v a b same r = tt
+same-refusal refused.TheVariants.Unlisted w v a b same r = record { reason = same _ r.reason; unchanged = r.unchanged }
+same-refusal refused.TheVariants.UniqueUsed w v a b same r = record { reason = same _ r.reason; unchanged = r.unchanged }
+same-refusal refused.TheVariants.AddressInUse w v a b same r = record { reason = same _ r.reason; unchanged = r.unchanged }
+same-refusal refused.TheVariants.SecondFound w v a b same r = record { reason = same _ r.reason; unchanged = r.unchanged }
+same-refusal refused.TheVariants.UnknownNode w v a b same r = record { reason = same _ r.reason; unchanged = r.unchanged }
+same-refusal (refused.TheVariants.NoPacket sent) w v a b same r = record { reason = same _ r.reason; unchanged = r.unchanged }
+same-refusal refused.TheVariants.TooManyStarts w v a b same r = record { reason = same _ r.reason; unchanged = r.unchanged }
+same-refusal refused.TheVariants.NotBuilt w v a b same r = record { reason = same _ r.reason; unchanged = r.unchanged }
+
+-- the founding node acts, and the founding is remembered
+abbrev remembered : Result Done refused.Refused → Result Done refused.Refused
+remembered (Ok done) = Ok (record { world = record { nodes = done.world.nodes; packets = done.world.packets; history = done.world.history; founded = true }; node = done.node; actions = done.actions })
+remembered (Err why) = Err why
+
+abbrev with_founded : WorldState → WorldState
+with_founded w = record { nodes = w.nodes; packets = w.packets; history = w.history; founded = true }
+
+gives_remembered : (e : NodeEvent) (place : ℕ) (o : Option State) (w : WorldState) → gives e place o (with_founded w) ≡ remembered (gives e place o w)
+gives_remembered e place (Some n) w = refl
+gives_remembered e place None w = refl
+
+acts_remembered : (e : NodeEvent) (o : Option ℕ) (w : WorldState) → acts e o (with_founded w) ≡ remembered (acts e o w)
+acts_remembered e (Some place) w = gives_remembered e place (slice_get w.nodes place) w
+acts_remembered e None w = refl
+
+founds : (setup : Setup) (u : Process) (w : WorldState) → w.founded ≡ false → happens setup (Found u) w ≡ remembered (acts event.TheVariants.Found (node_of u w) w)
+founds setup u w free =
+    ap (λ (b : Bool). if b then Err refused.TheVariants.SecondFound else acts event.TheVariants.Found (node_of u w) (with_founded w)) free
+    ∙ acts_remembered event.TheVariants.Found (node_of u w) w
+
+pub went-founded : (setup : Setup) (u : Process) (w v : WorldState) (s : Step) → w.founded ≡ false → Went w (acts event.TheVariants.Found (node_of u w) w) s v
+    → Went w (happens setup (Found u) w) s (record { nodes = v.nodes; packets = v.packets; history = v.history; founded = true })
+went-founded setup u w v s free went = record {
+  done = record { world = with_founded went.done.world; node = went.done.node; actions = went.done.actions };
+  happened = founds setup u w free ∙ ap remembered went.happened;
+  world = ap with_founded went.world;
+  shown = record { node = went.shown.node; first_packet = went.shown.first_packet; actions = went.shown.actions };
+  numbers = went.numbers;
+}
+
+pub refused-founded : (setup : Setup) (u : Process) (w v : WorldState) (why : refused.Refused) → w.founded ≡ false → Scenes w (acts event.TheVariants.Found (node_of u w) w) (Err why) v
+    → Scenes w (happens setup (Found u) w) (Err why) v
+refused-founded setup u w v why free r =
+    same-refusal why w v (acts event.TheVariants.Found (node_of u w) w) (happens setup (Found u) w) (λ x e. founds setup u w free ∙ ap remembered e) r
+
+-- what a world answers where its parts answer so
+pub went-applied : (event : Event) (old new : Chronicle) (s : Step) → old.spent ≡ false → Went old.state (happens old.setup event old.state) s new.state
+    → new.setup ≡ old.setup → new.events ≡ old.events ++ event ∷ [] → new.spent ≡ false → Accepts event old s new
+went-applied event old new s alive went setup_is events_are new_alive = record {
+  alive = alive;
+  done = went.done;
+  happened = went.happened;
+  world = λ i. record { setup = setup_is i; state = went.world i; events = events_are i; spent = new_alive i };
+  shown = went.shown;
+}
+
+refuses : (event : Event) (old new : Chronicle) (why : refused.Refused) → old.spent ≡ false → Stayed old.state (happens old.setup event old.state) why new.state
+    → new.setup ≡ old.setup → new.events ≡ old.events → new.spent ≡ false → Refuses event old why new
+refuses event old new why alive stayed setup_is events_are new_alive = record {
+  alive = alive;
+  reason = stayed.reason;
+  unchanged = λ i. record { setup = setup_is i; state = stayed.unchanged i; events = events_are i; spent = (new_alive ∙ sym alive) i };
+}
+
+pub refused-applied : (event : Event) (old new : Chronicle) (why : refused.Refused) → (why ≡ refused.TheVariants.NoMemory → ⊥) → old.spent ≡ false
+    → Scenes old.state (happens old.setup event old.state) (Err why) new.state → new.setup ≡ old.setup → new.events ≡ old.events → new.spent ≡ false → Applies event old (Err why) new
+refused-applied event old new refused.TheVariants.NoMemory known alive r a b c = absurd (known refl)
+refused-applied event old new refused.TheVariants.Unlisted known alive r a b c = refuses event old new _ alive r a b c
+refused-applied event old new refused.TheVariants.UniqueUsed known alive r a b c = refuses event old new _ alive r a b c
+refused-applied event old new refused.TheVariants.AddressInUse known alive r a b c = refuses event old new _ alive r a b c
+refused-applied event old new refused.TheVariants.SecondFound known alive r a b c = refuses event old new _ alive r a b c
+refused-applied event old new refused.TheVariants.UnknownNode known alive r a b c = refuses event old new _ alive r a b c
+refused-applied event old new (refused.TheVariants.NoPacket sent) known alive r a b c = refuses event old new _ alive r a b c
+refused-applied event old new refused.TheVariants.TooManyStarts known alive r a b c = refuses event old new _ alive r a b c
+refused-applied event old new refused.TheVariants.NotBuilt known alive r a b c = refuses event old new _ alive r a b c
+
+-- which node the code found is which the world names
+pub found-node : (u : Process) (nodes : List Machine) (r o : Option ℕ) → r ≡ position (λ (n : Machine). is_process u n.state) nodes → r ≡ o → position (is_process u) (states nodes) ≡ o
+found-node u nodes r o answers is = position-states (is_process u) nodes ∙ sym answers ∙ is
+
+pub found-receiver : (e : Envelope) (nodes : List Machine) (r o : Option ℕ) → r ≡ position (λ (n : Machine). is_for n.state.me e) nodes → r ≡ o → position (λ (n : State). is_for n.me e) (states nodes) ≡ o
+found-receiver e nodes r o answers is = position-states (λ (n : State). is_for n.me e) nodes ∙ sym answers ∙ is
+
+-- one answer in the place of another
+pub same-answer : (w v : WorldState) (a b : Result Done refused.Refused) (r : Result Step refused.Refused) → b ≡ a → Scenes w a r v → Scenes w b r v
+same-answer w v a b r same scenes = subst (λ x. Scenes w x r v) (sym same) scenes
+
+-- whether the process was started, whether its address is used, and whether many were started
+pub any-process : (u : Process) (nodes : List Machine) (r : Option ℕ) → r ≡ position (λ (n : Machine). is_process u n.state) nodes → list_any (is_process u) (states nodes) ≡ is_some r
+any-process u nodes r answers =
+    list_any-states (is_process u) nodes ∙ sym (is_some-position (λ (n : Machine). is_process u n.state) nodes) ∙ ap is_some (sym answers)
+
+pub any-address : (a : Endpoint) (nodes : List Machine) → list_any (λ (n : State). is_eq (address_cmp n.me.address a)) (states nodes) ≡ list_any (λ (n : Machine). is_eq (address_cmp n.state.me.address a)) nodes
+any-address a nodes = list_any-states (λ (n : State). is_eq (address_cmp n.me.address a)) nodes
+
+pub many-nodes : (nodes : List Machine) → 64 ≤ length nodes → leb 64 (length (states nodes)) ≡ true
+many-nodes nodes many = ap (leb 64) (length-states nodes) ∙ le-leb 64 (length nodes) many
+
+pub few-nodes : (nodes : List Machine) → length nodes < 64 → leb 64 (length (states nodes)) ≡ false
+few-nodes nodes few = ap (leb 64) (length-states nodes) ∙ lt-leb 64 (length nodes) few
+
+-- the answer to a start, by its tests
+abbrev start_by : Setup → Process → WorldState → Bool → Bool → Bool → Bool → Result Done refused.Refused
+start_by setup u w l a b c =
+    if not l then Err refused.TheVariants.Unlisted else (if a then Err refused.TheVariants.UniqueUsed else (if b then Err refused.TheVariants.AddressInUse else (if c then Err refused.TheVariants.TooManyStarts else Ok (starts setup u w))))
+
+pub start-answer : (setup : Setup) (u : Process) (w : WorldState) (l a b c : Bool) → is_listed setup.listed u.address ≡ l → list_any (is_process u) w.nodes ≡ a → is_used u.address w ≡ b → leb 64 (length w.nodes) ≡ c
+    → happens setup (Start u) w ≡ start_by setup u w l a b c
+start-answer setup u w l a b c pl pa pb pc =
+    ap (λ x. start_by setup u w x (list_any (is_process u) w.nodes) (is_used u.address w) (leb 64 (length w.nodes))) pl
+    ∙ ap (λ x. start_by setup u w l x (is_used u.address w) (leb 64 (length w.nodes))) pa
+    ∙ ap (λ x. start_by setup u w l a x (leb 64 (length w.nodes))) pb
+    ∙ ap (start_by setup u w l a b) pc
+
+-- the answer to a join, by its test
+pub join-answer : (setup : Setup) (u : Process) (target : Endpoint) (w : WorldState) (l : Bool) → is_listed setup.listed target ≡ l
+    → happens setup (Join u target) w ≡ (if not l then Err refused.TheVariants.Unlisted else acts (event.TheVariants.Join target) (node_of u w) w)
+join-answer setup u target w l pl = ap (λ (x : Bool). if not x then Err refused.TheVariants.Unlisted else acts (event.TheVariants.Join target) (node_of u w) w) pl

@@ -132,9 +132,13 @@ impl Scene {
         if self.founded {
             return Err(Refused::SecondFound);
         }
-        let step = self.act(alloc, who, NodeEvent::Found)?;
-        self.founded = true;
-        Ok(step)
+        match self.act(alloc, who, NodeEvent::Found) {
+            Ok(step) => {
+                self.founded = true;
+                Ok(step)
+            }
+            Err(why) => Err(why),
+        }
     }
 
     fn join(&mut self, alloc: Global, who: &Unique, target: &Address) -> Result<Step, Refused>
@@ -176,8 +180,8 @@ impl Scene {
         ensures scenes { Scenes (state_of self.old) (rules.acts event (rules.node_of who.now (state_of self.old)) (state_of self.old)) result (state_of self.new) }
     {
         match node_of(&self.nodes, who) {
-            Some(place) => self.give(alloc, place, event),
-            None => Err(Refused::UnknownNode),
+            Some(place) => return self.give(alloc, place, event),
+            None => return Err(Refused::UnknownNode),
         }
     }
 

@@ -1,4 +1,5 @@
 use Rattle.std.proofs.Common.{◌≡◌, List, [], ◌∷◌, ◌++◌, ap, sym, ◌∙◌}
+use Rattle.std.proofs.lemmas.List.{append-nil}
 use Rattle.ak_driver.specs.declared.node.Action.{Action}
 use Rattle.ak_driver.specs.declared.wire.Envelope.{Envelope}
 use Rattle.ak_driver.specs.World.{sent}
@@ -16,5 +17,7 @@ actions-preserved c =
         ∙ ap (λ (e : Envelope). c.actions.packets.items ++ e ∷ []) w.in_ok-copy.ensures
         ∙ ap (λ (x : Action). c.actions.packets.items ++ sent (x ∷ [])) (sym w.in-Send.is)
     | in_default w ↦
-        ap (λ v. v.items) w.packets-is ∙ simp (sent-none c.action-item.result w.in_default.not-Send)
+        ap (λ v. v.items) w.packets-is 
+        ∙ sym (append-nil c.actions.packets.items)
+        ∙ ap (λ (es : List Envelope). c.actions.packets.items ++ es) (sym (sent-none c.action-item.result w.in_default.not-Send))
     ])
