@@ -1,10 +1,11 @@
 //! A node of the cluster: a pure machine that is given one event at a time and answers with its actions
 //! (Akka's Cluster Specification, "Membership Lifecycle"; the messages are this project's choice).
 
-ghost use Rattle.std.specs.Prelude.{◌≡◌, ℕ, ◌+◌, ◌<◌, ◌^◌, Bool, true, false, [], ◌∷◌, ◌++◌, length, slice_get, IfOk, OnOk, OnErr, IsErr, IsTrue, ◌↔◌, Option, None};
+ghost use Rattle.std.specs.Prelude.{◌≡◌, ℕ, ◌+◌, ◌<◌, ◌^◌, nat_le, Bool, true, false, [], ◌∷◌, ◌++◌, length, slice_get, IfOk, OnOk, OnErr, IsErr, IsTrue, ◌↔◌, Option, None};
 ghost use Rattle.std.specs.Option.{option_copied};
 ghost use Rattle.std.specs.Ordering.{is_eq};
 ghost use Rattle.ak_address.specs.Unique.{address_cmp};
+ghost use Rattle.ak_address.specs.Uniques.{has, how_many};
 ghost use Rattle.ak_clock.specs.Version.{count};
 ghost use Rattle.ak_driver.specs.Node as rules;
 ghost use Rattle.ak_driver.specs.NodeWords.{Does};
@@ -141,6 +142,20 @@ fn one(alloc: Global, action: Action) -> Result<Actions, AllocError>
     Ok(actions)
 }
 
+// The address belongs to the cluster.
+fn is_listed_at(settings: &Settings, at: &Address) -> bool
+    ensures { result ≡ rules.is_listed settings.now.listed at.now }
+{
+    settings.is_listed(at)
+}
+
+// The address of the process belongs to the cluster.
+fn is_listed(settings: &Settings, who: &Unique) -> bool
+    ensures { result ≡ rules.is_listed settings.now.listed who.now.address }
+{
+    is_listed_at(settings, &who.address)
+}
+
 // Both processes are at one address.
 fn is_beside(one: &Unique, other: &Unique) -> bool
     ensures { result ≡ is_eq (address_cmp one.now.address other.now.address) }
@@ -167,6 +182,27 @@ impl State {
         ensures { result ≡ rules.is_member self.now }
     {
         self.gossip.members().contains(&self.me)
+    }
+
+    // The process is a member of what the node knows.
+    fn knows(&self, who: &Unique) -> bool
+        ensures { result ≡ has self.now.gossip.members who.now }
+    {
+        self.gossip.members().contains(who)
+    }
+
+    // Another member is at the address of the process.
+    fn is_taken(&self, who: &Unique) -> bool
+        ensures { result ≡ rules.is_taken who.now self.now.gossip.members }
+    {
+        is_taken(who, self.gossip.members())
+    }
+
+    // What the node knows holds as many uniques as a view may that admits others.
+    fn is_full(&self) -> bool
+        ensures { result ≡ nat_le rules.most_at_join (how_many self.now.gossip.members) }
+    {
+        self.gossip.members().len() >= MOST_AT_JOIN
     }
 
     fn to_process(&self, alloc: Global, to: &Unique, message: Message) -> Result<Action, AllocError>
@@ -252,18 +288,18 @@ impl State {
         if !self.is_member() {
             return one(alloc, Action::Refused(NOT_MEMBER));
         }
-        if !self.settings.is_listed(&from.address) {
+        if !is_listed(&self.settings, from) {
             return one(alloc, Action::Refused(UNLISTED));
         }
-        if self.gossip.members().contains(from) {
+        if self.knows(from) {
             let mut actions = Actions::empty(alloc);
             self.welcome(alloc, from, &mut actions)?;
             return Ok(actions);
         }
-        if is_taken(from, self.gossip.members()) {
+        if self.is_taken(from) {
             return Ok(Actions::empty(alloc));
         }
-        if self.gossip.members().len() >= MOST_AT_JOIN {
+        if self.is_full() {
             return one(alloc, Action::Refused(TOO_MANY_UNIQUES));
         }
         let joined = from.copy(alloc)?;
@@ -412,12 +448,14 @@ impl Node {
         if self.spent {
             return Err(AllocError);
         }
-        let result = self.state.step(alloc, event);
-        if result.is_err() {
-            self.state.gossip = Gossip::empty(alloc);
-            self.spent = true;
+        match self.state.step(alloc, event) {
+            Ok(actions) => Ok(actions),
+            Err(error) => {
+                self.state.gossip = Gossip::empty(alloc);
+                self.spent = true;
+                Err(error)
+            }
         }
-        result
     }
 
     /// The process that it is.
