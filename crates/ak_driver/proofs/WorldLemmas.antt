@@ -501,3 +501,23 @@ start-answer setup u w l a b c pl pa pb pc =
 pub join-answer : (setup : Setup) (u : Process) (target : Endpoint) (w : WorldState) (l : Bool) → is_listed setup.listed target ≡ l
     → happens setup (Join u target) w ≡ (if not l then Err refused.TheVariants.Unlisted else acts (event.TheVariants.Join target) (node_of u w) w)
 join-answer setup u target w l pl = ap (λ (x : Bool). if not x then Err refused.TheVariants.Unlisted else acts (event.TheVariants.Join target) (node_of u w) w) pl
+
+-- a packet that reaches no process, and one that reaches a node
+pub dead-delivery : (w : WorldState) (number : ℕ) (e : Envelope) (s : Step) → packet_at w number ≡ Some e → receiver_of e w ≡ None → s.node ≡ None → s.first_packet ≡ length w.packets + 1 → s.first_packet < 2 ^ 64
+    → s.actions ≡ [] → Went w (delivers (packet_at w number) w) s w
+dead-delivery w number e s packet nobody none first_is few no_actions = record {
+  done = record { world = w; node = None; actions = [] };
+  happened = ap (λ (o : Option Envelope). delivers o w) packet ∙ ap (λ (o : Option ℕ). arrives e o w) nobody;
+  world = refl;
+  shown = record { node = none; first_packet = first_is; actions = no_actions };
+  numbers =
+    let nothing_sent : length (sent s.actions) ≡ 0 = ap (λ (xs : List Action). length (sent xs)) no_actions in
+    omega (arith, nothing_sent, few);
+}
+
+pub delivery : (w : WorldState) (number : ℕ) (e f : Envelope) (place : ℕ) → packet_at w number ≡ Some e → receiver_of e w ≡ Some place → f ≡ e
+    → delivers (packet_at w number) w ≡ gives (event.TheVariants.Packet f) place (slice_get w.nodes place) w
+delivery w number e f place packet reached copied =
+    ap (λ (o : Option Envelope). delivers o w) packet
+    ∙ ap (λ (o : Option ℕ). arrives e o w) reached
+    ∙ ap (λ (x : Envelope). gives (event.TheVariants.Packet x) place (slice_get w.nodes place) w) (sym copied)
