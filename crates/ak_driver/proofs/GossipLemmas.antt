@@ -1,8 +1,8 @@
--- What is added to those that have seen a gossip, and what receiving comes to.
-use Rattle.std.proofs.Common.{◌≡◌, ℕ, zero, suc, ◌+◌, ◌<◌, ◌≤◌, ◌^◌, ◌-◌, min, Bool, true, false, ◌||◌, ◌&&◌, if◌then◌else◌, List, [], ◌∷◌, length, get_or, take, Option, Some, None, is_some, unwrap_or, Result, Ok, Err, slice_get, ltb, nat_lt, cond, refl, sym, ap, ◌∙◌, subst, arith, true≢false}
+-- What is added to those that have seen a gossip, and how many uniques two sets have together.
+use Rattle.std.proofs.Common.{◌≡◌, ℕ, suc, ◌+◌, ◌≤◌, ◌^◌, ◌-◌, min, Bool, true, false, ◌||◌, ◌&&◌, if◌then◌else◌, List, [], ◌∷◌, length, take, Some, None, slice_get, cond, refl, sym, ap, ◌∙◌, subst, arith, true≢false}
 use Rattle.std.proofs.lemmas.Option.{get_or_from_slice_get, slice_get_within}
 use Rattle.std.proofs.lemmas.List.Folds.{list_any_more, list_any_at}
-use Rattle.std.proofs.lemmas.Bool.{lt-ltb, le-ltb}
+use Rattle.std.proofs.lemmas.Bool.{le-ltb}
 use Rattle.std.specs.List.{list_any}
 use Rattle.std.specs.Ordering.{eq_by_cmp}
 use Rattle.ak_address.specs.Unique.{Process, unique_cmp}
@@ -10,13 +10,8 @@ use Rattle.ak_address.specs.Uniques.{UniqueSet, has, with_one, those, union, in_
 use Rattle.ak_address.specs.Table.{with_rows, joined}
 use Rattle.ak_address.proofs.Order.{unique_total}
 use Rattle.std.specs.FinMap as map
-use Rattle.ak_clock.specs.Version.{count, relation}
-use Rattle.ak_clock.specs.declared.version.Relation.{Relation}
-use Rattle.ak_driver.specs.declared.gossip.Received.{Received}
-use Rattle.ak_driver.specs.declared.gossip.GossipFault.{GossipFault}
-use Rattle.ak_driver.specs.declared.gossip.GossipFault.TheVariants.{ForeignCount, TooManyUniques}
 use Rattle.ak_driver.specs.GossipWords.{excess_of}
-use Rattle.ak_driver.specs.Gossip.{GossipState, receive, noted, taken, most_uniques}
+use Rattle.ak_driver.specs.Gossip.{most_uniques}
 use Rattle.ak_address.proofs.TableLaws.{key_itself, same_key}
 use Rattle.ak_address.proofs.UniquesLaws.{has-with_one, has-those, has-union, same_uniques, has_at, place_of_has}
 
@@ -66,17 +61,21 @@ module _ (before others members seen : UniqueSet) (i : ℕ) (k : Process) (h : H
   alike q b is tied = ap (has members) (same_key q k tied) ∙ is
 
   member_added : has members k ≡ true → HasAdded before (take (i + 1) (in_order others)) members (with_one seen k)
-  member_added is = record { has_each = λ q.
-      has-with_one seen k q
-      ∙ ap (λ a. eq_by_cmp unique_cmp q k || a) (h.has_each q)
-      ∙ added (has before q) (is_among q (take i (in_order others))) (eq_by_cmp unique_cmp q k) (has members q) (alike q true is)
-      ∙ more_at q (has before q) }
+  member_added is = record {
+    has_each = λ q.
+        has-with_one seen k q
+        ∙ ap (λ a. eq_by_cmp unique_cmp q k || a) (h.has_each q)
+        ∙ added (has before q) (is_among q (take i (in_order others))) (eq_by_cmp unique_cmp q k) (has members q) (alike q true is)
+        ∙ more_at q (has before q);
+  }
 
   other_passed : has members k ≡ false → HasAdded before (take (i + 1) (in_order others)) members seen
-  other_passed is = record { has_each = λ q.
-      h.has_each q
-      ∙ passed (has before q) (is_among q (take i (in_order others))) (eq_by_cmp unique_cmp q k) (has members q) (alike q false is)
-      ∙ more_at q (has before q) }
+  other_passed is = record {
+    has_each = λ q.
+        h.has_each q
+        ∙ passed (has before q) (is_among q (take i (in_order others))) (eq_by_cmp unique_cmp q k) (has members q) (alike q false is)
+        ∙ more_at q (has before q);
+  }
 
   by_case : (b : Bool) → has members k ≡ b → HasAdded before (take (i + 1) (in_order others)) members (if b then with_one seen k else seen)
   by_case true is = member_added is
@@ -90,7 +89,7 @@ among_has : (s : UniqueSet) (q : Process) → has s q ≡ true → is_among q (i
 among_has s q is =
     let there = place_of_has s q is in
     list_any_at (eq_by_cmp unique_cmp q) (in_order s) there.0 q (slice_get_within (in_order s) there.0 q there.1)
-      (ap (eq_by_cmp unique_cmp q) (get_or_from_slice_get (in_order s) there.0 q q there.1) ∙ key_itself q)
+    (ap (eq_by_cmp unique_cmp q) (get_or_from_slice_get (in_order s) there.0 q q there.1) ∙ key_itself q)
 
 head_or_rest : (s : UniqueSet) (q x : Process) (b : Bool) → eq_by_cmp unique_cmp q x ≡ b → has s x ≡ true → (eq_by_cmp unique_cmp q x ≡ false → has s q ≡ true) → has s q ≡ true
 head_or_rest s q x true tied here rest = ap (has s) (same_key q x tied) ∙ here
@@ -100,7 +99,7 @@ found : (s : UniqueSet) (q : Process) (some : List Process) → ((i : ℕ) (x : 
 found s q [] each is = absurd (true≢false (sym is))
 found s q (x ∷ some) each is =
     head_or_rest s q x (eq_by_cmp unique_cmp q x) refl (each 0 x refl)
-      (λ apart. found s q some (λ i y at. each (suc i) y at) (sym (ap (λ b. b || is_among q some) apart) ∙ is))
+    (λ apart. found s q some (λ i y at. each (suc i) y at) (sym (ap (λ b. b || is_among q some) apart) ∙ is))
 
 has_from_among : (s : UniqueSet) (q : Process) → is_among q (in_order s) ≡ true → has s q ≡ true
 has_from_among s q is = found s q (in_order s) (λ i x at. has_at s i x at) is
@@ -131,46 +130,13 @@ len-with_rows f m [] = omega arith
 len-with_rows {X} f m (e ∷ es) =
     let n : map.FinMap unique_cmp X = with_rows f m es in
     let grown : map.len (with_rows f m (e ∷ es)) ≤ map.len m + length es + 1 =
-        subst (λ k. k ≤ map.len m + length es + 1) (sym (map.len-insert unique_total n e.0 _)) (one_row (map.contains_key n e.0) (map.len n) (map.len m + length es) (len-with_rows f m es)) in
+    subst (λ k. k ≤ map.len m + length es + 1) (sym (map.len-insert unique_total n e.0 _)) (one_row (map.contains_key n e.0) (map.len n) (map.len m + length es) (len-with_rows f m es)) in
     omega (arith, grown)
 
 pub how_many-union : (s t : UniqueSet) → how_many (union s t) ≤ how_many s + how_many t
 unfolding union joined
 how_many-union s t = omega (arith, len-with_rows (λ _ _. tt) s (map.entries t), map.len-entries t)
 
--- ---- the three outcomes of receiving
+-- few enough are no excess
 pub few_of : (n : ℕ) → n ≤ most_uniques → None ≡ excess_of n
 few_of n few = sym (ap (λ b. if b then Some (min n (2 ^ 32 - 1)) else None) (le-ltb _ _ few))
-
-is_excess : (b : Bool) (n k : ℕ) → Some k ≡ (if b then Some n else None) → (b ≡ true) × (k ≡ n)
-is_excess true n k is = (refl, ap (λ o. unwrap_or o 0) is)
-is_excess false n k is = absurd (true≢false (ap is_some is))
-
-is_none : (b : Bool) (n : ℕ) → None ≡ (if b then Some n else None) → b ≡ false
-is_none true n is = absurd (true≢false (sym (ap is_some is)))
-is_none false n is = refl
-
-by_tests : {A : Type 0} (a b c d : Bool) (x y z : A) → a ≡ c → b ≡ d → (if a then x else (if b then y else z)) ≡ (if c then x else (if d then y else z))
-by_tests a b c d x y z is are = ap (λ t. if t then x else (if b then y else z)) is ∙ ap (λ t. if c then x else (if t then y else z)) are
-
-module _ (me : Process) (own incoming : GossipState) where
-  both_hold : ℕ
-  both_hold = how_many (union own.members incoming.members)
-
-  foreign : GossipFault
-  foreign = ForeignCount (count own.version me) (count incoming.version me)
-
-  outcome : Bool → Bool → Result (Received × GossipState) GossipFault
-  unfolding foreign both_hold
-  outcome a b =
-      if a then Err (ForeignCount (count own.version me) (count incoming.version me))
-      else (if b then Err (TooManyUniques (min (how_many (union own.members incoming.members)) (2 ^ 32 - 1)))
-      else Ok (noted me (taken (relation own.version incoming.version) own incoming)))
-
-  pub received : (r : Relation) → count incoming.version me ≤ count own.version me → None ≡ excess_of (how_many (union own.members incoming.members)) → relation own.version incoming.version ≡ r →
-    receive me own incoming ≡ Ok (noted me (taken r own incoming))
-  unfolding outcome
-  received r known fits is =
-      ap (λ t. outcome t (nat_lt most_uniques (how_many (union own.members incoming.members)))) (le-ltb _ _ known)
-      ∙ ap (outcome false) (is_none _ _ fits)
-      ∙ ap (λ s. Ok (noted me (taken s own incoming))) is

@@ -1,4 +1,3 @@
 pub mod GossipLemmas
-pub mod HistoryLemmas
 pub mod NodeLemmas
 pub mod WorldLemmas

@@ -1,5 +1,5 @@
--- What a walk along the members finds, and which addresses are listed.
-use Rattle.std.proofs.Common.{◌≡◌, ℕ, zero, suc, ◌+◌, ◌<◌, ◌≤◌, Bool, true, false, ◌||◌, ◌&&◌, List, [], ◌∷◌, ◌++◌, length, get_or, take, Option, Some, None, is_some, slice_get, Result, Ok, Err, if◌then◌else◌, not, ltb, nat_le, nat_lt, min, ◌^◌, ◌-◌, refl, sym, ap, ◌∙◌, subst, arith, true≢false}
+-- What a walk along the members finds, which addresses are listed, the cases of a join, and that a step counts at most one more update.
+use Rattle.std.proofs.Common.{◌≡◌, ℕ, zero, suc, ◌+◌, ◌<◌, ◌≤◌, Bool, true, false, ◌||◌, List, [], ◌∷◌, ◌++◌, length, get_or, take, Some, None, is_some, slice_get, Result, Ok, Err, if◌then◌else◌, not, nat_le, nat_lt, min, ◌^◌, ◌-◌, refl, sym, ap, ◌∙◌, subst, arith, true≢false}
 use Rattle.std.proofs.lemmas.Option.{get_or_from_slice_get, slice_get_within}
 use Rattle.std.proofs.lemmas.List.Folds.{list_any_more, list_any_at}
 use Rattle.std.proofs.lemmas.List.{length-map, take_all}
@@ -16,23 +16,20 @@ use Rattle.ak_address.specs.Unique.{Endpoint, Process, address_cmp}
 use Rattle.ak_clock.specs.Version.{count, relation}
 use Rattle.ak_clock.specs.declared.version.Relation.{Relation}
 use Rattle.ak_clock.specs.declared.version.Relation.TheVariants as relations
-use Rattle.ak_clock.proofs.VersionLaws.{count-empty, count-merged, count-bumped_author}
+use Rattle.ak_clock.proofs.VersionLaws.{count-merged, count-bumped_author}
 use Rattle.ak_driver.specs.declared.member.Effect.{Effect}
 use Rattle.ak_driver.specs.declared.member.Effect.TheVariants.{Joined}
 use Rattle.ak_driver.specs.declared.gossip.Received.{Received}
-use Rattle.ak_driver.specs.declared.gossip.Received.TheVariants as received
 use Rattle.ak_driver.specs.declared.gossip.GossipFault.{GossipFault}
 use Rattle.ak_driver.specs.declared.gossip.GossipFault.TheVariants as fault
 use Rattle.ak_driver.specs.declared.wire.Message.{Message}
 use Rattle.ak_driver.specs.declared.wire.Message.TheVariants as message
-use Rattle.ak_driver.specs.declared.wire.Envelope.{Envelope}
 use Rattle.ak_driver.specs.declared.node.State.{State}
 use Rattle.ak_driver.specs.declared.node.NodeEvent.{NodeEvent}
 use Rattle.ak_driver.specs.declared.node.NodeEvent.TheVariants as event
 use Rattle.ak_driver.specs.declared.node.Action.{Action}
-use Rattle.ak_driver.specs.declared.node.Action.TheVariants as action
 use Rattle.ak_driver.specs.Gossip.{GossipState, receive, taken, noted, seen_by, most_uniques}
-use Rattle.ak_driver.specs.Node.{Outcome, nothing, refused, update, and_sends, to_process, is_member, is_listed, is_taken, most_at_join, on_join, found, join, is_answered, on_received, on_gossip, on_message, is_for, rule, is_other, closed, step}
+use Rattle.ak_driver.specs.Node.{Outcome, nothing, refused, update, and_sends, to_process, is_member, is_listed, is_taken, most_at_join, on_join, found, join, is_answered, on_received, on_gossip, on_message, is_for, rule, is_other, step}
 use Rattle.ak_driver.specs.NodeWords.{Does, IsOwnCount}
 use Rattle.ak_address.specs.Uniques.{UniqueSet, has, union, how_many, in_order}
 
@@ -97,8 +94,8 @@ module _ (from : Process) (n s : State) (a : List Action) where
       else and_sends message.Welcome from (update (Joined from ∷ []) n)))))
 
   pub joins_by : (member listed known taken full : Bool) →
-    member ≡ is_member n → listed ≡ is_listed n.settings.listed from.address → known ≡ has n.gossip.members from → taken ≡ is_taken from n.gossip.members →
-    full ≡ nat_le most_at_join (how_many n.gossip.members) → Does (join_by member listed known taken full) s a → Does (on_join from n) s a
+      member ≡ is_member n → listed ≡ is_listed n.settings.listed from.address → known ≡ has n.gossip.members from → taken ≡ is_taken from n.gossip.members →
+      full ≡ nat_le most_at_join (how_many n.gossip.members) → Does (join_by member listed known taken full) s a → Does (on_join from n) s a
   unfolding join_by
   joins_by member listed known taken full p q r t u does = subst (λ o. Does o s a) (λ i. join_by (p i) (q i) (r i) (t i) (u i)) does
 
@@ -107,28 +104,28 @@ module _ (from : Process) (n s : State) (a : List Action) where
   at_unlisted p q does = joins_by true false _ _ _ p q refl refl refl does
 
   pub at_known : true ≡ is_member n → true ≡ is_listed n.settings.listed from.address → true ≡ has n.gossip.members from →
-    Does (and_sends message.Welcome from (nothing n)) s a → Does (on_join from n) s a
+      Does (and_sends message.Welcome from (nothing n)) s a → Does (on_join from n) s a
   unfolding join_by
   at_known p q r does = joins_by true true true _ _ p q r refl refl does
 
   pub at_taken : true ≡ is_member n → true ≡ is_listed n.settings.listed from.address → false ≡ has n.gossip.members from → true ≡ is_taken from n.gossip.members →
-    Does (nothing n) s a → Does (on_join from n) s a
+      Does (nothing n) s a → Does (on_join from n) s a
   unfolding join_by
   at_taken p q r t does = joins_by true true false true _ p q r t refl does
 
   pub at_full : true ≡ is_member n → true ≡ is_listed n.settings.listed from.address → false ≡ has n.gossip.members from → false ≡ is_taken from n.gossip.members →
-    true ≡ nat_le most_at_join (how_many n.gossip.members) → Does (refused 6 n) s a → Does (on_join from n) s a
+      true ≡ nat_le most_at_join (how_many n.gossip.members) → Does (refused 6 n) s a → Does (on_join from n) s a
   unfolding join_by
   at_full p q r t u does = joins_by true true false false true p q r t u does
 
   pub at_free : true ≡ is_member n → true ≡ is_listed n.settings.listed from.address → false ≡ has n.gossip.members from → false ≡ is_taken from n.gossip.members →
-    false ≡ nat_le most_at_join (how_many n.gossip.members) → Does (and_sends message.Welcome from (update (Joined from ∷ []) n)) s a → Does (on_join from n) s a
+      false ≡ nat_le most_at_join (how_many n.gossip.members) → Does (and_sends message.Welcome from (update (Joined from ∷ []) n)) s a → Does (on_join from n) s a
   unfolding join_by
   at_free p q r t u does = joins_by true true false false false p q r t u does
 
 -- what was done, and a message with what is known then
 pub sends_does : (what : GossipState → Message) (to : Process) (o : Outcome) (s : State) (first a : List Action) →
-  Does o s first → a ≡ first ++ to_process s to (what s.gossip) ∷ [] → Does (and_sends what to o) s a
+    Does o s first → a ≡ first ++ to_process s to (what s.gossip) ∷ [] → Does (and_sends what to o) s a
 sends_does what to o s first a d is = record {
   state_after = d.state_after;
   actions_done = is ∙ (λ i. d.actions_done i ++ to_process (d.state_after i) to (what (d.state_after i).gossip) ∷ []);
@@ -194,7 +191,7 @@ module _ (me : Process) (own incoming : GossipState) where
   taken_takes relations.Concurrent le = seen_takes _ (omega (arith, count-merged own.version incoming.version me))
 
   by_tests : (a b : Bool) → nat_lt (count own.version me) (count incoming.version me) ≡ a →
-    IsTaken me own (if a then Err (fault.ForeignCount (count own.version me) (count incoming.version me))
+      IsTaken me own (if a then Err (fault.ForeignCount (count own.version me) (count incoming.version me))
       else (if b then Err (fault.TooManyUniques (min (how_many (union own.members incoming.members)) (2 ^ 32 - 1)))
       else Ok (noted me (taken (relation own.version incoming.version) own incoming))))
   by_tests true b is = tt

@@ -1,4 +1,4 @@
-use Rattle.std.proofs.Common.{◌≡◌, ℕ, ◌+◌, ◌<◌, sym, ap, ◌∙◌, take, subst, arith}
+use Rattle.std.proofs.Common.{sym, ◌∙◌, subst, arith}
 use Rattle.ak_address.specs.Uniques.{in_order}
 use Rattle.ak_driver.proofs.NodeLemmas.{not_none, take_places, length-in_order}
 use Rattle.ak_driver.proofs.GossipLemmas.{HasAdded, added_none, added_more, added_all}
@@ -12,7 +12,7 @@ pub others-preserved : goal.others-preserved
 others-preserved c = elim c.match-at.branch [
   | in-Some+in_ok-add_member w ↦
       added_more c.args.seen.now c.args.others.now c.args.members.now c.others.seen c.others.place w.in-Some.who.now
-        c.others.invariant (sym w.in-Some.ensures) c.match-at.seen (w.seen-is ∙ w.in_ok-add_member.ensures)
+      c.others.invariant (sym w.in-Some.ensures) c.match-at.seen (w.seen-is ∙ w.in_ok-add_member.ensures)
   | in_default w ↦
       absurd (not_none (in_order c.args.others.now) c.others.place (omega (arith, length-in_order c.args.others.now, c.len-place-end.ensures)) (sym w.in_default.ensures))
 ]
@@ -20,5 +20,5 @@ others-preserved c = elim c.match-at.branch [
 pub returns : goal.returns
 returns c =
     added_all c.args.seen.now c.args.others.now c.args.members.now c.others.seen
-      (subst (λ some. HasAdded c.args.seen.now some c.args.members.now c.others.seen)
-        (take_places c.args.others.now c.others.place (omega (arith, c.len-place-end.ensures))) c.others.invariant)
+    (subst (λ some. HasAdded c.args.seen.now some c.args.members.now c.others.seen)
+    (take_places c.args.others.now c.others.place (omega (arith, c.len-place-end.ensures))) c.others.invariant)

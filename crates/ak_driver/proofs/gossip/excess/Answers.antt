@@ -1,4 +1,4 @@
-use Rattle.std.proofs.Common.{◌≡◌, arith}
+use Rattle.std.proofs.Common.{arith}
 use Rattle.ak_address.specs.Uniques.{how_many, union}
 use Rattle.ak_driver.proofs.GossipLemmas.{few_of, how_many-union}
 use Rattle.ak_driver.proofs.gossip.excess.Goals as goal
