@@ -1,6 +1,6 @@
 -- Lemmas of the definitions of a world: what a list of actions does by parts, how many nodes a run has and how many
 -- events each was given, and which node a process is.
-use Rattle.std.proofs.Common.{◌≡◌, ℕ, zero, suc, ◌+◌, ◌<◌, ◌≤◌, ◌^◌, leb, ltb, Bool, true, false, cond, not, ◌&&◌, ◌||◌, List, [], ◌∷◌, ◌++◌, map, set, length, Option, Some, None, is_some, option_map, Contains, IsTrue, ◌↔◌, ◌⊎◌, inl, inr, ⊎_elim, position, slice_get, slice_set, Result, Ok, Err, if◌then◌else◌, refl, sym, ap, ◌∙◌, subst, arith, append_assoc, one-add, le-leb, true≢false, length-append, take, get_or}
+use Rattle.std.proofs.Common.{◌≡◌, is_ok, OnOk, ℕ, zero, suc, ◌+◌, ◌<◌, ◌≤◌, ◌^◌, leb, ltb, Bool, true, false, cond, not, ◌&&◌, ◌||◌, List, [], ◌∷◌, ◌++◌, map, set, length, Option, Some, None, is_some, option_map, Contains, IsTrue, ◌↔◌, ◌⊎◌, inl, inr, ⊎_elim, position, slice_get, slice_set, Result, Ok, Err, if◌then◌else◌, refl, sym, ap, ◌∙◌, subst, arith, append_assoc, one-add, le-leb, true≢false, length-append, take, get_or}
 use Rattle.std.proofs.Math.ListN.{length-set}
 use Rattle.std.proofs.lemmas.Option.{same_Some, slice_get-map, slice_get-get_or, cond_some}
 use Rattle.std.proofs.lemmas.Bool.{leb-false, ltb-true, lt-leb}
@@ -337,25 +337,25 @@ pub went-given : (nodes new_nodes : List Machine) (packets new_packets : List En
     → new_nodes ≡ set nodes place m → new_packets ≡ packets ++ sent actions → u ≡ m.state.me → new_history ≡ recorded u actions history
     → length new_packets < 2 ^ 63 → number ≡ Some place → first ≡ length packets + 1
     → Went (record { nodes = states nodes; packets = packets; history = history; founded = founded })
-      (gives e place (slice_get (states nodes) place) (record { nodes = states nodes; packets = packets; history = history; founded = founded }))
-      (record { node = number; first_packet = first; actions = actions })
-      (record { nodes = states new_nodes; packets = new_packets; history = new_history; founded = founded })
+    (gives e place (slice_get (states nodes) place) (record { nodes = states nodes; packets = packets; history = history; founded = founded }))
+    (record { node = number; first_packet = first; actions = actions })
+    (record { nodes = states new_nodes; packets = new_packets; history = new_history; founded = founded })
 went-given nodes new_nodes packets new_packets history new_history founded place e n m actions u number first at state_is actions_are nodes_are packets_are author history_is few number_is first_is =
     let w : WorldState = record { nodes = states nodes; packets = packets; history = history; founded = founded } in
     let o = step e n.state in
     let nodes_eq : states new_nodes ≡ set (states nodes) place o.0 =
-      ap states nodes_are ∙ map-set (λ (x : Machine). x.state) nodes place m ∙ ap (λ (x : State). set (states nodes) place x) state_is in
+    ap states nodes_are ∙ map-set (λ (x : Machine). x.state) nodes place m ∙ ap (λ (x : State). set (states nodes) place x) state_is in
     let packets_eq : new_packets ≡ packets ++ sent o.1 = packets_are ∙ ap (λ (xs : List Action). packets ++ sent xs) actions_are in
     let history_eq : new_history ≡ recorded o.0.me o.1 history =
-      history_is ∙ ap (λ (x : Process). recorded x actions history) (author ∙ ap (λ (x : State). x.me) state_is) ∙ ap (λ (xs : List Action). recorded o.0.me xs history) actions_are in
+    history_is ∙ ap (λ (x : Process). recorded x actions history) (author ∙ ap (λ (x : State). x.me) state_is) ∙ ap (λ (xs : List Action). recorded o.0.me xs history) actions_are in
     record {
       done = stepped place o w;
       happened = ap (λ (x : Option State). gives e place x w) at;
       world = λ i. record { nodes = nodes_eq i; packets = packets_eq i; history = history_eq i; founded = founded };
       shown = record { node = number_is; first_packet = first_is; actions = actions_are };
       numbers =
-        let long : length new_packets ≡ length packets + length (sent actions) = ap length packets_are ∙ length-append packets (sent actions) in
-        omega (arith, long, few, first_is);
+          let long : length new_packets ≡ length packets + length (sent actions) = ap length packets_are ∙ length-append packets (sent actions) in
+          omega (arith, long, few, first_is);
     }
 
 -- a process that started
@@ -363,21 +363,21 @@ pub went-started : (setup : Setup) (u : Process) (nodes new_nodes : List Machine
     (m : Machine) (actions : List Action) (number : Option ℕ) (first : ℕ)
     → m.state ≡ started u setup → new_nodes ≡ nodes ++ m ∷ [] → number ≡ Some (length nodes) → first ≡ length packets + 1 → first < 2 ^ 64 → actions ≡ []
     → Went (record { nodes = states nodes; packets = packets; history = history; founded = founded })
-      (Ok (starts setup u (record { nodes = states nodes; packets = packets; history = history; founded = founded })))
-      (record { node = number; first_packet = first; actions = actions })
-      (record { nodes = states new_nodes; packets = packets; history = history; founded = founded })
+    (Ok (starts setup u (record { nodes = states nodes; packets = packets; history = history; founded = founded })))
+    (record { node = number; first_packet = first; actions = actions })
+    (record { nodes = states new_nodes; packets = packets; history = history; founded = founded })
 went-started setup u nodes new_nodes packets history founded m actions number first state_is nodes_are number_is first_is few none =
     let w : WorldState = record { nodes = states nodes; packets = packets; history = history; founded = founded } in
     let nodes_eq : states new_nodes ≡ states nodes ++ started u setup ∷ [] =
-      ap states nodes_are ∙ map-append (λ (x : Machine). x.state) nodes (m ∷ []) ∙ ap (λ (x : State). states nodes ++ x ∷ []) state_is in
+    ap states nodes_are ∙ map-append (λ (x : Machine). x.state) nodes (m ∷ []) ∙ ap (λ (x : State). states nodes ++ x ∷ []) state_is in
     record {
       done = starts setup u w;
       happened = refl;
       world = λ i. record { nodes = nodes_eq i; packets = packets; history = history; founded = founded };
       shown = record { node = number_is ∙ ap (λ (k : ℕ). Some k) (sym (length-states nodes)); first_packet = first_is; actions = none };
       numbers =
-        let nothing_sent : length (sent actions) ≡ 0 = ap (λ (xs : List Action). length (sent xs)) none in
-        omega (arith, nothing_sent, few);
+          let nothing_sent : length (sent actions) ≡ 0 = ap (λ (xs : List Action). length (sent xs)) none in
+          omega (arith, nothing_sent, few);
     }
 
 -- a refusal by one answer is the same refusal by another
@@ -511,8 +511,8 @@ dead-delivery w number e s packet nobody none first_is few no_actions = record {
   world = refl;
   shown = record { node = none; first_packet = first_is; actions = no_actions };
   numbers =
-    let nothing_sent : length (sent s.actions) ≡ 0 = ap (λ (xs : List Action). length (sent xs)) no_actions in
-    omega (arith, nothing_sent, few);
+      let nothing_sent : length (sent s.actions) ≡ 0 = ap (λ (xs : List Action). length (sent xs)) no_actions in
+      omega (arith, nothing_sent, few);
 }
 
 pub delivery : (w : WorldState) (number : ℕ) (e f : Envelope) (place : ℕ) → packet_at w number ≡ Some e → receiver_of e w ≡ Some place → f ≡ e
@@ -521,3 +521,18 @@ delivery w number e f place packet reached copied =
     ap (λ (o : Option Envelope). delivers o w) packet
     ∙ ap (λ (o : Option ℕ). arrives e o w) reached
     ∙ ap (λ (x : Envelope). gives (event.TheVariants.Packet x) place (slice_get w.nodes place) w) (sym copied)
+
+-- an accepted event goes on the run
+pub run-went : (setup new_setup : Setup) (w v : WorldState) (events new_events : List Event) (e : Event) (s : Step) → w ≡ run setup events → new_setup ≡ setup → new_events ≡ events ++ e ∷ []
+    → Went w (happens setup e w) s v → v ≡ run new_setup new_events
+run-went setup new_setup w v events new_events e s is_run same_setup events_are went =
+    went.world
+    ∙ sym (ap (after w) went.happened)
+    ∙ ap (λ (x : WorldState). after x (happens setup e x)) is_run
+    ∙ sym (run-push setup empty_world events e)
+    ∙ ap (run setup) (sym events_are)
+    ∙ ap (λ (x : Setup). run x new_events) (sym same_setup)
+
+pub at-ok : {X Y : Type 0} (r : Result X Y) (P : Type 0) → is_ok r ≡ true → OnOk r P → P
+at-ok (Ok x) P e p = p
+at-ok (Err y) P e p = absurd (true≢false (sym e))

@@ -11,13 +11,13 @@ pub actions-preserved : goal.actions-preserved
 actions-preserved c =
     sent-kept c.args.packets.now.items c.actions.packets.items c.match-action.packets.items c.args.actions.now c.actions.action-index c.action-item.result c.actions-test.true c.action-item.is c.actions.invariant
     (elim c.match-action.branch [
-      in-Send+in_ok-copy+in_ok-push w ↦
-        ap (λ v. v.items) w.packets-is
-        ∙ w.in_ok-push.ensures.items
-        ∙ ap (λ (e : Envelope). c.actions.packets.items ++ e ∷ []) w.in_ok-copy.ensures
-        ∙ ap (λ (x : Action). c.actions.packets.items ++ sent (x ∷ [])) (sym w.in-Send.is)
-    | in_default w ↦
-        ap (λ v. v.items) w.packets-is 
-        ∙ sym (append-nil c.actions.packets.items)
-        ∙ ap (λ (es : List Envelope). c.actions.packets.items ++ es) (sym (sent-none c.action-item.result w.in_default.not-Send))
+      | in-Send+in_ok-copy+in_ok-push w ↦
+          ap (λ v. v.items) w.packets-is
+          ∙ w.in_ok-push.ensures.items
+          ∙ ap (λ (e : Envelope). c.actions.packets.items ++ e ∷ []) w.in_ok-copy.ensures
+          ∙ ap (λ (x : Action). c.actions.packets.items ++ sent (x ∷ [])) (sym w.in-Send.is)
+      | in_default w ↦
+          ap (λ v. v.items) w.packets-is
+          ∙ sym (append-nil c.actions.packets.items)
+          ∙ ap (λ (es : List Envelope). c.actions.packets.items ++ es) (sym (sent-none c.action-item.result w.in_default.not-Send))
     ])
