@@ -292,10 +292,6 @@ state-at xs i n lt is =
     ∙ ap (λ (m : Machine). Some m.state) (sym is)
 
 -- the addresses that are listed
-listed_here : (b c : Bool) → b ≡ true → (b || c) ≡ true
-listed_here true c e = refl
-listed_here false c e = absurd (cc)
-
 tied_same : (o : Ordering) → is_eq o ≡ true → o ≡ Equal
 tied_same Less e = absurd (cc)
 tied_same Equal e = refl
@@ -324,12 +320,6 @@ pub listed-test : (xs : List Endpoint) (a : Endpoint) (b : Bool) → (IsTrue b �
 listed-test xs a true both = listed_from xs a (both.0 refl)
 listed-test xs a false both = false_unless (is_listed xs a) (λ e. true≢false (sym (both.1 (contains_from xs a e))))
 
--- the place of the first that passes is within the list
-pub position-within : {X : Type 0} (p : X → Bool) (xs : List X) (i : ℕ) → position p xs ≡ Some i → i < length xs
-position-within p xs i is =
-    let parts = cond_some (ltb (position_or_len p xs) (length xs)) (position_or_len p xs) i is in
-    subst (λ k. k < length xs) parts.1 (ltb-true (position_or_len p xs) (length xs) parts.0)
-
 -- what a node did with an event is what the world's step says
 pub went-given : (nodes new_nodes : List Machine) (packets new_packets : List Envelope) (history new_history : List Entry) (founded : Bool)
     (place : ℕ) (e : NodeEvent) (n m : Machine) (actions : List Action) (u : Process) (number : Option ℕ) (first : ℕ)
@@ -357,107 +347,6 @@ went-given nodes new_nodes packets new_packets history new_history founded place
           let long : length new_packets ≡ length packets + length (sent actions) = ap length packets_are ∙ length-append packets (sent actions) in
           omega (arith, long, few, first_is);
     }
-
--- a process that started
-pub went-started : (setup : Setup) (u : Process) (nodes new_nodes : List Machine) (packets : List Envelope) (history : List Entry) (founded : Bool)
-    (m : Machine) (actions : List Action) (number : Option ℕ) (first : ℕ)
-    → m.state ≡ started u setup → new_nodes ≡ nodes ++ m ∷ [] → number ≡ Some (length nodes) → first ≡ length packets + 1 → first < 2 ^ 64 → actions ≡ []
-    → Went (record { nodes = states nodes; packets = packets; history = history; founded = founded })
-    (Ok (starts setup u (record { nodes = states nodes; packets = packets; history = history; founded = founded })))
-    (record { node = number; first_packet = first; actions = actions })
-    (record { nodes = states new_nodes; packets = packets; history = history; founded = founded })
-went-started setup u nodes new_nodes packets history founded m actions number first state_is nodes_are number_is first_is few none =
-    let w : WorldState = record { nodes = states nodes; packets = packets; history = history; founded = founded } in
-    let nodes_eq : states new_nodes ≡ states nodes ++ started u setup ∷ [] =
-    ap states nodes_are ∙ map-append (λ (x : Machine). x.state) nodes (m ∷ []) ∙ ap (λ (x : State). states nodes ++ x ∷ []) state_is in
-    record {
-      done = starts setup u w;
-      happened = refl;
-      world = λ i. record { nodes = nodes_eq i; packets = packets; history = history; founded = founded };
-      shown = record { node = number_is ∙ ap (λ (k : ℕ). Some k) (sym (length-states nodes)); first_packet = first_is; actions = none };
-      numbers =
-          let nothing_sent : length (sent actions) ≡ 0 = ap (λ (xs : List Action). length (sent xs)) none in
-          omega (arith, nothing_sent, few);
-    }
-
--- a refusal by one answer is the same refusal by another
-pub same-refusal : (why : refused.Refused) (w v : WorldState) (a b : Result Done refused.Refused) → ((x : refused.Refused) → a ≡ Err x → b ≡ Err x) → Scenes w a (Err why) v → Scenes w b (Err why) v
-same-refusal refused.TheVariants.NoMemory w v a b same r = tt
-same-refusal refused.TheVariants.Unlisted w v a b same r = record { reason = same _ r.reason; unchanged = r.unchanged }
-same-refusal refused.TheVariants.UniqueUsed w v a b same r = record { reason = same _ r.reason; unchanged = r.unchanged }
-same-refusal refused.TheVariants.AddressInUse w v a b same r = record { reason = same _ r.reason; unchanged = r.unchanged }
-same-refusal refused.TheVariants.SecondFound w v a b same r = record { reason = same _ r.reason; unchanged = r.unchanged }
-same-refusal refused.TheVariants.UnknownNode w v a b same r = record { reason = same _ r.reason; unchanged = r.unchanged }
-same-refusal (refused.TheVariants.NoPacket sent) w v a b same r = record { reason = same _ r.reason; unchanged = r.unchanged }
-same-refusal refused.TheVariants.TooManyStarts w v a b same r = record { reason = same _ r.reason; unchanged = r.unchanged }
-same-refusal refused.TheVariants.NotBuilt w v a b same r = record { reason = same _ r.reason; unchanged = r.unchanged }
-
--- the founding node acts, and the founding is remembered
-abbrev remembered : Result Done refused.Refused → Result Done refused.Refused
-remembered (Ok done) = Ok (record { world = record { nodes = done.world.nodes; packets = done.world.packets; history = done.world.history; founded = true }; node = done.node; actions = done.actions })
-remembered (Err why) = Err why
-
-abbrev with_founded : WorldState → WorldState
-with_founded w = record { nodes = w.nodes; packets = w.packets; history = w.history; founded = true }
-
-gives_remembered : (e : NodeEvent) (place : ℕ) (o : Option State) (w : WorldState) → gives e place o (with_founded w) ≡ remembered (gives e place o w)
-gives_remembered e place (Some n) w = refl
-gives_remembered e place None w = refl
-
-acts_remembered : (e : NodeEvent) (o : Option ℕ) (w : WorldState) → acts e o (with_founded w) ≡ remembered (acts e o w)
-acts_remembered e (Some place) w = gives_remembered e place (slice_get w.nodes place) w
-acts_remembered e None w = refl
-
-founds : (setup : Setup) (u : Process) (w : WorldState) → w.founded ≡ false → happens setup (Found u) w ≡ remembered (acts event.TheVariants.Found (node_of u w) w)
-founds setup u w free =
-    ap (λ (b : Bool). if b then Err refused.TheVariants.SecondFound else acts event.TheVariants.Found (node_of u w) (with_founded w)) free
-    ∙ acts_remembered event.TheVariants.Found (node_of u w) w
-
-pub went-founded : (setup : Setup) (u : Process) (w v : WorldState) (s : Step) → w.founded ≡ false → Went w (acts event.TheVariants.Found (node_of u w) w) s v
-    → Went w (happens setup (Found u) w) s (record { nodes = v.nodes; packets = v.packets; history = v.history; founded = true })
-went-founded setup u w v s free went = record {
-  done = record { world = with_founded went.done.world; node = went.done.node; actions = went.done.actions };
-  happened = founds setup u w free ∙ ap remembered went.happened;
-  world = ap with_founded went.world;
-  shown = record { node = went.shown.node; first_packet = went.shown.first_packet; actions = went.shown.actions };
-  numbers = went.numbers;
-}
-
-pub refused-founded : (setup : Setup) (u : Process) (w v : WorldState) (why : refused.Refused) → w.founded ≡ false → Scenes w (acts event.TheVariants.Found (node_of u w) w) (Err why) v
-    → Scenes w (happens setup (Found u) w) (Err why) v
-refused-founded setup u w v why free r =
-    same-refusal why w v (acts event.TheVariants.Found (node_of u w) w) (happens setup (Found u) w) (λ x e. founds setup u w free ∙ ap remembered e) r
-
--- what a world answers where its parts answer so
-pub went-applied : (event : Event) (old new : Chronicle) (s : Step) → old.spent ≡ false → Went old.state (happens old.setup event old.state) s new.state
-    → new.setup ≡ old.setup → new.events ≡ old.events ++ event ∷ [] → new.spent ≡ false → Accepts event old s new
-went-applied event old new s alive went setup_is events_are new_alive = record {
-  alive = alive;
-  done = went.done;
-  happened = went.happened;
-  world = λ i. record { setup = setup_is i; state = went.world i; events = events_are i; spent = new_alive i };
-  shown = went.shown;
-}
-
-refuses : (event : Event) (old new : Chronicle) (why : refused.Refused) → old.spent ≡ false → Stayed old.state (happens old.setup event old.state) why new.state
-    → new.setup ≡ old.setup → new.events ≡ old.events → new.spent ≡ false → Refuses event old why new
-refuses event old new why alive stayed setup_is events_are new_alive = record {
-  alive = alive;
-  reason = stayed.reason;
-  unchanged = λ i. record { setup = setup_is i; state = stayed.unchanged i; events = events_are i; spent = (new_alive ∙ sym alive) i };
-}
-
-pub refused-applied : (event : Event) (old new : Chronicle) (why : refused.Refused) → (why ≡ refused.TheVariants.NoMemory → ⊥) → old.spent ≡ false
-    → Scenes old.state (happens old.setup event old.state) (Err why) new.state → new.setup ≡ old.setup → new.events ≡ old.events → new.spent ≡ false → Applies event old (Err why) new
-refused-applied event old new refused.TheVariants.NoMemory known alive r a b c = absurd (known refl)
-refused-applied event old new refused.TheVariants.Unlisted known alive r a b c = refuses event old new _ alive r a b c
-refused-applied event old new refused.TheVariants.UniqueUsed known alive r a b c = refuses event old new _ alive r a b c
-refused-applied event old new refused.TheVariants.AddressInUse known alive r a b c = refuses event old new _ alive r a b c
-refused-applied event old new refused.TheVariants.SecondFound known alive r a b c = refuses event old new _ alive r a b c
-refused-applied event old new refused.TheVariants.UnknownNode known alive r a b c = refuses event old new _ alive r a b c
-refused-applied event old new (refused.TheVariants.NoPacket sent) known alive r a b c = refuses event old new _ alive r a b c
-refused-applied event old new refused.TheVariants.TooManyStarts known alive r a b c = refuses event old new _ alive r a b c
-refused-applied event old new refused.TheVariants.NotBuilt known alive r a b c = refuses event old new _ alive r a b c
 
 -- which node the code found is which the world names
 pub found-node : (u : Process) (nodes : List Machine) (r o : Option ℕ) → r ≡ position (λ (n : Machine). is_process u n.state) nodes → r ≡ o → position (is_process u) (states nodes) ≡ o
