@@ -1,6 +1,6 @@
 pub mod GossipLemmas
-pub mod HistoryLemmas
 pub mod InputLemmas
 pub mod NodeLemmas
 pub mod TextLemmas
 pub mod WorkedTexts
+pub mod WorldLemmas

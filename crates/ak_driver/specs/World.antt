@@ -16,6 +16,7 @@ use Rattle.ak_driver.specs.declared.node.Action.TheVariants.{Send, Update}
 use Rattle.ak_driver.specs.declared.world.Refused.{Refused}
 use Rattle.ak_driver.specs.declared.world.Refused as refused
 use Rattle.ak_driver.specs.declared.node.State.{State}
+use Rattle.ak_driver.specs.History.{entries_of}
 use Rattle.ak_driver.specs.Node.{Outcome, started, is_listed, is_for, step}
 
 pub record WorldState : Type 0 where
@@ -53,10 +54,11 @@ sent [] = []
 sent (Send e ∷ actions) = e ∷ sent actions
 sent (a ∷ actions) = sent actions
 
+-- each entry has its author's next number
 abbrev pub recorded : Process → List Action → List Entry → List Entry
 recorded author [] history = history
 recorded author (Update number effects ∷ actions) history =
-    recorded author actions (record { author = author; number = number; effects = effects } ∷ history)
+    recorded author actions (record { author = author; number = entries_of author history + 1; effects = effects } ∷ history)
 recorded author (a ∷ actions) history = recorded author actions history
 
 -- what one event did: the acting node, or none for a dead delivery, and its actions

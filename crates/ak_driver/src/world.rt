@@ -1,11 +1,16 @@
 //! A recorded world: the nodes that were started, every packet that was ever sent, and the history of the cluster.
 
-ghost use Rattle.std.specs.Prelude.{◌≡◌, ℕ, ◌+◌, ◌-◌, ◌<◌, ◌≤◌, ◌^◌, ◌++◌, ◌∷◌, [], true, false, length, slice_get, codes, IfOk, OnOk, OnErr, Option, None, Some};
+ghost use Rattle.std.specs.Prelude.{◌≡◌, ℕ, ◌+◌, ◌-◌, ◌<◌, ◌≤◌, ◌^◌, ◌++◌, ◌∷◌, [], true, false, length, slice_get, codes, IfOk, OnOk, OnErr, Option, None, Some, Result, Ok, Err};
 ghost use Rattle.std.specs.Fmt.{decimal};
 ghost use Rattle.std.specs.Option.{option_and_then, option_copied, option_map};
 ghost use Rattle.ak_schedule.specs.Schedule.{event_text};
 ghost use Rattle.ak_driver.specs.World as rules;
-ghost use Rattle.ak_driver.specs.WorldWords.{Applies};
+ghost use Rattle.std.specs.List.{list_any, position};
+ghost use Rattle.std.specs.Ordering.{is_eq};
+ghost use Rattle.ak_address.specs.Unique.{address_cmp};
+ghost use Rattle.ak_driver.specs.Node.{is_for};
+ghost use Rattle.ak_driver.specs.WorldWords.{Applies, Scenes, IsReady, state_of};
+ghost use Rattle.ak_driver.specs.NodeWords.{Machine};
 ghost use Rattle.ak_driver.specs.StepText as text;
 
 use crate::gossip::Gossip;
@@ -63,24 +68,33 @@ pub(crate) struct Scene {
 }
 
 // Which node the process is.
-fn node_of(nodes: &[Node], who: &Unique) -> Option<usize> {
+fn node_of(nodes: &[Node], who: &Unique) -> Option<usize>
+    ensures { result ≡ position (λ (n : Machine). rules.is_process who.now n.state) nodes.now }
+{
     nodes.iter().position(|node| node.me().compare(who).is_eq())
 }
 
 // Which node the packet reaches.
-fn receiver_of(nodes: &[Node], envelope: &Envelope) -> Option<usize> {
+fn receiver_of(nodes: &[Node], envelope: &Envelope) -> Option<usize>
+    ensures { result ≡ position (λ (n : Machine). is_for n.state.me envelope.now) nodes.now }
+{
     nodes.iter().position(|node| is_for(node.me(), envelope))
 }
 
 // A node runs at the address.
-fn is_used(nodes: &[Node], address: &Address) -> bool {
+fn is_used(nodes: &[Node], address: &Address) -> bool
+    ensures { result ≡ list_any (λ (n : Machine). is_eq (address_cmp n.state.me.address address.now)) nodes.now }
+{
     nodes
         .iter()
         .any(|node| node.me().address.compare(address).is_eq())
 }
 
 impl Scene {
-    fn start(&mut self, alloc: Global, who: &Unique) -> Result<Step, Refused> {
+    fn start(&mut self, alloc: Global, who: &Unique) -> Result<Step, Refused>
+        ensures settings { self.new.settings ≡ self.old.settings }
+        ensures scenes { Scenes (state_of self.old) (rules.happens self.old.settings (Event.Start who.now) (state_of self.old)) result (state_of self.new) }
+    {
         if !self.settings.is_listed(&who.address) {
             return Err(Refused::Unlisted);
         }
@@ -96,7 +110,11 @@ impl Scene {
         self.start_node(alloc, who)
     }
 
-    fn start_node(&mut self, alloc: Global, who: &Unique) -> Result<Step, Refused> {
+    fn start_node(&mut self, alloc: Global, who: &Unique) -> Result<Step, Refused>
+        requires { length self.old.nodes.items < 64 }
+        ensures settings { self.new.settings ≡ self.old.settings }
+        ensures scenes { Scenes (state_of self.old) (Ok (rules.starts self.old.settings who.now (state_of self.old))) result (state_of self.new) }
+    {
         let place = self.nodes.len();
         let me = who.copy(alloc)?;
         let node = Node::start(alloc, me, &self.settings)?;
@@ -108,16 +126,28 @@ impl Scene {
         })
     }
 
-    fn found(&mut self, alloc: Global, who: &Unique) -> Result<Step, Refused> {
+    fn found(&mut self, alloc: Global, who: &Unique) -> Result<Step, Refused>
+        requires ready { IsReady (state_of self.old) }
+        ensures settings { self.new.settings ≡ self.old.settings }
+        ensures scenes { Scenes (state_of self.old) (rules.happens self.old.settings (Event.Found who.now) (state_of self.old)) result (state_of self.new) }
+    {
         if self.founded {
             return Err(Refused::SecondFound);
         }
-        let step = self.act(alloc, who, NodeEvent::Found)?;
-        self.founded = true;
-        Ok(step)
+        match self.act(alloc, who, NodeEvent::Found) {
+            Ok(step) => {
+                self.founded = true;
+                Ok(step)
+            }
+            Err(why) => Err(why),
+        }
     }
 
-    fn join(&mut self, alloc: Global, who: &Unique, target: &Address) -> Result<Step, Refused> {
+    fn join(&mut self, alloc: Global, who: &Unique, target: &Address) -> Result<Step, Refused>
+        requires ready { IsReady (state_of self.old) }
+        ensures settings { self.new.settings ≡ self.old.settings }
+        ensures scenes { Scenes (state_of self.old) (rules.happens self.old.settings (Event.Join who.now target.now) (state_of self.old)) result (state_of self.new) }
+    {
         if !self.settings.is_listed(target) {
             return Err(Refused::Unlisted);
         }
@@ -125,7 +155,11 @@ impl Scene {
         self.act(alloc, who, NodeEvent::Join(target))
     }
 
-    fn deliver(&mut self, alloc: Global, number: u64) -> Result<Step, Refused> {
+    fn deliver(&mut self, alloc: Global, number: u64) -> Result<Step, Refused>
+        requires ready { IsReady (state_of self.old) }
+        ensures settings { self.new.settings ≡ self.old.settings }
+        ensures scenes { Scenes (state_of self.old) (rules.happens self.old.settings (Event.Deliver number) (state_of self.old)) result (state_of self.new) }
+    {
         let Some(envelope) = packet_at(&self.packets, number) else {
             let sent = self.packets.len() as u64;
             return Err(Refused::NoPacket { sent });
@@ -142,15 +176,24 @@ impl Scene {
     }
 
     // The process is given an event.
-    fn act(&mut self, alloc: Global, who: &Unique, event: NodeEvent) -> Result<Step, Refused> {
+    fn act(&mut self, alloc: Global, who: &Unique, event: NodeEvent) -> Result<Step, Refused>
+        requires ready { IsReady (state_of self.old) }
+        ensures settings { self.new.settings ≡ self.old.settings }
+        ensures scenes { Scenes (state_of self.old) (rules.acts event (rules.node_of who.now (state_of self.old)) (state_of self.old)) result (state_of self.new) }
+    {
         match node_of(&self.nodes, who) {
-            Some(place) => self.give(alloc, place, event),
-            None => Err(Refused::UnknownNode),
+            Some(place) => return self.give(alloc, place, event),
+            None => return Err(Refused::UnknownNode),
         }
     }
 
     // The node at a place is given an event; what it sends and updates is kept.
-    fn give(&mut self, alloc: Global, place: usize, event: NodeEvent) -> Result<Step, Refused> {
+    fn give(&mut self, alloc: Global, place: usize, event: NodeEvent) -> Result<Step, Refused>
+        requires ready { IsReady (state_of self.old) }
+        requires place { place < length self.old.nodes.items }
+        ensures settings { self.new.settings ≡ self.old.settings }
+        ensures scenes { Scenes (state_of self.old) (rules.gives event place (slice_get (state_of self.old).nodes place) (state_of self.old)) result (state_of self.new) }
+    {
         let first_packet = self.next_packet();
         let actions = self.nodes[place].step(alloc, event)?;
         keep_packets(alloc, actions.as_slice(), &mut self.packets)?;
@@ -167,8 +210,25 @@ impl Scene {
         })
     }
 
+    // What an event makes of the world, or the first reason why it is refused.
+    fn happens(&mut self, alloc: Global, event: &Event) -> Result<Step, Refused>
+        requires ready { IsReady (state_of self.old) }
+        ensures settings { self.new.settings ≡ self.old.settings }
+        ensures scenes { Scenes (state_of self.old) (rules.happens self.old.settings event.now (state_of self.old)) result (state_of self.new) }
+    {
+        match event {
+            Event::Start(who) => self.start(alloc, who),
+            Event::Found(who) => self.found(alloc, who),
+            Event::Join(who, target) => self.join(alloc, who, target),
+            Event::Deliver(number) => self.deliver(alloc, *number),
+            _ => Err(Refused::NotBuilt),
+        }
+    }
+
     // The number of the next packet that is sent.
-    fn next_packet(&self) -> u64 {
+    fn next_packet(&self) -> u64
+        ensures { result ≡ length self.now.packets.items + 1 }
+    {
         self.packets.len() as u64 + 1
     }
 }
@@ -185,7 +245,10 @@ fn packet_at(packets: &[Envelope], number: u64) -> Option<&Envelope>
 }
 
 // A start number: fewer processes are started than have a number.
-fn number_of(place: usize) -> Option<u32> {
+fn number_of(place: usize) -> Option<u32>
+    requires { place < 64 }
+    ensures { result ≡ Some place }
+{
     u32::try_from(place).ok()
 }
 
@@ -194,7 +257,10 @@ fn keep_packets(
     alloc: Global,
     actions: &[Action],
     packets: &mut Vec<Envelope>,
-) -> Result<(), AllocError> {
+) -> Result<(), AllocError>
+    ensures kept { OnOk result (packets.new.items ≡ packets.old.items ++ rules.sent actions.now) }
+    ensures numbered { OnOk result (length packets.new.items < 2 ^ 63) }
+{
     'actions: for action in actions {
         if let Action::Send(envelope) = action {
             packets.push(envelope.copy(alloc)?)?;
@@ -209,7 +275,9 @@ fn keep_entries(
     author: &Unique,
     actions: &[Action],
     history: &mut History,
-) -> Result<(), AllocError> {
+) -> Result<(), AllocError>
+    ensures { OnOk result (history.new ≡ rules.recorded author.now actions.now history.old) }
+{
     'actions: for action in actions {
         if let Action::Update(_, effects) = action {
             history.push(alloc, author, effects.copy(alloc)?)?;
@@ -238,6 +306,15 @@ impl<T: Drop> From<AllocFailed<T>> for Refused {
     }
 }
 
+// An event is added to the accepted ones. An error leaves them as they were.
+fn keep_event(alloc: Global, event: &Event, accepted: &mut Vec<Event>) -> Result<(), AllocError>
+    ensures { OnOk result (accepted.new.items ≡ accepted.old.items ++ event.now ∷ []) }
+{
+    let kept = event.copy(alloc)?;
+    accepted.push(kept)?;
+    Ok(())
+}
+
 /// A world: a settings' run of the events that it accepted. After want of memory it is spent, and each later event
 /// answers want of memory.
 #[derive(Drop)]
@@ -260,7 +337,7 @@ impl Model for World {
 
     ghost view = { λ w. record { setup = w.scene.settings; state = state_of w.scene; events = w.accepted.items; spent = w.is_spent } };
 
-    ghost invariant = { λ w. IsChronicle w.scene.settings w.scene w.accepted.items w.is_spent };
+    ghost invariant = { λ w. IsChronicle w.scene.settings (state_of w.scene) w.accepted.items w.is_spent };
 }
 
 impl World {
@@ -293,29 +370,19 @@ impl World {
         if self.is_spent {
             return Err(Refused::NoMemory);
         }
-        let result = self.happens(alloc, event);
-        match result {
-            Ok(step) => Ok(step),
+        match self.scene.happens(alloc, event) {
+            Ok(step) => {
+                if keep_event(alloc, event, &mut self.accepted).is_ok() {
+                    return Ok(step);
+                }
+                self.is_spent = true;
+                Err(Refused::NoMemory)
+            }
             Err(Refused::NoMemory) => {
                 self.is_spent = true;
                 Err(Refused::NoMemory)
             }
-            Err(why) => {
-                let _ = self.accepted.pop();
-                Err(why)
-            }
-        }
-    }
-
-    fn happens(&mut self, alloc: Global, event: &Event) -> Result<Step, Refused> {
-        let accepted = event.copy(alloc)?;
-        self.accepted.push(accepted)?;
-        match event {
-            Event::Start(who) => self.scene.start(alloc, who),
-            Event::Found(who) => self.scene.found(alloc, who),
-            Event::Join(who, target) => self.scene.join(alloc, who, target),
-            Event::Deliver(number) => self.scene.deliver(alloc, *number),
-            _ => Err(Refused::NotBuilt),
+            Err(why) => Err(why),
         }
     }
 
