@@ -4,7 +4,8 @@ use ak_outside::{MemorySink, MemorySource, Status};
 use std::alloc::{AllocError, Global};
 use std::test::Fail;
 
-const HEADERS: &[u8] = b"listed a:1\nstrategy static-quorum 1\nmargin 2\ndeadline 9\nstable 9\nshards 10\nbuffer 2\nthreshold 1\nlimit 1\n";
+const HEADERS: &[u8] =
+    b"listed a:1\nstrategy static-quorum 1\nmargin 2\ndeadline 9\nstable 9\nshards 10\nbuffer 2\nthreshold 1\nlimit 1\n";
 
 const SUMMARY: &[u8] = b"steps 0\npackets 0\nhistory 0\nmargin kept\ndoubles none\n";
 
@@ -66,6 +67,9 @@ fn replays_end(rt: HostRuntime) -> Result<(), Fail> {
     text.extend_from_slice(b"start a:1#1\ntock a:1#1\n")?;
     let (status, written, _, _) = outcome(alloc, &words, &text, &[], &[])?;
     assert_eq!(rt; status, Status::Schedule);
-    assert_eq!(rt; written.as_slice(), b"1 start a:1#1\nerror 4 S1 line 11\n".as_slice());
+    assert_eq!(rt;
+        written.as_slice(),
+        b"1 start a:1#1\nerror 4 S1 line 11\n".as_slice()
+    );
     Ok(())
 }
