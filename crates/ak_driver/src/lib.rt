@@ -12,7 +12,7 @@ pub mod wire;
 mod worked;
 pub mod world;
 
-ghost use Rattle.std.specs.Prelude.{◌≡◌, ◌≤◌, ◌↔◌, IsTrue};
+ghost use Rattle.std.specs.Prelude.{◌≡◌, ◌≤◌, ◌↔◌, IsTrue, codes};
 ghost use Rattle.ak_outside.specs.Outside.{Rose};
 ghost use Rattle.ak_driver.specs.StatusWords.{AsksReplay, ReplayCause, Written, memory_line, usage_line};
 
@@ -29,9 +29,15 @@ fn is_replay(words: &[Text]) -> bool
     ensures { IsTrue result ↔ AsksReplay words.now }
 {
     match words {
-        [word] => word.bytes() == b"replay".as_slice(),
+        [word] => is_name(word),
         _ => false,
     }
+}
+
+fn is_name(word: &Text) -> bool
+    ensures { IsTrue result ↔ (word.now ≡ codes "replay") }
+{
+    word.bytes() == b"replay".as_slice()
 }
 
 /// Does what the words after the program's name ask for: `replay` alone replays the schedule in the input. Any other
@@ -62,3 +68,6 @@ pub fn run_without_words<W: Sink>(output: &mut W) -> Status
 {
     written(output, b"error 7 memory\n", Status::Memory)
 }
+
+#[cfg(test)]
+mod tests;

@@ -192,12 +192,7 @@ fn running(
 }
 
 // The line that says which line is refused, and why.
-fn print_refusal(
-    alloc: Global,
-    code: Code,
-    line: u64,
-    out: &mut Vec<u8>,
-) -> Result<(), AllocError>
+fn print_refusal(alloc: Global, code: Code, line: u64, out: &mut Vec<u8>) -> Result<(), AllocError>
     ensures ok { OnOk result (out.new.items ≡ out.old.items ++ refusal_text (code_of code) line) }
     ensures err { OnErr result (out.new.items ≡ out.old.items) }
 {

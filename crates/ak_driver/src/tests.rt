@@ -1,0 +1,75 @@
+use super::run;
+use ak_address::Text;
+use ak_outside::{MemorySink, MemorySource, Status};
+use std::alloc::{AllocError, Global};
+use std::test::Fail;
+
+const HEADERS: &[u8] =
+    b"listed a:1\nstrategy static-quorum 1\nmargin 2\ndeadline 9\nstable 9\nshards 10\nbuffer 2\nthreshold 1\nlimit 1\n";
+
+const SUMMARY: &[u8] = b"steps 0\npackets 0\nhistory 0\nmargin kept\ndoubles none\n";
+
+// Runs with these words over an input and an output whose listed calls fail, and answers the status, the bytes that
+// were written, and how often the input and the output failed.
+fn outcome(
+    alloc: Global,
+    words: &[&[u8]],
+    text: &[u8],
+    failing_reads: &[u64],
+    failing_writes: &[u64],
+) -> Result<(Status, Vec<u8>, u64, u64), AllocError> {
+    let mut copies = Vec::new(alloc);
+    for word in words {
+        copies.push(Text::from_bytes(alloc, word)?)?;
+    }
+    let mut input = MemorySource::new(alloc, text, 7, failing_reads)?;
+    let mut output = MemorySink::new(alloc, failing_writes)?;
+    let status = run(alloc, &copies, &mut input, &mut output);
+    let written = output.bytes().to_vec(alloc)?;
+    Ok((status, written, input.faults(), output.faults()))
+}
+
+// Other words answer one line, and read nothing: the first read would fail.
+#[test]
+fn other_words_are_refused(rt: HostRuntime) -> Result<(), Fail> {
+    let alloc = rt.alloc();
+    let others: [&[&[u8]]; 3] = [&[], &[b"watch"], &[b"replay", b"extra"]];
+    for words in &others {
+        let (status, written, reads, writes) = outcome(alloc, *words, b"", &[1], &[])?;
+        assert_eq!(rt; status, Status::Usage);
+        assert_eq!(rt; written.as_slice(), b"error 2 usage\n".as_slice());
+        assert_eq!(rt; (reads, writes), (0, 0));
+    }
+    Ok(())
+}
+
+// A failed read or write is the last; a schedule's text is printed to its end, or to the refused line.
+#[test]
+fn replays_end(rt: HostRuntime) -> Result<(), Fail> {
+    let alloc = rt.alloc();
+    let words: [&[u8]; 1] = [b"replay"];
+
+    let (status, written, reads, _) = outcome(alloc, &words, HEADERS, &[1, 2], &[])?;
+    assert_eq!(rt; status, Status::Read);
+    assert_eq!(rt; written.as_slice(), b"error 5 read\n".as_slice());
+    assert_eq!(rt; reads, 1);
+
+    let (status, written, _, writes) = outcome(alloc, &words, HEADERS, &[], &[1, 2])?;
+    assert_eq!(rt; status, Status::Write);
+    assert_eq!(rt; written.as_slice(), b"".as_slice());
+    assert_eq!(rt; writes, 1);
+
+    let (status, written, _, _) = outcome(alloc, &words, HEADERS, &[], &[])?;
+    assert_eq!(rt; status, Status::Done);
+    assert_eq!(rt; written.as_slice(), SUMMARY);
+
+    let mut text = HEADERS.to_vec(alloc)?;
+    text.extend_from_slice(b"start a:1#1\ntock a:1#1\n")?;
+    let (status, written, _, _) = outcome(alloc, &words, &text, &[], &[])?;
+    assert_eq!(rt; status, Status::Schedule);
+    assert_eq!(rt;
+        written.as_slice(),
+        b"1 start a:1#1\nerror 4 S1 line 11\n".as_slice()
+    );
+    Ok(())
+}
