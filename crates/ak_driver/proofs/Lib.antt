@@ -1,4 +1,5 @@
 pub mod GossipLemmas
+pub mod HistoryLemmas
 pub mod InputLemmas
 pub mod NodeLemmas
 pub mod StatusLemmas

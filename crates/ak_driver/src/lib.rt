@@ -4,6 +4,7 @@
 pub mod gossip;
 pub mod history;
 mod input;
+mod laws;
 pub mod member;
 pub mod node;
 mod replay;
@@ -19,6 +20,7 @@ ghost use Rattle.ak_driver.specs.StatusWords.{AsksReplay, ReplayCause, Written, 
 use ak_address::Text;
 pub use ak_outside::Status;
 use ak_outside::{Sink, Source};
+pub use laws::versions_show_a_fold;
 pub use replay::run_replay;
 use replay::written;
 use std::alloc::Global;
