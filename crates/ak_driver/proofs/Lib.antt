@@ -1,3 +1,4 @@
+pub mod FoldLemmas
 pub mod GossipLemmas
 pub mod HistoryLemmas
 pub mod InputLemmas
