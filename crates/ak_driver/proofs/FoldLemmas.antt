@@ -39,13 +39,13 @@ use Rattle.ak_driver.proofs.WorldLemmas.{sent-append, recorded-append}
 use Rattle.ak_driver.proofs.HistoryLemmas.{view-merged, view-later, view-front, view-update, view-counts, bounded-front, bounded-update, entries-author, entries-others, entries-more}
 
 -- ---- what a message carries
-abbrev CarriesFold : List Entry → Message → Type 0
+abbrev pub CarriesFold : List Entry → Message → Type 0
 CarriesFold history message.Join = Unit {0}
 CarriesFold history (message.Welcome g) = IsFold history g
 CarriesFold history (message.Gossip g) = IsFold history g
 
 pub record Packets (history : List Entry) (packets : List Envelope) : Type 0 where
-  at : (place : ℕ) (e : Envelope) → slice_get packets place ≡ Some e → CarriesFold history e.message
+  pub at : (place : ℕ) (e : Envelope) → slice_get packets place ≡ Some e → CarriesFold history e.message
 
 pub no_packets : (history : List Entry) → Packets history []
 no_packets history = record { at = λ place e is. absurd (cc) }
@@ -57,7 +57,7 @@ one_packet history e fold = record { at = each }
     each zero x is = subst (λ (y : Envelope). CarriesFold history y.message) (same_Some e x is) fold
     each (suc place) x is = absurd (cc)
 
-more_packets : (history : List Entry) (a b : List Envelope) → Packets history a → Packets history b → Packets history (a ++ b)
+pub more_packets : (history : List Entry) (a b : List Envelope) → Packets history a → Packets history b → Packets history (a ++ b)
 more_packets history [] b p q = q
 more_packets history (e ∷ a) b p q = record { at = first_or (p.at 0) (more_packets history a b (record { at = λ i. p.at (suc i) }) q) }
   where
@@ -67,21 +67,21 @@ more_packets history (e ∷ a) b p q = record { at = first_or (p.at 0) (more_pac
 
 -- ---- one step of a node
 -- a node counts each of its own updates, and what it knows is the fold
-record Knows (history : List Entry) (me : Process) (g : GossipState) : Type 0 where
-  own : count g.version me ≡ entries_of me history
-  fold : IsFold history g
+pub record Knows (history : List Entry) (me : Process) (g : GossipState) : Type 0 where
+  pub own : count g.version me ≡ entries_of me history
+  pub fold : IsFold history g
 
 -- The history after what a node did is numbered, has new entries of this node alone, and what was a fold is one still.
 -- What the node knows then, and what it sends, are folds of it.
-record Good (history : List Entry) (me : Process) (o : Outcome) : Type 0 where
-  later : List Entry
-  made : recorded me o.1 history ≡ later
-  numbered : IsNumbered later
-  same_me : o.0.me ≡ me
-  knows : Knows later me o.0.gossip
-  others : (u : Process) → u ≢ me → entries_of u later ≡ entries_of u history
-  kept : (g : GossipState) → IsFold history g → IsFold later g
-  packets : Packets later (sent o.1)
+pub record Good (history : List Entry) (me : Process) (o : Outcome) : Type 0 where
+  pub later : List Entry
+  pub made : recorded me o.1 history ≡ later
+  pub numbered : IsNumbered later
+  pub same_me : o.0.me ≡ me
+  pub knows : Knows later me o.0.gossip
+  pub others : (u : Process) → u ≢ me → entries_of u later ≡ entries_of u history
+  pub kept : (g : GossipState) → IsFold history g → IsFold later g
+  pub packets : Packets later (sent o.1)
 
 either : {history : List Entry} {me : Process} (b : Bool) {o p : Outcome} → Good history me o → Good history me p → Good history me (if b then o else p)
 either true x y = x
@@ -161,7 +161,7 @@ and_sends_good history me what to o carries good = record {
   packets =
       subst (Packets good.later) (sym (sent-append o.1 (to_process o.0 to (what o.0.gossip) ∷ [])))
       (more_packets good.later (sent o.1) _ good.packets
-        (one_packet good.later (record { from = o.0.me; to = to.address; uid = to.uid; message = what o.0.gossip }) (carries good.later o.0.gossip good.knows.fold)));
+      (one_packet good.later (record { from = o.0.me; to = to.address; uid = to.uid; message = what o.0.gossip }) (carries good.later o.0.gossip good.knows.fold)));
 }
 
 module _ (history : List Entry) (is_numbered : IsNumbered history) where
@@ -236,9 +236,9 @@ module _ (history : List Entry) (is_numbered : IsNumbered history) where
   on_gossip_good from incoming n k fold =
       either (has incoming.members n.me)
       (by_tests_good history is_numbered from n incoming
-        (nat_lt (count n.gossip.version n.me) (count incoming.version n.me)) (nat_lt most_uniques (how_many (union n.gossip.members incoming.members)))
-        (count n.gossip.version n.me) (count incoming.version n.me) (min (how_many (union n.gossip.members incoming.members)) (2 ^ 32 - 1))
-        (noted n.me (taken (relation n.gossip.version incoming.version) n.gossip incoming)) k (noted_is history n.me n.gossip incoming k fold))
+      (nat_lt (count n.gossip.version n.me) (count incoming.version n.me)) (nat_lt most_uniques (how_many (union n.gossip.members incoming.members)))
+      (count n.gossip.version n.me) (count incoming.version n.me) (min (how_many (union n.gossip.members incoming.members)) (2 ^ 32 - 1))
+      (noted n.me (taken (relation n.gossip.version incoming.version) n.gossip incoming)) k (noted_is history n.me n.gossip incoming k fold))
       (nothing_good history is_numbered n k)
 
   on_message_good : (from : Process) (m : Message) (n : State) → Knows history n.me n.gossip → CarriesFold history m → Good history n.me (on_message from m n)
@@ -247,7 +247,7 @@ module _ (history : List Entry) (is_numbered : IsNumbered history) where
   on_message_good from (message.Gossip g) n k fold = on_gossip_good from g n k fold
 
   -- a packet brings the fold
-  abbrev BringsFold : NodeEvent → Type 0
+  abbrev pub BringsFold : NodeEvent → Type 0
   BringsFold event.Found = Unit {0}
   BringsFold (event.Join target) = Unit {0}
   BringsFold (event.Packet e) = CarriesFold history e.message
@@ -271,7 +271,7 @@ closed_good history me true o good = record {
 }
 closed_good history me false o good = good
 
-step_good : (history : List Entry) (is_numbered : IsNumbered history) (e : NodeEvent) (n : State) → BringsFold history is_numbered e → Knows history n.me n.gossip → Good history n.me (step e n)
+pub step_good : (history : List Entry) (is_numbered : IsNumbered history) (e : NodeEvent) (n : State) → BringsFold history is_numbered e → Knows history n.me n.gossip → Good history n.me (step e n)
 step_good history is_numbered e n brings k =
     let o : Outcome = rule e (record n { steps = n.steps + 1 }) in
     closed_good history n.me (is_other n.gossip.version o.0.gossip.version) o (rule_good history is_numbered e (record n { steps = n.steps + 1 }) brings k)

@@ -1,4 +1,5 @@
 pub mod FoldLemmas
+pub mod FoldRuns
 pub mod GossipLemmas
 pub mod HistoryLemmas
 pub mod InputLemmas

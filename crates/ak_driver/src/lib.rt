@@ -20,7 +20,9 @@ ghost use Rattle.ak_driver.specs.StatusWords.{AsksReplay, ReplayCause, Written, 
 use ak_address::Text;
 pub use ak_outside::Status;
 use ak_outside::{Sink, Source};
-pub use laws::versions_show_a_fold;
+pub use laws::{
+    equal_versions_have_equal_members, versions_show_a_fold, what_is_known_is_the_fold,
+};
 pub use replay::run_replay;
 use replay::written;
 use std::alloc::Global;

@@ -1,7 +1,6 @@
 use Rattle.std.proofs.Common.{◌+◌, ap}
 use Rattle.ak_clock.specs.Version.{count}
 use Rattle.ak_driver.proofs.HistoryLemmas.{view-merged, view-front, view-update}
-use Rattle.ak_driver.proofs.FoldLemmas.{no_packets}
 use Rattle.ak_driver.proofs.laws.versions_show_a_fold.Goals as goal
 
 pub returns : goal.returns
