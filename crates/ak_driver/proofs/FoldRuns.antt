@@ -282,6 +282,9 @@ known_fold w s g (inr there) = carried_fold w.history g there.1.message (s.carri
 pub run_folds : (setup : Setup) (events : List Event) (g : GossipState) → IsIn g (run setup events) → IsFold (run setup events).history g
 run_folds setup events g is_in = known_fold (run setup events) (run_sound setup events) g is_in
 
+pub folds-of_run : (setup : Setup) (events : List Event) (w : WorldState) → w ≡ run setup events → (g : GossipState) → IsIn g w → IsFold w.history g
+folds-of_run setup events w is_run g is_in = subst (λ (v : WorldState). IsIn g v → IsFold v.history g) (sym is_run) (run_folds setup events g) is_in
+
 -- ---- two worlds of one run
 run-append : (setup : Setup) (w : WorldState) (first more : List Event) → run_from setup w (first ++ more) ≡ run_from setup (run_from setup w first) more
 run-append setup w [] more = refl
