@@ -1,18 +1,10 @@
 -- Each step of a node keeps what it knows the fold of the history, and so does each event of a world.
-use Rattle.std.proofs.Common.{◌≡◌, ◌≢◌, ℕ, zero, suc, ◌+◌, ◌-◌, ◌^◌, ◌<◌, ◌≤◌, min, max, leb, ltb, nat_lt, nat_le, ◌==◌, Bool, true, false, not, ◌||◌, ◌&&◌, if◌then◌else◌, ◌⊎◌, inl, inr, List, [], ◌∷◌, ◌++◌, length, slice_get, slice_set, Option, Some, None, is_some, Result, Ok, Err, refl, sym, ap, ◌∙◌, subst, arith, true≢false}
-use Rattle.std.proofs.lemmas.Bool.{leb-true, leb-false, lt-leb}
+use Rattle.std.proofs.Common.{◌≡◌, ◌≢◌, ℕ, zero, suc, ◌+◌, ◌-◌, ◌^◌, ◌≤◌, min, nat_lt, nat_le, Bool, true, false, not, if◌then◌else◌, List, [], ◌∷◌, ◌++◌, slice_get, Some, Ok, Err, refl, sym, ap, ◌∙◌, subst, arith}
 use Rattle.std.proofs.lemmas.Option.{same_Some}
-use Rattle.std.specs.List.{list_any}
-use Rattle.std.specs.Ordering.{is_eq}
-use Rattle.std.specs.FinMap as map
-use Rattle.ak_address.specs.Unique.{Endpoint, Process, address_cmp, unique_cmp}
-use Rattle.ak_address.specs.Uniques.{UniqueSet, has, union, how_many, with_one, no_one}
-use Rattle.ak_address.proofs.TableLaws.{key_itself}
-use Rattle.ak_clock.specs.Version.{Counts, count, Covers, covers, relation, relation_by, merged, bumped}
-use Rattle.ak_clock.proofs.VersionLaws.{count-empty, count-merged, count-bumped_author, covers_from_test}
-use Rattle.ak_schedule.specs.Settings.{Setup}
-use Rattle.ak_schedule.specs.declared.event.Event.{Event}
-use Rattle.ak_schedule.specs.declared.event.Event.TheVariants.{Start, Found, Join, Tick, Deliver, Leave, Down, Offer, Stop}
+use Rattle.ak_address.specs.Unique.{Endpoint, Process}
+use Rattle.ak_address.specs.Uniques.{UniqueSet, has, union, how_many, with_one}
+use Rattle.ak_clock.specs.Version.{count, covers, relation, relation_by}
+use Rattle.ak_clock.proofs.VersionLaws.{count-merged, count-bumped_author, covers_from_test}
 use Rattle.ak_driver.specs.declared.history.Entry.{Entry}
 use Rattle.ak_driver.specs.declared.member.Effect.{Effect}
 use Rattle.ak_driver.specs.declared.member.Effect.TheVariants.{Joined}
@@ -20,23 +12,19 @@ use Rattle.ak_driver.specs.declared.wire.Envelope.{Envelope}
 use Rattle.ak_driver.specs.declared.wire.Message.{Message}
 use Rattle.ak_driver.specs.declared.wire.Message.TheVariants as message
 use Rattle.ak_driver.specs.declared.gossip.Received.{Received}
-use Rattle.ak_driver.specs.declared.gossip.GossipFault.{GossipFault}
 use Rattle.ak_driver.specs.declared.gossip.GossipFault.TheVariants as fault
 use Rattle.ak_driver.specs.declared.node.State.{State}
 use Rattle.ak_driver.specs.declared.node.NodeEvent.{NodeEvent}
 use Rattle.ak_driver.specs.declared.node.NodeEvent.TheVariants as event
 use Rattle.ak_driver.specs.declared.node.Action.{Action}
 use Rattle.ak_driver.specs.declared.node.Action.TheVariants as action
-use Rattle.ak_driver.specs.declared.world.Refused.{Refused}
-use Rattle.ak_driver.specs.declared.world.Refused.TheVariants as refusal
-use Rattle.ak_driver.specs.History.{entries_of, IsNumbered, is_covered, after_effects, view}
-use Rattle.ak_driver.specs.Gossip.{GossipState, nothing_known, seen_by, updated, same, both, taken, noted, most_uniques, receive}
-use Rattle.ak_driver.specs.Node.{Outcome, started, nothing, refused, update, and_sends, to_process, to_address, is_member, is_listed, is_taken, most_at_join, on_join, found, join, is_answered, on_received, on_gossip, on_message, is_for, rule, is_other, closed, step}
-use Rattle.ak_driver.specs.World.{WorldState, Done, empty_world, sent, recorded, stepped, gives, acts, arrives, delivers, starts, numbered, packet_at, is_process, is_used, node_of, receiver_of, most_starts, happens, after, run_from, run}
-use Rattle.ak_driver.specs.Fold.{IsBounded, IsFold, Carries, IsIn}
-use Rattle.ak_driver.proofs.NodeLemmas.{any_here}
+use Rattle.ak_driver.specs.History.{entries_of, IsNumbered, after_effects, view}
+use Rattle.ak_driver.specs.Gossip.{GossipState, seen_by, same, both, taken, noted, most_uniques}
+use Rattle.ak_driver.specs.Node.{Outcome, nothing, refused, update, and_sends, to_process, is_member, is_listed, is_taken, most_at_join, on_join, found, join, is_answered, on_received, on_gossip, on_message, is_for, rule, is_other, step}
+use Rattle.ak_driver.specs.World.{sent, recorded}
+use Rattle.ak_driver.specs.Fold.{IsFold}
 use Rattle.ak_driver.proofs.WorldLemmas.{sent-append, recorded-append}
-use Rattle.ak_driver.proofs.HistoryLemmas.{view-merged, view-later, view-front, view-update, view-counts, bounded-front, bounded-update, entries-author, entries-others, entries-more}
+use Rattle.ak_driver.proofs.HistoryLemmas.{view-merged, view-later, view-update, bounded-front, bounded-update, entries-author, entries-others}
 
 -- ---- what a message carries
 abbrev pub CarriesFold : List Entry → Message → Type 0

@@ -1,14 +1,14 @@
 -- Each event of a world keeps what is known in it the fold of its history, and a history only grows.
-use Rattle.std.proofs.Common.{◌≡◌, ◌≢◌, ℕ, zero, suc, ◌+◌, ◌-◌, ◌<◌, ◌≤◌, leb, ◌==◌, Bool, true, false, not, if◌then◌else◌, ◌⊎◌, inl, inr, List, [], ◌∷◌, ◌++◌, length, slice_get, slice_set, Option, Some, None, Result, Ok, Err, refl, sym, ap, ◌∙◌, subst, arith, true≢false, append_assoc}
+use Rattle.std.proofs.Common.{◌≡◌, ◌≢◌, ℕ, zero, suc, ◌+◌, ◌-◌, leb, ◌==◌, Bool, true, false, not, if◌then◌else◌, ◌⊎◌, inl, inr, List, [], ◌∷◌, ◌++◌, length, slice_get, slice_set, Option, Some, None, Result, Ok, Err, refl, sym, ap, ◌∙◌, subst, arith, true≢false, append_assoc}
 use Rattle.std.proofs.lemmas.Bool.{lt-leb}
 use Rattle.std.proofs.lemmas.Option.{same_Some}
 use Rattle.std.specs.List.{list_any}
 use Rattle.std.specs.Ordering.{is_eq}
 use Rattle.std.specs.FinMap as map
-use Rattle.ak_address.specs.Unique.{Endpoint, Process, address_cmp, unique_cmp}
+use Rattle.ak_address.specs.Unique.{Process, unique_cmp}
 use Rattle.ak_address.specs.Uniques.{no_one}
 use Rattle.ak_address.proofs.TableLaws.{key_itself}
-use Rattle.ak_clock.specs.Version.{Counts, count}
+use Rattle.ak_clock.specs.Version.{count}
 use Rattle.ak_clock.proofs.VersionLaws.{count-empty}
 use Rattle.ak_schedule.specs.Settings.{Setup}
 use Rattle.ak_schedule.specs.declared.event.Event.{Event}
@@ -25,10 +25,10 @@ use Rattle.ak_driver.specs.declared.node.Action.TheVariants.{Send, Update, View,
 use Rattle.ak_driver.specs.declared.world.Refused.{Refused}
 use Rattle.ak_driver.specs.declared.world.Refused.TheVariants as refusal
 use Rattle.ak_driver.specs.History.{entries_of, IsNumbered, after_effects, view}
-use Rattle.ak_driver.specs.Gossip.{GossipState, nothing_known}
+use Rattle.ak_driver.specs.Gossip.{GossipState}
 use Rattle.ak_driver.specs.Node.{Outcome, started, is_listed, step}
-use Rattle.ak_driver.specs.World.{WorldState, Done, empty_world, sent, recorded, stepped, gives, acts, arrives, delivers, starts, numbered, packet_at, is_process, is_used, node_of, receiver_of, most_starts, happens, after, run_from, run}
-use Rattle.ak_driver.specs.Fold.{IsBounded, IsFold, Carries, IsIn}
+use Rattle.ak_driver.specs.World.{WorldState, Done, empty_world, sent, recorded, stepped, gives, acts, arrives, delivers, starts, packet_at, is_process, is_used, node_of, receiver_of, most_starts, happens, after, run_from, run}
+use Rattle.ak_driver.specs.Fold.{IsFold, Carries, IsIn}
 use Rattle.ak_driver.proofs.NodeLemmas.{any_here}
 use Rattle.ak_driver.proofs.HistoryLemmas.{view-front}
 use Rattle.ak_driver.proofs.FoldLemmas.{CarriesFold, Packets, no_packets, more_packets, Knows, Good, BringsFold, step_good}
@@ -74,26 +74,26 @@ view-nothing (e ∷ history) is_numbered =
 
 -- ---- what is true of each world of a run
 -- no node is this process
-abbrev IsNew : Process → List State → Type 0
+abbrev pub IsNew : Process → List State → Type 0
 IsNew u nodes = (place : ℕ) (n : State) → slice_get nodes place ≡ Some n → n.me ≢ u
 
 -- The history is numbered, each node counts all of its own updates, what nodes know and packets carry is the fold, the
 -- processes of different nodes differ, and a process that never started made no update.
-record Sound (nodes : List State) (packets : List Envelope) (history : List Entry) : Type 0 where
-  is_numbered : IsNumbered history
-  each : (place : ℕ) (n : State) → slice_get nodes place ≡ Some n → Knows history n.me n.gossip
-  apart : (i j : ℕ) (n m : State) → slice_get nodes i ≡ Some n → slice_get nodes j ≡ Some m → n.me ≡ m.me → i ≡ j
-  fresh : (u : Process) → IsNew u nodes → entries_of u history ≡ 0
-  carried : Packets history packets
+pub record Sound (nodes : List State) (packets : List Envelope) (history : List Entry) : Type 0 where
+  pub is_numbered : IsNumbered history
+  pub each : (place : ℕ) (n : State) → slice_get nodes place ≡ Some n → Knows history n.me n.gossip
+  pub apart : (i j : ℕ) (n m : State) → slice_get nodes i ≡ Some n → slice_get nodes j ≡ Some m → n.me ≡ m.me → i ≡ j
+  pub fresh : (u : Process) → IsNew u nodes → entries_of u history ≡ 0
+  pub carried : Packets history packets
 
-abbrev IsSound : WorldState → Type 0
+abbrev pub IsSound : WorldState → Type 0
 IsSound w = Sound w.nodes w.packets w.history
 
 -- a world after this history
-record Next (history : List Entry) (w : WorldState) : Type 0 where
-  sound : IsSound w
-  added : List Entry
-  grown : w.history ≡ added ++ history
+pub record Next (history : List Entry) (w : WorldState) : Type 0 where
+  pub sound : IsSound w
+  pub added : List Entry
+  pub grown : w.history ≡ added ++ history
 
 stays : (w : WorldState) → IsSound w → Next w.history w
 stays w s = record { sound = s; added = []; grown = refl }
@@ -231,7 +231,7 @@ starts_next w s setup u false false false false is = record {
   grown = refl;
 }
 
-happens_next : (setup : Setup) (e : Event) (w : WorldState) (s : IsSound w) → Next w.history (after w (happens setup e w))
+pub happens_next : (setup : Setup) (e : Event) (w : WorldState) (s : IsSound w) → Next w.history (after w (happens setup e w))
 happens_next setup (Start u) w s = starts_next w s setup u (not (is_listed setup.listed u.address)) (list_any (is_process u) w.nodes) (is_used u.address w) (leb most_starts (length w.nodes)) refl
 happens_next setup (Found u) w s =
     next_if w.history w w.founded refusal.SecondFound (acts event.Found (node_of u w) (record w { founded = true })) (stays w s)
@@ -246,7 +246,7 @@ happens_next setup (Down u who) w s = stays w s
 happens_next setup (Offer u entity payload) w s = stays w s
 happens_next setup (Stop u) w s = stays w s
 
-run_next : (setup : Setup) (w : WorldState) (events : List Event) → IsSound w → Next w.history (run_from setup w events)
+pub run_next : (setup : Setup) (w : WorldState) (events : List Event) → IsSound w → Next w.history (run_from setup w events)
 run_next setup w [] s = stays w s
 run_next setup w (e ∷ events) s =
     let one = happens_next setup e w s in
@@ -266,7 +266,7 @@ empty_sound = record {
   carried = no_packets [];
 }
 
-run_sound : (setup : Setup) (events : List Event) → IsSound (run setup events)
+pub run_sound : (setup : Setup) (events : List Event) → IsSound (run setup events)
 run_sound setup events = (run_next setup empty_world events empty_sound).sound
 
 -- ---- what is in a world

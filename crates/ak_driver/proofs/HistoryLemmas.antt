@@ -1,6 +1,6 @@
 -- What a version shows of a history: of a merge, the members of both; of a longer history, the same; and of an update,
 -- what its entry did.
-use Rattle.std.proofs.Common.{◌≡◌, ◌≢◌, ℕ, ◌+◌, ◌≤◌, max, leb, Bool, true, false, ◌||◌, ◌&&◌, if◌then◌else◌, ◌⊎◌, inl, inr, List, [], ◌∷◌, ◌++◌, refl, sym, ap, ◌∙◌, subst, arith, true≢false, le-leb}
+use Rattle.std.proofs.Common.{◌≡◌, ◌≢◌, ℕ, ◌+◌, ◌≤◌, max, leb, Bool, true, false, ◌||◌, ◌&&◌, if◌then◌else◌, inl, inr, List, [], ◌∷◌, ◌++◌, refl, sym, ap, ◌∙◌, subst, arith, le-leb}
 use Rattle.std.proofs.lemmas.Bool.{leb-true, leb-false, lt-leb}
 use Rattle.std.specs.Ordering.{is_eq, eq_by_cmp}
 use Rattle.ak_address.specs.Unique.{Process, unique_cmp}
@@ -12,7 +12,7 @@ use Rattle.ak_clock.proofs.VersionLaws.{count-merged, count-bumped_author, count
 use Rattle.ak_driver.specs.declared.member.Effect.{Effect}
 use Rattle.ak_driver.specs.declared.member.Effect.TheVariants.{Joined}
 use Rattle.ak_driver.specs.declared.history.Entry.{Entry}
-use Rattle.ak_driver.specs.History.{entries_of, IsNumbered, is_covered, after_effect, after_effects, view}
+use Rattle.ak_driver.specs.History.{entries_of, IsNumbered, is_covered, after_effects, view}
 use Rattle.ak_driver.specs.Fold.{IsBounded}
 
 -- ---- what effects add

@@ -1,7 +1,7 @@
 -- What a version shows is what its entries did (Akka's Cluster Specification, "Gossip": the state of a cluster converges
 -- as updates are gossiped, and a vector clock says which of them a view has seen).
 use Rattle.std.specs.Prelude.{◌≡◌, ℕ, ◌≤◌, ◌⊎◌, slice_get, Some, List}
-use Rattle.ak_address.specs.Unique.{Process, unique_cmp}
+use Rattle.ak_address.specs.Unique.{Process}
 use Rattle.ak_clock.specs.Version.{Counts, count}
 use Rattle.ak_driver.specs.declared.history.Entry.{Entry}
 use Rattle.ak_driver.specs.declared.node.State.{State}

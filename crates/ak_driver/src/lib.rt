@@ -21,7 +21,8 @@ use ak_address::Text;
 pub use ak_outside::Status;
 use ak_outside::{Sink, Source};
 pub use laws::{
-    equal_versions_have_equal_members, versions_show_a_fold, what_is_known_is_the_fold,
+    equal_versions_have_equal_members, nodes_count_their_own_updates, versions_show_a_fold,
+    what_is_known_is_the_fold,
 };
 pub use replay::run_replay;
 use replay::written;
