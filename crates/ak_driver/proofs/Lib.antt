@@ -1,4 +1,7 @@
+pub mod FoldLemmas
+pub mod FoldRuns
 pub mod GossipLemmas
+pub mod HistoryLemmas
 pub mod InputLemmas
 pub mod NodeLemmas
 pub mod StatusLemmas

@@ -1,3 +1,4 @@
+pub mod Fold
 pub mod Gossip
 pub mod GossipWords
 pub mod History

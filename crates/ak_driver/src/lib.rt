@@ -4,6 +4,7 @@
 pub mod gossip;
 pub mod history;
 mod input;
+mod laws;
 pub mod member;
 pub mod node;
 mod replay;
@@ -19,6 +20,10 @@ ghost use Rattle.ak_driver.specs.StatusWords.{AsksReplay, ReplayCause, Written, 
 use ak_address::Text;
 pub use ak_outside::Status;
 use ak_outside::{Sink, Source};
+pub use laws::{
+    equal_versions_have_equal_members, nodes_count_their_own_updates, versions_show_a_fold,
+    what_is_known_is_the_fold,
+};
 pub use replay::run_replay;
 use replay::written;
 use std::alloc::Global;

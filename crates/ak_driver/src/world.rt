@@ -8,6 +8,8 @@ ghost use Rattle.ak_driver.specs.World as rules;
 ghost use Rattle.std.specs.List.{list_any, position};
 ghost use Rattle.std.specs.Ordering.{is_eq};
 ghost use Rattle.ak_address.specs.Unique.{address_cmp};
+ghost use Rattle.ak_driver.specs.Fold.{IsFold, IsIn};
+ghost use Rattle.ak_driver.specs.Gossip.{GossipState};
 ghost use Rattle.ak_driver.specs.Node.{is_for};
 ghost use Rattle.ak_driver.specs.WorldWords.{Applies, Scenes, IsReady, state_of};
 ghost use Rattle.ak_driver.specs.NodeWords.{Machine};
@@ -366,6 +368,7 @@ impl World {
         ensures applied { Applies event.now self.old result self.new }
         ensures numbered { IfOk result (λ step. step.first_packet + length (rules.sent step.actions) < 2 ^ 64) }
         ensures run { self.new.spent ≡ false → self.new.state ≡ rules.run self.new.setup self.new.events }
+        ensures folded { self.new.spent ≡ false → (g : GossipState) → IsIn g self.new.state → IsFold self.new.state.history g }
     {
         if self.is_spent {
             return Err(Refused::NoMemory);

@@ -1,6 +1,9 @@
-use Rattle.std.proofs.Common.{◌≡◌, ◌<◌, ◌^◌, ◌++◌, ◌∷◌, [], List, length, sym, subst, ap, ◌∙◌}
+use Rattle.std.proofs.Common.{◌≡◌, false, ◌<◌, ◌^◌, ◌++◌, ◌∷◌, [], List, length, sym, subst, ap, ◌∙◌, rules, arith}
+use Rattle.std.proofs.lemmas.Grind.{common_steps}
 use Rattle.ak_schedule.specs.declared.event.Event.{Event}
+use Rattle.ak_driver.specs.World.{run}
 use Rattle.ak_driver.specs.WorldWords.{Chronicle, IsReady, state_of}
+use Rattle.ak_driver.proofs.FoldRuns.{folds-of_run}
 use Rattle.ak_driver.proofs.WorldLemmas.{ready_run, run-went, at-ok}
 use Rattle.ak_driver.proofs.world.World.apply.Goals as goal
 
@@ -25,3 +28,12 @@ returns-then-is_ok-clause-run c =
     at-ok c.keep_event.result _ (sym c.is_ok.ensures.value ∙ c.if-is_ok.true) c.keep_event.ensures in
     λ alive.
     run-went c.self.inside.scene.settings _ _ _ c.self.inside.accepted.items _ c.args.event.now _ (c.self.invariant.is_run c.if-self.false) c.happens.ensures.settings kept c.in-Ok.ensures.scenes
+
+pub returns-then-is_ok-clause-folded : goal.returns-then-is_ok-clause-folded
+returns-then-is_ok-clause-folded c =
+    λ alive g is_in. folds-of_run c.happens.new.self.settings c.keep_event.new.accepted.items (state_of c.happens.new.self) (returns-then-is_ok-clause-run c alive) g is_in
+
+pub returns-in-Err-clause-folded : goal.returns-in-Err-clause-folded
+returns-in-Err-clause-folded c =
+    let is_run : c.self.inside.is_spent ≡ false → state_of c.happens.new.self ≡ run c.happens.new.self.settings c.self.inside.accepted.items = grind (arith, common_steps) in
+    λ alive g is_in. folds-of_run c.happens.new.self.settings c.self.inside.accepted.items (state_of c.happens.new.self) (is_run alive) g is_in
