@@ -1,4 +1,5 @@
 pub mod GossipLemmas
+pub mod CutLemmas
 pub mod InputLemmas
 pub mod NodeLemmas
 pub mod StatusLemmas

@@ -1,0 +1,163 @@
+-- A schedule that passes a limit is refused at the same line with the same text, whatever more it has.
+use Rattle.std.proofs.Common.{◌≡◌, ◌≢◌, ◌⊎◌, inl, inr, ℕ, zero, suc, ◌+◌, ◌<◌, ◌≤◌, ◌==◌, Bool, true, false, List, [], ◌∷◌, ◌++◌, length, get_or, Option, None, Some, arith, refl, sym, ap, ◌∙◌, subst, append-nil, length-append}
+use Rattle.std.specs.Prelude.{map, slice_get, IfSome}
+use Rattle.std.specs.List.{slice_split, onto_first, Contains}
+use Rattle.std.proofs.lemmas.List.{length-map}
+use Rattle.std.proofs.lemmas.List.Splits.{length-slice_split, slice_split-cons_yes, slice_split-cons_no}
+use Rattle.ak_schedule.specs.Line.{lines, begun, without_cr, most_bytes, IsPassedOver}
+use Rattle.ak_schedule.specs.Settings.{Setup}
+use Rattle.ak_schedule.specs.Schedule.{headers, SetsHeader, SpellsEvent}
+use Rattle.ak_schedule.specs.declared.settings.Header as header
+use Rattle.ak_schedule.proofs.Cutting.{begun_more}
+use Rattle.ak_driver.specs.InputWords.{IsPast}
+use Rattle.ak_driver.specs.ReplayText.{Progress, Judgement, Judged, Code, GoesOn, Replays, GoesOnPrinting, FirstSteps, IsReplay, IsFirstSteps, WantsHeader, WantsEvent, SetsNext, most_lines, header_count, at_start}
+use Rattle.ak_driver.specs.ReplayText.Judgement.{Passes, Sets, Steps, Refuses}
+use Rattle.ak_driver.specs.ReplayText.Code.{S1, S12, S13}
+use Rattle.ak_driver.proofs.NodeLemmas.{not_none}
+
+-- ---- the parts of two texts, one behind the other
+abbrev pub parts_of : List ℕ → List (List ℕ)
+parts_of bytes = slice_split (λ b. b == 10) bytes
+
+-- the last part goes on in the first of the others
+abbrev pub joined : List ℕ → List (List ℕ) → List (List ℕ)
+joined last [] = last ∷ []
+joined last (part ∷ parts) = (last ++ part) ∷ parts
+
+abbrev pub meet : List (List ℕ) → List (List ℕ) → List (List ℕ)
+meet [] others = others
+meet (part ∷ []) others = joined part others
+meet (part ∷ next ∷ parts) others = part ∷ meet (next ∷ parts) others
+
+pub parts_some : (bytes : List ℕ) → 0 < length (parts_of bytes)
+parts_some bytes = omega (arith, length-slice_split (λ b. b == 10) bytes)
+
+joined_nil : (parts : List (List ℕ)) → 0 < length parts → joined [] parts ≡ parts
+joined_nil [] some = absurd (omega arith)
+joined_nil (part ∷ parts) some = refl
+
+meet_cons : (part : List ℕ) (parts others : List (List ℕ)) → 0 < length parts → meet (part ∷ parts) others ≡ part ∷ meet parts others
+meet_cons part [] others some = absurd (omega arith)
+meet_cons part (next ∷ parts) others some = refl
+
+onto_meet : (b : ℕ) (parts others : List (List ℕ)) → 0 < length parts → onto_first b (meet parts others) ≡ meet (onto_first b parts) others
+onto_meet b [] others some = absurd (omega arith)
+onto_meet b (part ∷ []) [] some = refl
+onto_meet b (part ∷ []) (other ∷ others) some = refl
+onto_meet b (part ∷ next ∷ parts) others some = refl
+
+pub parts_meet : (bytes more : List ℕ) → parts_of (bytes ++ more) ≡ meet (parts_of bytes) (parts_of more)
+parts_meet [] more = sym (joined_nil (parts_of more) (parts_some more))
+parts_meet (b ∷ bytes) more = by_first b bytes more (b == 10) refl (parts_meet bytes more)
+  where
+    by_first : (b : ℕ) (bytes more : List ℕ) (ends : Bool) → (b == 10) ≡ ends → parts_of (bytes ++ more) ≡ meet (parts_of bytes) (parts_of more)
+        → parts_of (b ∷ (bytes ++ more)) ≡ meet (parts_of (b ∷ bytes)) (parts_of more)
+    by_first b bytes more true e h =
+        slice_split-cons_yes (λ b. b == 10) b (bytes ++ more) e
+        ∙ ap (λ (ps : List (List ℕ)). [] ∷ ps) h
+        ∙ sym (meet_cons [] (parts_of bytes) (parts_of more) (parts_some bytes))
+        ∙ sym (ap (λ (ps : List (List ℕ)). meet ps (parts_of more)) (slice_split-cons_yes (λ b. b == 10) b bytes e))
+    by_first b bytes more false e h =
+        slice_split-cons_no (λ b. b == 10) b (bytes ++ more) e
+        ∙ ap (onto_first b) h
+        ∙ onto_meet b (parts_of bytes) (parts_of more) (parts_some bytes)
+        ∙ sym (ap (λ (ps : List (List ℕ)). meet ps (parts_of more)) (slice_split-cons_no (λ b. b == 10) b bytes e))
+
+pub meet_last : (before : List (List ℕ)) (last : List ℕ) (others : List (List ℕ)) → meet (before ++ last ∷ []) others ≡ before ++ joined last others
+meet_last [] last others = refl
+meet_last (part ∷ []) last others = refl
+meet_last (part ∷ next ∷ before) last others = ap (λ (ps : List (List ℕ)). part ∷ ps) (meet_last (next ∷ before) last others)
+
+-- ---- the lines of a text, and of a longer one
+-- the lines are the same, but the last may have grown, and others may follow
+abbrev pub Extends : List (List ℕ) → List (List ℕ) → Type 0
+Extends [] longer = Unit {0}
+Extends (line ∷ lines) [] = ⊥
+Extends (line ∷ []) (other ∷ longer) = length line ≤ length other
+Extends (line ∷ next ∷ lines) (other ∷ longer) = (line ≡ other) × Extends (next ∷ lines) longer
+
+extends_more : (line : List ℕ) (lines longer : List (List ℕ)) → Extends lines longer → Extends (line ∷ lines) (line ∷ longer)
+extends_more line [] longer h = omega arith
+extends_more line (next ∷ lines) longer h = (refl, h)
+
+by_cr : (b : ℕ) (cr : Bool) → (b == 13) ≡ cr → length (without_cr (b ∷ [])) ≤ 1
+by_cr b true e = rw e (omega arith)
+by_cr b false e = rw e (omega arith)
+
+without_cr_short : (line : List ℕ) → length (without_cr line) ≤ length line
+without_cr_short [] = omega arith
+without_cr_short (b ∷ []) = by_cr b (b == 13) refl
+without_cr_short (b ∷ c ∷ bs) = let h = without_cr_short (c ∷ bs) in omega arith
+
+pub without_cr_long : (line : List ℕ) → length line ≤ length (without_cr line) + 1
+without_cr_long [] = omega arith
+without_cr_long (b ∷ []) = omega arith
+without_cr_long (b ∷ c ∷ bs) = let h = without_cr_long (c ∷ bs) in omega arith
+
+grown : (line more : List ℕ) → length (without_cr line) ≤ length (without_cr (line ++ more))
+grown line [] = rw (append-nil line) (omega arith)
+grown line (b ∷ more) = omega (arith, without_cr_short line, without_cr_long (line ++ b ∷ more), length-append line (b ∷ more))
+
+last_extends : (last : List ℕ) (others : List (List ℕ)) → 0 < length others → Extends (map without_cr (begun (last ∷ []))) (map without_cr (begun (joined last others)))
+last_extends [] others some = tt
+last_extends (b ∷ bs) [] some = absurd (omega arith)
+last_extends (b ∷ bs) (other ∷ []) some = grown (b ∷ bs) other
+last_extends (b ∷ bs) (other ∷ next ∷ others) some = grown (b ∷ bs) other
+
+meet_some : (parts others : List (List ℕ)) → 0 < length parts → 0 < length (meet parts others)
+meet_some [] others some = absurd (omega arith)
+meet_some (part ∷ []) [] some = omega arith
+meet_some (part ∷ []) (other ∷ others) some = omega arith
+meet_some (part ∷ next ∷ parts) others some = omega arith
+
+parts_extend : (parts others : List (List ℕ)) → 0 < length parts → 0 < length others → Extends (map without_cr (begun parts)) (map without_cr (begun (meet parts others)))
+parts_extend [] others some more = absurd (omega arith)
+parts_extend (part ∷ []) others some more = last_extends part others more
+parts_extend (part ∷ next ∷ parts) others some more =
+    let here : 0 < length (next ∷ parts) = omega arith in
+    let there : 0 < length (meet (next ∷ parts) others) = meet_some (next ∷ parts) others here in
+    let ls = begun (next ∷ parts) in
+    let ms = begun (meet (next ∷ parts) others) in
+    subst (λ (ps : List (List ℕ)). Extends (map without_cr ps) (map without_cr (begun (part ∷ meet (next ∷ parts) others)))) (sym (begun_more part (next ∷ parts) here))
+    (subst (λ (ps : List (List ℕ)). Extends (map without_cr (part ∷ ls)) (map without_cr ps)) (sym (begun_more part (meet (next ∷ parts) others) there))
+    (extends_more (without_cr part) (map without_cr ls) (map without_cr ms) (parts_extend (next ∷ parts) others here more)))
+
+pub lines_extend : (bytes more : List ℕ) → Extends (lines bytes) (lines (bytes ++ more))
+lines_extend bytes more =
+    subst (λ (ps : List (List ℕ)). Extends (lines bytes) (map without_cr (begun ps))) (sym (parts_meet bytes more))
+    (parts_extend (parts_of bytes) (parts_of more) (parts_some bytes) (parts_some more))
+
+-- ---- a limit that is passed
+abbrev pub HasLong : List (List ℕ) → Type 0
+HasLong [] = ⊥
+HasLong (line ∷ lines) = (most_bytes < length line) ⊎ HasLong lines
+
+has_long : (lines : List (List ℕ)) (line : List ℕ) (k : ℕ) → k < length lines → get_or lines k line ≡ line → most_bytes < length line → HasLong lines
+has_long [] line k within is long = absurd (omega arith)
+has_long (first ∷ lines) line zero within is long = inl (omega (arith, ap length is))
+has_long (first ∷ lines) line (suc k) within is long = inr (has_long lines line k (omega arith) is long)
+
+long_in : (lines : List (List ℕ)) → HasLong lines → (line : List ℕ) × Contains lines line × (most_bytes < length line)
+long_in [] h = absurd h
+long_in (line ∷ lines) (inl long) = (line, (0, omega arith, refl), long)
+long_in (line ∷ lines) (inr h) = let r = long_in lines h in (r.0, (suc r.1.0, omega (arith, r.1.1), r.1.2), r.2)
+
+extends_long : (lines longer : List (List ℕ)) → Extends lines longer → HasLong lines → HasLong longer
+extends_long [] longer e h = absurd h
+extends_long (line ∷ lines) [] e h = absurd e
+extends_long (line ∷ []) (other ∷ longer) e (inl long) = inl (omega arith)
+extends_long (line ∷ []) (other ∷ longer) e (inr h) = absurd h
+extends_long (line ∷ next ∷ lines) (other ∷ longer) e (inl long) = inl (omega (arith, ap length e.0))
+extends_long (line ∷ next ∷ lines) (other ∷ longer) e (inr h) = inr (extends_long (next ∷ lines) longer e.1 h)
+
+extends_length : (lines longer : List (List ℕ)) → Extends lines longer → length lines ≤ length longer
+extends_length [] longer e = omega arith
+extends_length (line ∷ lines) [] e = absurd e
+extends_length (line ∷ []) (other ∷ longer) e = omega arith
+extends_length (line ∷ next ∷ lines) (other ∷ longer) e = let h = extends_length (next ∷ lines) longer e.1 in omega arith
+
+-- bytes that pass a limit pass it with more behind them
+pub past_more : (bytes more : List ℕ) → IsPast bytes → IsPast (bytes ++ more)
+past_more bytes more (inl long) =
+    inl (long_in (lines (bytes ++ more)) (extends_long (lines bytes) (lines (bytes ++ more)) (lines_extend bytes more) (has_long (lines bytes) long.0 long.1.0 long.1.1 long.1.2 long.2)))
+past_more bytes more (inr many) = inr (omega (arith, many, extends_length (lines bytes) (lines (bytes ++ more)) (lines_extend bytes more)))
