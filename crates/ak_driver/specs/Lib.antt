@@ -5,10 +5,11 @@ pub mod History
 pub mod InputWords
 pub mod Node
 pub mod NodeWords
+pub mod ReplayPromise
 pub mod ReplayText
 pub mod ReplayWords
 pub mod StatusWords
 pub mod StepText
-pub mod World
 pub mod Worked
+pub mod World
 pub mod WorldWords

@@ -119,3 +119,22 @@ at_start = record { line = 1; headers = 0; setup = unset; world = empty_world; s
 -- the bytes of a schedule have this replay text and status
 abbrev pub IsReplay : List ℕ → ℕ → List ℕ → Type 0
 IsReplay bytes status text = Replays at_start (lines bytes) status text
+
+-- some first steps are printed, whole, and no more
+abbrev pub GoesOnPrinting : Progress → Judgement → (Progress → List ℕ → Type 0) → List ℕ → Type 0
+GoesOnPrinting p Passes Rest text = Rest (record p { line = p.line + 1 }) text
+GoesOnPrinting p (Sets setup) Rest text = Rest (record p { line = p.line + 1; headers = p.headers + 1; setup = setup }) text
+GoesOnPrinting p (Steps event done) Rest text =
+    (rest : List ℕ)
+    × Rest (record p { line = p.line + 1; steps = p.steps + 1; world = done.world }) rest
+    × (text ≡ step_text (length p.world.packets + 1) (p.steps + 1) event done ++ rest)
+GoesOnPrinting p (Refuses code) Rest text = text ≡ []
+
+abbrev pub FirstSteps : Progress → List (List ℕ) → List ℕ → Type 0
+FirstSteps p [] text = text ≡ []
+FirstSteps p (line ∷ lines) text =
+    (text ≡ []) ⊎ ((judgement : Judgement) × Judged p line judgement × GoesOnPrinting p judgement (λ q. FirstSteps q lines) text)
+
+-- the texts of some first steps of a replay of these bytes
+abbrev pub IsFirstSteps : List ℕ → List ℕ → Type 0
+IsFirstSteps bytes text = FirstSteps at_start (lines bytes) text

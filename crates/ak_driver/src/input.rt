@@ -1,8 +1,8 @@
 //! The reading of a schedule, as far as its limits on lines let it go.
 
-ghost use Rattle.std.specs.Prelude.{◌≡◌, ℕ, ◌+◌, ◌≤◌, false, length, IfErr};
+ghost use Rattle.std.specs.Prelude.{◌≡◌, ℕ, ◌+◌, ◌≤◌, ◌++◌, ◌∷◌, List, [], false, length, IfErr, IfOk, IfSome};
 ghost use Rattle.std.specs.Bool.{OnFalse};
-ghost use Rattle.ak_driver.specs.InputWords.{reach, UnreadCause};
+ghost use Rattle.ak_driver.specs.InputWords.{reach, UnreadCause, IsExtent, Reads};
 
 use ak_outside::{Read, Source};
 use std::alloc::{AllocError, Global};
@@ -32,7 +32,7 @@ const MOST_BYTES: u32 = 4096;
 
 impl Extent {
     fn new() -> Extent
-        ensures { result.past ≡ false }
+        ensures come { IsExtent [] result.past result.lines result.bytes }
     {
         Extent {
             lines: 0,
@@ -45,6 +45,7 @@ impl Extent {
     fn take(&mut self, byte: u8)
         ensures grown { OnFalse self.new.past (reach self.old.lines self.old.bytes + 1 ≤ reach self.new.lines self.new.bytes) }
         ensures kept { OnFalse self.new.past (self.old.past ≡ false) }
+        ensures come { (seen : List ℕ) → IsExtent seen self.old.past self.old.lines self.old.bytes → IsExtent (seen ++ byte ∷ []) self.new.past self.new.lines self.new.bytes }
     {
         if self.past {
             return;
@@ -68,6 +69,7 @@ impl Extent {
     fn take_all(&mut self, bytes: &[u8])
         ensures grown { OnFalse self.new.past (reach self.old.lines self.old.bytes + length bytes.now ≤ reach self.new.lines self.new.bytes) }
         ensures kept { OnFalse self.new.past (self.old.past ≡ false) }
+        ensures come { (seen : List ℕ) → IsExtent seen self.old.past self.old.lines self.old.bytes → IsExtent (seen ++ bytes.now) self.new.past self.new.lines self.new.bytes }
     {
         'bytes: for byte in bytes {
             self.take(*byte);
@@ -80,6 +82,7 @@ impl Extent {
 pub fn read_all<S: Source>(alloc: Global, input: &mut S) -> Result<Vec<u8>, Unread>
     ensures count { S.faults input.old ≤ S.faults input.new }
     ensures cause { IfErr result (λ why. UnreadCause (S.faults input.old) (S.faults input.new) why) }
+    ensures reads { IfOk result (λ bytes. IfSome (S.remaining input.old) (λ all. Reads all bytes.items (S.remaining input.new))) }
 {
     let mut bytes = Vec::new(alloc);
     let mut buffer = vec![in alloc; 0; 65536]?;

@@ -1,5 +1,6 @@
 use Rattle.std.proofs.Common.{◌≡◌, ℕ, ◌+◌, ◌-◌, ◌*◌, ◌<◌, ◌≤◌, length, if◌then◌else◌, suc}
-use Rattle.ak_driver.specs.InputWords.{reach}
+use Rattle.std.specs.Io.KnownBytes.{Consumes}
+use Rattle.ak_driver.specs.InputWords.{reach, IsExtent}
 use Rattle.ak_driver.proofs.input.read_all.Given as goal
 
 abbrev pub invariant-reads : goal.invariant-reads
@@ -8,6 +9,8 @@ invariant-reads g l =
     × (l.extent.lines ≤ 200000)
     × (l.extent.bytes ≤ 4097)
     × (g.S.Source.faults l.initial.input ≤ g.S.Source.faults l.input)
+    × Consumes (g.S.Source.remaining l.initial.input) (g.S.Source.remaining l.input) l.bytes.items
+    × IsExtent l.bytes.items l.extent.past l.extent.lines l.extent.bytes
 
 -- what the input may still grow by
 abbrev pub decreases-reads : goal.decreases-reads

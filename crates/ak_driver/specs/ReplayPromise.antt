@@ -1,0 +1,48 @@
+-- What a replay promises of the bytes that it read and of those that its sink took, by the status that it answers.
+use Rattle.std.specs.Prelude.{◌≡◌, ◌⊎◌, ℕ, List, [], ◌∷◌, ◌++◌, Option, None, Some, codes, ⊤}
+use Rattle.std.specs.Io.KnownBytes.{Appends, IsAtEnd}
+use Rattle.ak_outside.specs.Outside.{AppendsFront}
+use Rattle.ak_outside.specs.declared.status.Status.{Status}
+use Rattle.ak_outside.specs.declared.status.Status.TheVariants.{Done, Double, Usage, Configuration, Schedule, Read, Write, Memory, Link, Turns}
+use Rattle.ak_driver.specs.ReplayText.{IsReplay, IsFirstSteps}
+use Rattle.ak_driver.specs.StatusWords.{memory_line}
+
+-- a text that a replay may print: the whole text, or whole steps and then the line on memory
+abbrev pub MayPrint : List ℕ → List ℕ → Type 0
+MayPrint bytes text =
+    ((status : ℕ) × IsReplay bytes status text)
+    ⊎ ((front : List ℕ) × IsFirstSteps bytes front × (text ≡ front ++ memory_line))
+
+abbrev pub read_line_text : List ℕ
+read_line_text = codes "error 5 read" ++ 10 ∷ []
+
+-- What was taken, from old to new, by a replay of these bytes that ended so.
+abbrev pub Prints : List ℕ → Status → Option (List ℕ) → Option (List ℕ) → Type 0
+Prints bytes Done old new = (text : List ℕ) × IsReplay bytes 0 text × Appends old new text
+Prints bytes Schedule old new = (text : List ℕ) × IsReplay bytes 4 text × Appends old new text
+Prints bytes Memory old new = (front : List ℕ) × IsFirstSteps bytes front × Appends old new (front ++ memory_line)
+Prints bytes Write old new = (text : List ℕ) × (MayPrint bytes text ⊎ (text ≡ read_line_text)) × AppendsFront old new text
+Prints bytes Read old new = Appends old new read_line_text
+Prints bytes Double old new = ⊤
+Prints bytes Usage old new = ⊤
+Prints bytes Configuration old new = ⊤
+Prints bytes Link old new = ⊤
+Prints bytes Turns old new = ⊤
+
+-- the promise, of the bytes that the source had left, where it tells them
+abbrev pub Promises : Option (List ℕ) → Status → Option (List ℕ) → Option (List ℕ) → Type 0
+Promises None status old new = ⊤
+Promises (Some bytes) status old new = Prints bytes status old new
+
+-- a source was read to its end by a replay that accepted each line
+abbrev pub EndsSource : Status → Option (List ℕ) → Type 0
+EndsSource Done remaining = IsAtEnd remaining
+EndsSource Double remaining = ⊤
+EndsSource Usage remaining = ⊤
+EndsSource Configuration remaining = ⊤
+EndsSource Schedule remaining = ⊤
+EndsSource Read remaining = ⊤
+EndsSource Write remaining = ⊤
+EndsSource Memory remaining = ⊤
+EndsSource Link remaining = ⊤
+EndsSource Turns remaining = ⊤
