@@ -2,6 +2,7 @@ pub mod GossipLemmas
 pub mod CutLemmas
 pub mod InputLemmas
 pub mod NodeLemmas
+pub mod PromiseLemmas
 pub mod StatusLemmas
 pub mod TextLemmas
 pub mod WorkedTexts
