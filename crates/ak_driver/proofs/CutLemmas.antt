@@ -1,12 +1,11 @@
 -- A schedule that passes a limit is refused at the same line with the same text, whatever more it has.
-use Rattle.std.proofs.Common.{◌≡◌, ◌≢◌, ◌⊎◌, inl, inr, ℕ, zero, suc, ◌+◌, ◌<◌, ◌≤◌, ◌==◌, Bool, true, false, List, [], ◌∷◌, ◌++◌, length, get_or, Option, None, Some, arith, refl, sym, ap, ◌∙◌, subst, append-nil, length-append}
+use Rattle.std.proofs.Common.{◌≡◌, ◌⊎◌, inl, inr, ℕ, zero, suc, ◌+◌, ◌<◌, ◌≤◌, ◌==◌, Bool, true, false, List, [], ◌∷◌, ◌++◌, length, get_or, Option, None, Some, arith, refl, sym, ap, ◌∙◌, subst, append-nil, length-append}
 use Rattle.std.specs.Prelude.{map, slice_get, IfSome}
 use Rattle.std.specs.List.{slice_split, onto_first, Contains}
-use Rattle.std.proofs.lemmas.List.{length-map}
 use Rattle.std.proofs.lemmas.List.Splits.{length-slice_split, slice_split-cons_yes, slice_split-cons_no}
-use Rattle.ak_schedule.specs.Line.{lines, begun, without_cr, most_bytes, IsPassedOver}
+use Rattle.ak_schedule.specs.Line.{lines, begun, without_cr, most_bytes}
 use Rattle.ak_schedule.specs.Settings.{Setup}
-use Rattle.ak_schedule.specs.Schedule.{headers, SetsHeader, SpellsEvent}
+use Rattle.ak_schedule.specs.Schedule.{headers, SetsHeader}
 use Rattle.ak_schedule.specs.declared.settings.Header as header
 use Rattle.ak_schedule.proofs.Cutting.{begun_more}
 use Rattle.ak_driver.specs.InputWords.{IsPast}
@@ -238,16 +237,16 @@ replays_longer p (line ∷ []) (other ∷ longer) status text within stops e r =
 replays_longer p (line ∷ next ∷ lines) (other ∷ longer) status text within stops e r =
     elim (stops_next p.line line (next ∷ lines) stops) [
       | inl long ↦
-        at_stop p line other r.0 (λ q. Replays q (next ∷ lines)) (λ q. Replays q longer) status text (inl long) (stops_longer p line other (omega (arith, ap length e.0)) (inl long)) r.1 r.2
+          at_stop p line other r.0 (λ q. Replays q (next ∷ lines)) (λ q. Replays q longer) status text (inl long) (stops_longer p line other (omega (arith, ap length e.0)) (inl long)) r.1 r.2
       | inr later ↦
-        let g = goes_on p line r.0 (λ q. Replays q (next ∷ lines)) (λ q. Replays q longer) status text
+          let g = goes_on p line r.0 (λ q. Replays q (next ∷ lines)) (λ q. Replays q longer) status text
           (λ q s t is le rest. replays_longer q (next ∷ lines) longer s t (omega arith) (subst (λ (n : ℕ). StopsWithin n (next ∷ lines)) (sym is) later) e.1 rest)
           r.1 r.2 in
-        ((r.0, subst (λ (l : List ℕ). Judged p l r.0) e.0 r.1, g.0), g.1)
+          ((r.0, subst (λ (l : List ℕ). Judged p l r.0) e.0 r.1, g.0), g.1)
     ]
 
 -- ---- the first steps of a replay
-first_none : (p : Progress) (lines : List (List ℕ)) (text : List ℕ) → text ≡ [] → FirstSteps p lines text
+pub first_none : (p : Progress) (lines : List (List ℕ)) (text : List ℕ) → text ≡ [] → FirstSteps p lines text
 first_none p [] text e = e
 first_none p (line ∷ lines) text e = inl e
 
@@ -278,8 +277,8 @@ first_longer p (line ∷ next ∷ lines) (other ∷ longer) text stops e (inr r)
         r.0,
         subst (λ (l : List ℕ). Judged p l r.0) e.0 r.1,
         goes_on_printing p line r.0 (λ q. FirstSteps q (next ∷ lines)) (λ q. FirstSteps q longer) text
-          (λ q t is le rest. first_longer q (next ∷ lines) longer t (subst (λ (n : ℕ). StopsWithin n (next ∷ lines)) (sym is) later) e.1 rest)
-          r.1 r.2,
+            (λ q t is le rest. first_longer q (next ∷ lines) longer t (subst (λ (n : ℕ). StopsWithin n (next ∷ lines)) (sym is) later) e.1 rest)
+            r.1 r.2,
       )
     ]
 

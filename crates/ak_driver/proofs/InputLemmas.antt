@@ -12,7 +12,6 @@ use Rattle.ak_schedule.specs.Line.{lines, begun, without_cr, most_bytes}
 use Rattle.ak_schedule.proofs.Cutting.{begun_more}
 use Rattle.ak_schedule.proofs.LineParts.{others_stay}
 use Rattle.ak_driver.specs.InputWords.{IsPast, HasCome, IsExtent, Reads}
-use Rattle.ak_driver.specs.ReplayText.{most_lines}
 use Rattle.ak_driver.proofs.CutLemmas.{parts_of, joined, meet, parts_meet, meet_last, without_cr_long, past_more}
 
 pub rest_falls : (past after : Bool) (most a b n : ℕ) → OnFalse after (a + n ≤ b) → past ≡ false → a < most → 0 < n → (if after then 0 else (most - b)) < (if past then 0 else (most - a))

@@ -5,6 +5,7 @@ pub mod GossipLemmas
 pub mod HistoryLemmas
 pub mod InputLemmas
 pub mod NodeLemmas
+pub mod PromiseLemmas
 pub mod ReplayLemmas
 pub mod StatusLemmas
 pub mod TextLemmas

@@ -13,8 +13,9 @@ pub mod wire;
 mod worked;
 pub mod world;
 
-ghost use Rattle.std.specs.Prelude.{◌≡◌, ◌≤◌, ◌↔◌, IsTrue, codes};
+ghost use Rattle.std.specs.Prelude.{◌≡◌, ◌≤◌, ◌↔◌, IfSome, IsTrue, codes};
 ghost use Rattle.ak_outside.specs.Outside.{Rose};
+ghost use Rattle.ak_driver.specs.ReplayPromise.{Promises, EndsSource};
 ghost use Rattle.ak_driver.specs.StatusWords.{AsksReplay, ReplayCause, Written, memory_line, usage_line};
 
 use ak_address::Text;
@@ -56,6 +57,8 @@ pub fn run<S: Source, W: Sink>(
     ensures read { S.faults input.old ≤ S.faults input.new }
     ensures written { W.faults output.old ≤ W.faults output.new }
     ensures replay { AsksReplay words.now → ReplayCause result (Rose (S.faults input.old) (S.faults input.new)) (Rose (W.faults output.old) (W.faults output.new)) }
+    ensures promise { AsksReplay words.now → Promises (S.remaining input.old) result (W.taken output.old) (W.taken output.new) }
+    ensures end { AsksReplay words.now → IfSome (S.remaining input.old) (λ all. EndsSource result (S.remaining input.new)) }
     ensures usage { (AsksReplay words.now → ⊥) → Written Status.Usage usage_line result (Rose (W.faults output.old) (W.faults output.new)) (W.taken output.old) (W.taken output.new) }
     ensures unread { (AsksReplay words.now → ⊥) → input.new ≡ input.old }
 {

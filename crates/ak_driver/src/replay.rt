@@ -1,9 +1,10 @@
 //! The replay of a recorded schedule: reads it whole, applies one line at a time, and prints each step.
 
-ghost use Rattle.std.specs.Prelude.{◌≡◌, ◌+◌, ◌≤◌, ◌<◌, ◌^◌, ◌++◌, OnOk, OnErr, length, codes};
+ghost use Rattle.std.specs.Prelude.{◌≡◌, ◌+◌, ◌≤◌, ◌<◌, ◌^◌, ◌++◌, OnOk, OnErr, IfSome, length, codes};
 ghost use Rattle.ak_outside.specs.Outside.{Rose};
 ghost use Rattle.ak_schedule.specs.Draft.{first_draft};
 ghost use Rattle.ak_schedule.specs.Line.{IsPassedOver};
+ghost use Rattle.ak_driver.specs.ReplayPromise.{Prints, Promises, EndsSource};
 ghost use Rattle.ak_driver.specs.ReplayText.{refusal_text, code_text};
 ghost use Rattle.ak_driver.specs.ReplayWords.{IsReady, IsWhole, opened, code_of, progress, progress_of, HeadingAnswers, RunningAnswers, TurnAnswers, FinishAnswers, Ended};
 ghost use Rattle.ak_driver.specs.StatusWords.{ReplayCause, Written, memory_line};
@@ -265,6 +266,7 @@ fn ended<W: Sink>(
 fn replay_bytes<W: Sink>(alloc: Global, bytes: &[u8], output: &mut W) -> Status
     ensures count { W.faults output.old ≤ W.faults output.new }
     ensures cause { ReplayCause result ⊥ (Rose (W.faults output.old) (W.faults output.new)) }
+    ensures prints { Prints bytes.now result (W.taken output.old) (W.taken output.new) }
 {
     let mut replay = Replay::new(alloc);
     let mut out = Vec::new(alloc);
@@ -290,10 +292,15 @@ fn replay_bytes<W: Sink>(alloc: Global, bytes: &[u8], output: &mut W) -> Status
 /// Answers `Done` where every line is accepted; `Schedule` where a line is refused, after the steps before it and a
 /// line that says which and why; `Read` where the source failed, and nothing else is read then; `Write` where the sink
 /// failed, and nothing else is written then; and `Memory`, after whole steps.
+///
+/// Where the source tells its bytes, the sink took what the rules say of all of them, also where reading stopped at a
+/// limit before their end. After `Done` the source is at its end.
 pub fn run_replay<S: Source, W: Sink>(alloc: Global, input: &mut S, output: &mut W) -> Status
     ensures read { S.faults input.old ≤ S.faults input.new }
     ensures written { W.faults output.old ≤ W.faults output.new }
     ensures cause { ReplayCause result (Rose (S.faults input.old) (S.faults input.new)) (Rose (W.faults output.old) (W.faults output.new)) }
+    ensures promise { Promises (S.remaining input.old) result (W.taken output.old) (W.taken output.new) }
+    ensures end { IfSome (S.remaining input.old) (λ all. EndsSource result (S.remaining input.new)) }
 {
     match read_all(alloc, input) {
         Ok(bytes) => replay_bytes(alloc, &bytes, output),

@@ -1,4 +1,4 @@
-use Rattle.std.proofs.Common.{◌≡◌, ℕ, ◌+◌, ◌-◌, ◌*◌, ◌<◌, ◌≤◌, length, if◌then◌else◌, suc}
+use Rattle.std.proofs.Common.{◌≡◌, ◌-◌, ◌≤◌, length, if◌then◌else◌}
 use Rattle.std.specs.Io.KnownBytes.{Consumes}
 use Rattle.ak_driver.specs.InputWords.{reach, IsExtent}
 use Rattle.ak_driver.proofs.input.read_all.Given as goal

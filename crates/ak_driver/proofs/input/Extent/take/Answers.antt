@@ -1,4 +1,4 @@
-use Rattle.std.proofs.Common.{◌≡◌, ◌≢◌, ◌+◌, ℕ, arith, subst, sym, ◌++◌, ◌∷◌, []}
+use Rattle.std.proofs.Common.{◌≢◌, ◌+◌, ℕ, arith, subst, sym, ◌++◌, ◌∷◌, []}
 use Rattle.std.proofs.lemmas.Bool.{cases_eq}
 use Rattle.ak_driver.specs.InputWords.{IsExtent, HasCome}
 use Rattle.ak_driver.proofs.InputLemmas.{extent_more, has_come, is_extent, come_end, come_other, past_lines, past_long, past_no_cr}
