@@ -1,6 +1,8 @@
 pub mod GossipLemmas
 pub mod InputLemmas
 pub mod NodeLemmas
+pub mod ReplayLemmas
+pub mod ReplayLoop
 pub mod StatusLemmas
 pub mod TextLemmas
 pub mod WorkedTexts

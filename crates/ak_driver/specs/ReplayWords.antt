@@ -1,5 +1,5 @@
 -- Words of the contracts of a replay's calls.
-use Rattle.std.specs.Prelude.{◌≡◌, ℕ, ◌+◌, ◌<◌, ◌↔◌, List, [], ◌∷◌, ◌++◌, Bool, false, IsTrue, length, Result, Ok, Err, ⊤}
+use Rattle.std.specs.Prelude.{◌≡◌, ℕ, ◌+◌, ◌<◌, ◌≤◌, ◌⊎◌, ◌↔◌, Option, List, [], ◌∷◌, ◌++◌, Bool, false, IsTrue, length, Result, Ok, Err, ⊤}
 use Rattle.ak_schedule.specs.Draft.{Drafted, ReadsHeader}
 use Rattle.ak_schedule.specs.Schedule.{SpellsEvent}
 use Rattle.ak_schedule.specs.declared.event.Event.{Event}
@@ -12,8 +12,13 @@ use Rattle.ak_driver.specs.declared.replay.Stage.{Stage}
 use Rattle.ak_driver.specs.declared.replay.Stage.TheVariants.{Heading, Running}
 use Rattle.ak_driver.specs.World.{Done, empty_world, happens}
 use Rattle.ak_driver.specs.WorldWords.{Chronicle}
+use Rattle.ak_driver.specs.declared.replay.Replay.{Replay}
+use Rattle.ak_outside.specs.declared.status.Status.{Status}
+use Rattle.ak_outside.specs.declared.status.Status as status
 use Rattle.ak_driver.specs.ReplayText as spelled_code
-use Rattle.ak_driver.specs.StepText.{step_text}
+use Rattle.ak_driver.specs.ReplayText.{Progress, Judgement, Judged, header_count, refusal_text}
+use Rattle.ak_driver.specs.StatusWords.{Written, memory_line}
+use Rattle.ak_driver.specs.StepText.{step_text, summary_text}
 
 -- the code of a refused line
 abbrev pub code_of : Code → spelled_code.Code
@@ -67,3 +72,48 @@ RunningAnswers (Err (Refused Malformed)) line number old new before after = ((ev
 RunningAnswers (Err (Refused PastLimit)) line number old new before after = ⊥
 RunningAnswers (Err (Refused NotBuilt)) line number old new before after = IsRefused line old × (after ≡ before)
 RunningAnswers (Err NoMemory) line number old new before after = after ≡ before
+
+-- how far a replay has come at a stage, by the number of the next line and how many events were applied
+abbrev pub progress : Stage → ℕ → ℕ → Progress
+progress (Heading draft) line steps = record { line = line; headers = draft.read; setup = draft.setup; world = empty_world; steps = steps }
+progress (Running world) line steps = record { line = line; headers = header_count; setup = world.setup; world = world.state; steps = steps }
+
+abbrev pub progress_of : Replay → Progress
+progress_of r = progress r.stage r.line r.steps
+
+-- a line that is judged so brings a replay from p to q, and this text is printed
+abbrev pub Brings : Progress → Judgement → Progress → List ℕ → Type 0
+Brings p spelled_code.Passes q text = (q ≡ record p { line = p.line + 1 }) × (text ≡ [])
+Brings p (spelled_code.Sets setup) q text = (q ≡ record p { line = p.line + 1; headers = p.headers + 1; setup = setup }) × (text ≡ [])
+Brings p (spelled_code.Steps event done) q text =
+    (q ≡ record p { line = p.line + 1; steps = p.steps + 1; world = done.world })
+    × (text ≡ step_text (length p.world.packets + 1) (p.steps + 1) event done)
+Brings p (spelled_code.Refuses code) q text = ⊥
+
+-- a line is accepted
+pub record Turns (p : Progress) (line : List ℕ) (q : Progress) (text : List ℕ) : Type 0 where
+  pub judgement : Judgement
+  pub judged : Judged p line judgement
+  pub brings : Brings p judgement q text
+
+-- what one line does: it is accepted and its text is printed, or refused and nothing is printed
+abbrev pub TurnAnswers : Result (Unit {0}) Stop → List ℕ → Progress → Progress → List ℕ → List ℕ → Type 0
+TurnAnswers (Ok u) line p q before after = (text : List ℕ) × Turns p line q text × (after ≡ before ++ text)
+TurnAnswers (Err (Refused code)) line p q before after = Judged p line (spelled_code.Refuses (code_of code)) × (after ≡ before)
+TurnAnswers (Err NoMemory) line p q before after = after ≡ before
+
+-- what stands behind the last line
+abbrev pub FinishAnswers : Result (Unit {0}) Stop → Progress → List ℕ → List ℕ → Type 0
+FinishAnswers (Ok u) p before after = (header_count ≤ p.headers) × (after ≡ before ++ summary_text p.steps p.world)
+FinishAnswers (Err (Refused Malformed)) p before after = ⊥
+FinishAnswers (Err (Refused PastLimit)) p before after = ⊥
+FinishAnswers (Err (Refused NotBuilt)) p before after = (p.headers < header_count) × (after ≡ before)
+FinishAnswers (Err NoMemory) p before after = after ≡ before
+
+-- how a replay ends in the output, behind the text that it has printed
+abbrev pub Ended : Result (Unit {0}) Stop → ℕ → List ℕ → Status → Type 0 → Option (List ℕ) → Option (List ℕ) → Type 0
+Ended (Ok u) line text answer rose old new = Written status.TheVariants.Done text answer rose old new
+Ended (Err (Refused code)) line text answer rose old new =
+    Written status.TheVariants.Schedule (text ++ refusal_text (code_of code) line) answer rose old new
+    ⊎ Written status.TheVariants.Memory (text ++ memory_line) answer rose old new
+Ended (Err NoMemory) line text answer rose old new = Written status.TheVariants.Memory (text ++ memory_line) answer rose old new

@@ -1,11 +1,14 @@
 //! The replay of a recorded schedule: reads it whole, applies one line at a time, and prints each step.
 
-ghost use Rattle.std.specs.Prelude.{◌≡◌, ◌+◌, ◌≤◌, ◌<◌, ◌^◌, ◌++◌, OnOk, OnErr, length, codes};
+ghost use Rattle.std.specs.Prelude.{◌≡◌, ◌⊎◌, ◌+◌, ◌≤◌, ◌<◌, ◌^◌, ◌++◌, OnOk, OnErr, length, codes};
 ghost use Rattle.ak_outside.specs.Outside.{Rose};
 ghost use Rattle.ak_schedule.specs.Draft.{first_draft};
+ghost use Rattle.ak_schedule.specs.Line.{IsPassedOver};
+ghost use Rattle.ak_driver.specs.ReplayPromise.{Prints};
 ghost use Rattle.ak_driver.specs.ReplayText.{refusal_text, code_text};
-ghost use Rattle.ak_driver.specs.ReplayWords.{IsReady, IsWhole, opened, code_of, HeadingAnswers, RunningAnswers};
+ghost use Rattle.ak_driver.specs.ReplayWords.{IsReady, IsWhole, opened, code_of, progress, progress_of, HeadingAnswers, RunningAnswers, TurnAnswers, FinishAnswers, Ended};
 ghost use Rattle.ak_driver.specs.StatusWords.{ReplayCause, Written, memory_line};
+ghost use Rattle.ak_outside.specs.declared.status.Status.TheVariants.{Schedule, Memory};
 
 use crate::input::{MOST_LINES, Unread, read_all};
 use crate::report::print_bytes;
@@ -92,6 +95,8 @@ impl Replay {
     fn turn(&mut self, alloc: Global, line: &[u8], out: &mut Vec<u8>) -> Result<(), Stop>
         requires { IsReady self.old.stage self.old.steps }
         ensures ready { OnOk result (IsReady self.new.stage self.new.steps) }
+        ensures line { OnErr result (self.new.line ≡ self.old.line) }
+        ensures turn { TurnAnswers result line.now (progress_of self.old) (progress_of self.new) out.old.items out.new.items }
     {
         if self.line > u64::from(MOST_LINES) {
             return Err(Stop::Refused(Code::PastLimit));
@@ -104,9 +109,12 @@ impl Replay {
     }
 
     fn advance(&mut self, alloc: Global, line: &[u8], out: &mut Vec<u8>) -> Result<(), Stop>
-        requires { IsReady self.old.stage self.old.steps }
+        requires ready { IsReady self.old.stage self.old.steps }
+        requires few { self.old.line ≤ 200_000 }
+        requires open { IsPassedOver line.now → ⊥ }
         ensures ready { OnOk result (IsReady self.new.stage self.new.steps) }
         ensures line { self.new.line ≡ self.old.line }
+        ensures turn { TurnAnswers result line.now (progress_of self.old) (progress self.new.stage (self.old.line + 1) self.new.steps) out.old.items out.new.items }
     {
         match &mut self.stage {
             Stage::Heading(draft) => {
@@ -142,7 +150,10 @@ impl Replay {
     }
 
     // Behind the last line: the summary, or a header is missing.
-    fn finish(&self, alloc: Global, out: &mut Vec<u8>) -> Result<(), Stop> {
+    fn finish(&self, alloc: Global, out: &mut Vec<u8>) -> Result<(), Stop>
+        requires { IsReady self.now.stage self.now.steps }
+        ensures { FinishAnswers result (progress_of self.now) out.old.items out.new.items }
+    {
         match &self.stage {
             Stage::Heading(_) => Err(Stop::Refused(Code::NotBuilt)),
             Stage::Running(world) => {
@@ -221,11 +232,31 @@ pub(crate) fn written<W: Sink>(output: &mut W, text: &[u8], status: Status) -> S
 fn out_of_memory<W: Sink>(output: &mut W, text: &[u8]) -> Status
     ensures count { W.faults output.old ≤ W.faults output.new }
     ensures cause { ReplayCause result ⊥ (Rose (W.faults output.old) (W.faults output.new)) }
+    ensures written { Written Memory (text.now ++ memory_line) result (Rose (W.faults output.old) (W.faults output.new)) (W.taken output.old) (W.taken output.new) }
 {
     if !write_all(output, text) {
         return Status::Write;
     }
     written(output, b"error 7 memory\n", Status::Memory)
+}
+
+// Writes what was printed and the line on a refusal, or the line on memory where there is none for that.
+fn refused<W: Sink>(
+    alloc: Global,
+    code: Code,
+    line: u64,
+    out: &mut Vec<u8>,
+    output: &mut W,
+) -> Status
+    ensures count { W.faults output.old ≤ W.faults output.new }
+    ensures cause { ReplayCause result ⊥ (Rose (W.faults output.old) (W.faults output.new)) }
+    ensures refused { Written Schedule (out.old.items ++ refusal_text (code_of code) line) result (Rose (W.faults output.old) (W.faults output.new)) (W.taken output.old) (W.taken output.new)
+        ⊎ Written Memory (out.old.items ++ memory_line) result (Rose (W.faults output.old) (W.faults output.new)) (W.taken output.old) (W.taken output.new) }
+{
+    match print_refusal(alloc, code, line, out) {
+        Ok(()) => written(output, out, Status::Schedule),
+        Err(_) => out_of_memory(output, out),
+    }
 }
 
 // Writes what was printed and how the replay ended.
@@ -238,14 +269,12 @@ fn ended<W: Sink>(
 ) -> Status
     ensures count { W.faults output.old ≤ W.faults output.new }
     ensures cause { ReplayCause result ⊥ (Rose (W.faults output.old) (W.faults output.new)) }
+    ensures ended { Ended end line out.old.items result (Rose (W.faults output.old) (W.faults output.new)) (W.taken output.old) (W.taken output.new) }
 {
     match end {
         Ok(()) => written(output, out, Status::Done),
         Err(Stop::NoMemory) => out_of_memory(output, out),
-        Err(Stop::Refused(code)) => match print_refusal(alloc, code, line, out) {
-            Ok(()) => written(output, out, Status::Schedule),
-            Err(_) => out_of_memory(output, out),
-        },
+        Err(Stop::Refused(code)) => refused(alloc, code, line, out, output),
     }
 }
 
@@ -253,6 +282,7 @@ fn ended<W: Sink>(
 fn replay_bytes<W: Sink>(alloc: Global, bytes: &[u8], output: &mut W) -> Status
     ensures count { W.faults output.old ≤ W.faults output.new }
     ensures cause { ReplayCause result ⊥ (Rose (W.faults output.old) (W.faults output.new)) }
+    ensures prints { Prints bytes.now result (W.taken output.old) (W.taken output.new) }
 {
     let mut replay = Replay::new(alloc);
     let mut out = Vec::new(alloc);
