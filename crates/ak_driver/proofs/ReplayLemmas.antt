@@ -17,12 +17,6 @@ use Rattle.ak_driver.specs.WorldWords.{Chronicle}
 use Rattle.ak_driver.specs.ReplayText.{Progress, Judged, Passes, Sets, Steps, Refuses, S13, SetsNext, IsNoHeader, WantsHeader, WantsEvent}
 use Rattle.ak_driver.specs.ReplayWords.{progress, IsReady, Turns, TurnAnswers, HeadingAnswers, RunningAnswers, Runs}
 
--- a line that is passed over
-pub passed_turn : (p : Progress) (line before after : List ℕ) → p.line ≤ 200000 → IsPassedOver line → after ≡ before
-    → (text : List ℕ) × Turns p line (record p { line = p.line + 1 }) text × (after ≡ before ++ text)
-passed_turn p line before after few passed same =
-    ([], record { judgement = Passes; judged = (few, passed); brings = (refl, refl) }, same ∙ sym (append-nil before))
-
 -- a line that is the next header
 pub header_turn : (line before after : List ℕ) (old new : Drafted) (steps n read : ℕ) → ReadsHeader line old new → read ≡ new.read
     → n ≤ 200000 → (IsPassedOver line → ⊥) → old.read < 9 → after ≡ before
@@ -30,18 +24,21 @@ pub header_turn : (line before after : List ℕ) (old new : Drafted) (steps n re
     × Turns (progress (Heading old) n steps) line (record { line = n + 1; headers = read; setup = new.setup; world = empty_world; steps = steps }) text
     × (after ≡ before ++ text)
 header_turn line before after old new steps n read h e few open_ wanted same =
-    let at : ℕ → Progress = λ k. record { line = n + 1; headers = k; setup = new.setup; world = empty_world; steps = steps } in
-    ([], record {
-      judgement = Sets new.setup;
-      judged = (
-        record { in_limit = few; not_passed = open_; heading = wanted },
-        subst (λ (o : Option header.Header). IfSome o (λ which. SetsHeader which line old.setup new.setup)) (sym h.next) h.sets
-      );
-      brings = (
-        ap at (e ∙ h.count),
-        refl
-      );
-    }, same ∙ sym (append-nil before))
+    let at : ℕ → Progress = λ k. record { line = n + 1; headers = k; setup = new.setup; world = empty_world; steps = steps } in (
+      [],
+      record {
+        judgement = Sets new.setup;
+        judged = (
+          record { in_limit = few; not_passed = open_; heading = wanted },
+          subst (λ (o : Option header.Header). IfSome o (λ which. SetsHeader which line old.setup new.setup)) (sym h.next) h.sets,
+        );
+        brings = (
+          ap at (e ∙ h.count),
+          refl,
+        );
+      },
+      same ∙ sym (append-nil before),
+    )
 
 -- a line that is no header is none of any setup
 header_none : (line : List ℕ) (old : Drafted) (setup : Setup) (o : Option header.Header) → slice_get headers old.read ≡ o → old.read < 9
@@ -56,19 +53,22 @@ pub no_header : (line : List ℕ) (old : Drafted) (steps n : ℕ) → ((next : D
 no_header line old steps n none few open_ wanted =
     inl (
       record { in_limit = few; not_passed = open_; heading = wanted },
-      λ setup s. header_none line old setup (slice_get headers old.read) refl wanted none s
+      λ setup s. header_none line old setup (slice_get headers old.read) refl wanted none s,
     )
 
 -- an event line
 pub running_turn : (r : Result (Unit {0}) Stop) (line before after : List ℕ) (old new : Chronicle) (n steps : ℕ)
     → RunningAnswers r line (steps + 1) old new before after → n ≤ 200000 → (IsPassedOver line → ⊥) → steps < 50000
     → TurnAnswers r line (progress (Running old) n steps) (progress (Running new) (n + 1) (steps + 1)) before after
-running_turn (Ok u) line before after old new n steps h few open_ room =
-    (step_text (length old.state.packets + 1) (steps + 1) h.event h.done, record {
-      judgement = Steps h.event h.done;
-      judged = (record { in_limit = few; not_passed = open_; running = omega arith }, room, h.spelled, h.happened);
-      brings = (ap (λ (w : Chronicle). progress (Running w) (n + 1) (steps + 1)) h.world, refl);
-    }, h.text)
+running_turn (Ok u) line before after old new n steps h few open_ room = (
+  step_text (length old.state.packets + 1) (steps + 1) h.event h.done,
+  record {
+    judgement = Steps h.event h.done;
+    judged = (record { in_limit = few; not_passed = open_; running = omega arith }, room, h.spelled, h.happened);
+    brings = (ap (λ (w : Chronicle). progress (Running w) (n + 1) (steps + 1)) h.world, refl);
+  },
+  h.text,
+)
 running_turn (Err (Refused Malformed)) line before after old new n steps h few open_ room =
     ((record { in_limit = few; not_passed = open_; running = omega arith }, room, h.0), h.1)
 running_turn (Err (Refused PastLimit)) line before after old new n steps h few open_ room = absurd h

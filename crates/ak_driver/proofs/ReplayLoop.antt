@@ -133,11 +133,11 @@ along_steps bytes old now p rest out a =
 -- the sink fails on the way
 pub along_fails : (bytes : List ℕ) (old now later : Option (List ℕ)) (p : Progress) (rest : List (List ℕ)) (out : List ℕ)
     → Along bytes old now p rest out → AppendsFront now later out → Prints bytes Write old later
-along_fails bytes old now later p rest out a f =
-    ((a.written ++ out) ++ memory_line,
-      inl (inr (a.written ++ out, along_steps bytes old now p rest out a, refl)),
-      AppendsFront-more old later (a.written ++ out) memory_line (AppendsFront-after old now later a.written out a.taken f)
-    )
+along_fails bytes old now later p rest out a f = (
+  (a.written ++ out) ++ memory_line,
+  inl (inr (a.written ++ out, along_steps bytes old now p rest out a, refl)),
+  AppendsFront-more old later (a.written ++ out) memory_line (AppendsFront-after old now later a.written out a.taken f),
+)
 
 prints_done : (bytes : List ℕ) (old now later : Option (List ℕ)) (front text : List ℕ) (answer : Status) (rose : Type 0)
     → IsReplay bytes 0 (front ++ text) → Appends old now front → Written Done text answer rose now later → Prints bytes answer old later
@@ -159,10 +159,10 @@ prints_memory bytes old now later front text answer rose i a (inl w) =
     subst (λ (s : Status). Prints bytes s old later) (sym w.0)
     (front ++ text, i, subst (λ (o : List ℕ). Appends old later o) (sym (append_assoc front text memory_line)) (Appends-trans old now later front (text ++ memory_line) a w.1))
 prints_memory bytes old now later front text answer rose i a (inr w) =
-    subst (λ (s : Status). Prints bytes s old later) (sym w.0)
-    ((front ++ text) ++ memory_line,
+    subst (λ (s : Status). Prints bytes s old later) (sym w.0) (
+      (front ++ text) ++ memory_line,
       inl (inr (front ++ text, i, refl)),
-      subst (λ (o : List ℕ). AppendsFront old later o) (sym (append_assoc front text memory_line)) (AppendsFront-after old now later front (text ++ memory_line) a w.2)
+      subst (λ (o : List ℕ). AppendsFront old later o) (sym (append_assoc front text memory_line)) (AppendsFront-after old now later front (text ++ memory_line) a w.2),
     )
 
 along_memory : (bytes : List ℕ) (old now later : Option (List ℕ)) (p : Progress) (rest : List (List ℕ)) (out after : List ℕ) (answer : Status) (rose : Type 0)

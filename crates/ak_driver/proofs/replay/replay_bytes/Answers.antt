@@ -24,24 +24,26 @@ returns-then-not-write_all-clause-prints g c =
     (subst (λ (o : List ℕ). AppendsFront (g.W.Sink.taken c.lines.output) (g.W.Sink.taken c.write_all.new.sink) o) c.deref.ensures.value c.if-not-write_all.ensures.front)
 
 pub lines-preserved-then-len-ge-PIECE : goal.lines-preserved-then-len-ge-PIECE
-lines-preserved-then-len-ge-PIECE g c =
-    (c.in_default-turn.ensures.ready,
-      omega (arith, c.lines.invariant.1, c.write_all.ensures.count),
-      along_flush c.args.bytes.now (g.W.Sink.taken c.args.output.now) (g.W.Sink.taken c.lines.output) (g.W.Sink.taken c.write_all.new.sink)
+lines-preserved-then-len-ge-PIECE g c = (
+  c.in_default-turn.ensures.ready,
+  omega (arith, c.lines.invariant.1, c.write_all.ensures.count),
+  along_flush c.args.bytes.now (g.W.Sink.taken c.args.output.now) (g.W.Sink.taken c.lines.output) (g.W.Sink.taken c.write_all.new.sink)
       (progress_of c.turn.new.self) (lines c.in-Some.behind.now) c.turn.new.out.items c.clear.new.self.items
       (along_turn c.args.bytes.now (g.W.Sink.taken c.args.output.now) (g.W.Sink.taken c.lines.output) (progress_of c.lines.replay) (progress_of c.turn.new.self)
       c.in-Some.line.now (lines c.lines.rest.now) (lines c.in-Some.behind.now) c.lines.out.items c.turn.new.out.items c.in_default-turn.ensures.turn.0
       c.lines.invariant.2 c.in-Some.ensures.first c.in_default-turn.ensures.turn.1 c.in_default-turn.ensures.turn.2)
       (subst (λ (o : List ℕ). Appends (g.W.Sink.taken c.lines.output) (g.W.Sink.taken c.write_all.new.sink) o) c.deref.ensures.value c.if-not-write_all.ensures.whole)
-      c.clear.ensures.items)
+      c.clear.ensures.items,
+)
 
 pub lines-preserved : goal.lines-preserved
-lines-preserved g c =
-    (c.in_default-turn.ensures.ready,
-      c.lines.invariant.1,
-      along_turn c.args.bytes.now (g.W.Sink.taken c.args.output.now) (g.W.Sink.taken c.lines.output) (progress_of c.lines.replay) (progress_of c.turn.new.self)
+lines-preserved g c = (
+  c.in_default-turn.ensures.ready,
+  c.lines.invariant.1,
+  along_turn c.args.bytes.now (g.W.Sink.taken c.args.output.now) (g.W.Sink.taken c.lines.output) (progress_of c.lines.replay) (progress_of c.turn.new.self)
       c.in-Some.line.now (lines c.lines.rest.now) (lines c.in-Some.behind.now) c.lines.out.items c.turn.new.out.items c.in_default-turn.ensures.turn.0
-      c.lines.invariant.2 c.in-Some.ensures.first c.in_default-turn.ensures.turn.1 c.in_default-turn.ensures.turn.2)
+      c.lines.invariant.2 c.in-Some.ensures.first c.in_default-turn.ensures.turn.1 c.in_default-turn.ensures.turn.2,
+)
 
 pub returns-clause-prints : goal.returns-clause-prints
 returns-clause-prints g c =
