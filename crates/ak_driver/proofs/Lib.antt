@@ -7,6 +7,7 @@ pub mod InputLemmas
 pub mod NodeLemmas
 pub mod PromiseLemmas
 pub mod ReplayLemmas
+pub mod ReplayLoop
 pub mod StatusLemmas
 pub mod TextLemmas
 pub mod WorkedTexts

@@ -11,16 +11,11 @@ use Rattle.ak_driver.specs.declared.replay.Stop.{Stop}
 use Rattle.ak_driver.specs.declared.replay.Stop.TheVariants.{Refused, NoMemory}
 use Rattle.ak_driver.specs.declared.replay.Stage.{Stage}
 use Rattle.ak_driver.specs.declared.replay.Stage.TheVariants.{Heading, Running}
+use Rattle.ak_driver.specs.StepText.{step_text}
 use Rattle.ak_driver.specs.World.{empty_world}
 use Rattle.ak_driver.specs.WorldWords.{Chronicle}
 use Rattle.ak_driver.specs.ReplayText.{Progress, Judged, Passes, Sets, Steps, Refuses, S13, SetsNext, IsNoHeader, WantsHeader, WantsEvent}
-use Rattle.ak_driver.specs.ReplayWords.{progress, Turns, TurnAnswers, RunningAnswers, Runs}
-
--- a line that is passed over
-pub passed_turn : (p : Progress) (line before after : List ℕ) → p.line ≤ 200000 → IsPassedOver line → after ≡ before
-    → (text : List ℕ) × Turns p line (record p { line = p.line + 1 }) text × (after ≡ before ++ text)
-passed_turn p line before after few passed same =
-    ([], (record { judgement = Passes; judged = (few, passed); brings = (refl, refl) }, same ∙ sym (append-nil before)))
+use Rattle.ak_driver.specs.ReplayWords.{progress, IsReady, Turns, TurnAnswers, HeadingAnswers, RunningAnswers, Runs}
 
 -- a line that is the next header
 pub header_turn : (line before after : List ℕ) (old new : Drafted) (steps n read : ℕ) → ReadsHeader line old new → read ≡ new.read
@@ -29,17 +24,21 @@ pub header_turn : (line before after : List ℕ) (old new : Drafted) (steps n re
     × Turns (progress (Heading old) n steps) line (record { line = n + 1; headers = read; setup = new.setup; world = empty_world; steps = steps }) text
     × (after ≡ before ++ text)
 header_turn line before after old new steps n read h e few open_ wanted same =
-    ([], (record {
-      judgement = Sets new.setup;
-      judged = (
-        record { in_limit = few; not_passed = open_; heading = wanted },
-        subst (λ (o : Option header.Header). IfSome o (λ which. SetsHeader which line old.setup new.setup)) (sym h.next) h.sets
-      );
-      brings = (
-        ap (λ (k : ℕ). (record { line = n + 1; headers = k; setup = new.setup; world = empty_world; steps = steps } : Progress)) (e ∙ h.count),
-        refl
-      );
-    }, same ∙ sym (append-nil before)))
+    let at : ℕ → Progress = λ k. record { line = n + 1; headers = k; setup = new.setup; world = empty_world; steps = steps } in (
+      [],
+      record {
+        judgement = Sets new.setup;
+        judged = (
+          record { in_limit = few; not_passed = open_; heading = wanted },
+          subst (λ (o : Option header.Header). IfSome o (λ which. SetsHeader which line old.setup new.setup)) (sym h.next) h.sets,
+        );
+        brings = (
+          ap at (e ∙ h.count),
+          refl,
+        );
+      },
+      same ∙ sym (append-nil before),
+    )
 
 -- a line that is no header is none of any setup
 header_none : (line : List ℕ) (old : Drafted) (setup : Setup) (o : Option header.Header) → slice_get headers old.read ≡ o → old.read < 9
@@ -54,22 +53,65 @@ pub no_header : (line : List ℕ) (old : Drafted) (steps n : ℕ) → ((next : D
 no_header line old steps n none few open_ wanted =
     inl (
       record { in_limit = few; not_passed = open_; heading = wanted },
-      λ setup s. header_none line old setup (slice_get headers old.read) refl wanted none s
+      λ setup s. header_none line old setup (slice_get headers old.read) refl wanted none s,
     )
 
 -- an event line
 pub running_turn : (r : Result (Unit {0}) Stop) (line before after : List ℕ) (old new : Chronicle) (n steps : ℕ)
     → RunningAnswers r line (steps + 1) old new before after → n ≤ 200000 → (IsPassedOver line → ⊥) → steps < 50000
     → TurnAnswers r line (progress (Running old) n steps) (progress (Running new) (n + 1) (steps + 1)) before after
-running_turn (Ok u) line before after old new n steps h few open_ room =
-    (_, (record {
-      judgement = Steps h.event h.done;
-      judged = (record { in_limit = few; not_passed = open_; running = omega arith }, (room, (h.spelled, h.happened)));
-      brings = (ap (λ (w : Chronicle). progress (Running w) (n + 1) (steps + 1)) h.world, refl);
-    }, h.text))
+running_turn (Ok u) line before after old new n steps h few open_ room = (
+  step_text (length old.state.packets + 1) (steps + 1) h.event h.done,
+  record {
+    judgement = Steps h.event h.done;
+    judged = (record { in_limit = few; not_passed = open_; running = omega arith }, room, h.spelled, h.happened);
+    brings = (ap (λ (w : Chronicle). progress (Running w) (n + 1) (steps + 1)) h.world, refl);
+  },
+  h.text,
+)
 running_turn (Err (Refused Malformed)) line before after old new n steps h few open_ room =
-    ((record { in_limit = few; not_passed = open_; running = omega arith }, (room, h.0)), h.1)
+    ((record { in_limit = few; not_passed = open_; running = omega arith }, room, h.0), h.1)
 running_turn (Err (Refused PastLimit)) line before after old new n steps h few open_ room = absurd h
 running_turn (Err (Refused NotBuilt)) line before after old new n steps h few open_ room =
-    (inr (record { in_limit = few; not_passed = open_; running = omega arith }, (room, (h.0.event, (h.0.why, (h.0.spelled, h.0.reason))))), h.1)
+    (inr (record { in_limit = few; not_passed = open_; running = omega arith }, room, h.0.event, h.0.why, h.0.spelled, h.0.reason), h.1)
 running_turn (Err NoMemory) line before after old new n steps h few open_ room = h
+
+-- the same, of what a replay's stage is found to be
+pub advance_header : (stage : Stage) (line before after : List ℕ) (old new : Drafted) (steps n read : ℕ) → stage ≡ Heading old → IsReady stage steps
+    → ReadsHeader line old new → read ≡ new.read → n ≤ 200000 → (IsPassedOver line → ⊥) → after ≡ before
+    → (text : List ℕ)
+    × Turns (progress stage n steps) line (record { line = n + 1; headers = read; setup = new.setup; world = empty_world; steps = steps }) text
+    × (after ≡ before ++ text)
+advance_header stage line before after old new steps n read is ready h e few open_ same =
+    subst
+    (λ (s : Stage). IsReady s steps → (text : List ℕ)
+    × Turns (progress s n steps) line (record { line = n + 1; headers = read; setup = new.setup; world = empty_world; steps = steps }) text
+    × (after ≡ before ++ text))
+    (sym is)
+    (λ wanted. header_turn line before after old new steps n read h e few open_ wanted.0 same)
+    ready
+
+heading_refused : (e : Stop) (line before after : List ℕ) (old new : Drafted) (q : Progress) (steps n : ℕ) → HeadingAnswers (Err e) line old new → n ≤ 200000
+    → (IsPassedOver line → ⊥) → old.read < 9 → after ≡ before → TurnAnswers (Err e) line (progress (Heading old) n steps) q before after
+heading_refused (Refused Malformed) line before after old new q steps n h few open_ wanted same = absurd h
+heading_refused (Refused PastLimit) line before after old new q steps n h few open_ wanted same = absurd h
+heading_refused (Refused NotBuilt) line before after old new q steps n h few open_ wanted same = (no_header line old steps n h.1 few open_ wanted, same)
+heading_refused NoMemory line before after old new q steps n h few open_ wanted same = same
+
+pub advance_refused : (stage : Stage) (r : Result (Unit {0}) Stop) (e : Stop) (line before after : List ℕ) (old new : Drafted) (q : Progress) (steps n : ℕ)
+    → r ≡ Err e → stage ≡ Heading old → IsReady stage steps → HeadingAnswers (Err e) line old new → n ≤ 200000 → (IsPassedOver line → ⊥)
+    → after ≡ before → TurnAnswers r line (progress stage n steps) q before after
+advance_refused stage r e line before after old new q steps n was is ready h few open_ same =
+    subst
+    (λ (s : Stage). IsReady s steps → TurnAnswers r line (progress s n steps) q before after)
+    (sym is)
+    (λ wanted. subst (λ (t : Result (Unit {0}) Stop). TurnAnswers t line (progress (Heading old) n steps) q before after) (sym was)
+    (heading_refused e line before after old new q steps n h few open_ wanted.0 same))
+    ready
+
+pub advance_event : (stage : Stage) (r : Result (Unit {0}) Stop) (line before after : List ℕ) (old new : Chronicle) (n steps : ℕ) → stage ≡ Running old
+    → RunningAnswers r line (steps + 1) old new before after → n ≤ 200000 → (IsPassedOver line → ⊥) → steps < 50000
+    → TurnAnswers r line (progress stage n steps) (progress (Running new) (n + 1) (steps + 1)) before after
+advance_event stage r line before after old new n steps is h few open_ room =
+    subst (λ (s : Stage). TurnAnswers r line (progress s n steps) (progress (Running new) (n + 1) (steps + 1)) before after) (sym is)
+    (running_turn r line before after old new n steps h few open_ room)

@@ -1,6 +1,6 @@
 //! The replay of a recorded schedule: reads it whole, applies one line at a time, and prints each step.
 
-ghost use Rattle.std.specs.Prelude.{◌≡◌, ◌+◌, ◌≤◌, ◌<◌, ◌^◌, ◌++◌, OnOk, OnErr, IfSome, length, codes};
+ghost use Rattle.std.specs.Prelude.{◌≡◌, ◌⊎◌, ◌+◌, ◌≤◌, ◌<◌, ◌^◌, ◌++◌, OnOk, OnErr, IfSome, length, codes};
 ghost use Rattle.ak_outside.specs.Outside.{Rose};
 ghost use Rattle.ak_schedule.specs.Draft.{first_draft};
 ghost use Rattle.ak_schedule.specs.Line.{IsPassedOver};
@@ -8,7 +8,7 @@ ghost use Rattle.ak_driver.specs.ReplayPromise.{Prints, Promises, EndsSource};
 ghost use Rattle.ak_driver.specs.ReplayText.{refusal_text, code_text};
 ghost use Rattle.ak_driver.specs.ReplayWords.{IsReady, IsWhole, opened, code_of, progress, progress_of, HeadingAnswers, RunningAnswers, TurnAnswers, FinishAnswers, Ended};
 ghost use Rattle.ak_driver.specs.StatusWords.{ReplayCause, Written, memory_line};
-ghost use Rattle.ak_outside.specs.declared.status.Status.TheVariants.{Memory};
+ghost use Rattle.ak_outside.specs.declared.status.Status.TheVariants.{Schedule, Memory};
 
 use crate::input::{MOST_LINES, Unread, read_all};
 use crate::report::print_bytes;
@@ -240,6 +240,25 @@ fn out_of_memory<W: Sink>(output: &mut W, text: &[u8]) -> Status
     written(output, b"error 7 memory\n", Status::Memory)
 }
 
+// Writes what was printed and the line on a refusal, or the line on memory where there is none for that.
+fn refused<W: Sink>(
+    alloc: Global,
+    code: Code,
+    line: u64,
+    out: &mut Vec<u8>,
+    output: &mut W,
+) -> Status
+    ensures count { W.faults output.old ≤ W.faults output.new }
+    ensures cause { ReplayCause result ⊥ (Rose (W.faults output.old) (W.faults output.new)) }
+    ensures refused { Written Schedule (out.old.items ++ refusal_text (code_of code) line) result (Rose (W.faults output.old) (W.faults output.new)) (W.taken output.old) (W.taken output.new)
+        ⊎ Written Memory (out.old.items ++ memory_line) result (Rose (W.faults output.old) (W.faults output.new)) (W.taken output.old) (W.taken output.new) }
+{
+    match print_refusal(alloc, code, line, out) {
+        Ok(()) => written(output, out, Status::Schedule),
+        Err(_) => out_of_memory(output, out),
+    }
+}
+
 // Writes what was printed and how the replay ended.
 fn ended<W: Sink>(
     alloc: Global,
@@ -255,10 +274,7 @@ fn ended<W: Sink>(
     match end {
         Ok(()) => written(output, out, Status::Done),
         Err(Stop::NoMemory) => out_of_memory(output, out),
-        Err(Stop::Refused(code)) => match print_refusal(alloc, code, line, out) {
-            Ok(()) => written(output, out, Status::Schedule),
-            Err(_) => out_of_memory(output, out),
-        },
+        Err(Stop::Refused(code)) => refused(alloc, code, line, out, output),
     }
 }
 

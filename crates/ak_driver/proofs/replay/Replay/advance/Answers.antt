@@ -1,0 +1,31 @@
+use Rattle.std.proofs.Common.{◌≡◌, ◌+◌, ◌<◌, ◌++◌, ℕ, List, Ok, Err, refl, sym, ◌∙◌, subst, arith}
+use Rattle.std.proofs.lemmas.Result.{err_from_is_err_and}
+use Rattle.ak_driver.specs.declared.replay.Replay.{Replay}
+use Rattle.ak_driver.specs.ReplayWords.{progress, progress_of, HeadingAnswers, Turns}
+use Rattle.ak_driver.proofs.ReplayLemmas.{advance_header, advance_refused, advance_event}
+use Rattle.ak_driver.proofs.replay.Replay.advance.Goals as goal
+
+pub returns-in_err-heading-in-Heading-clause-turn :
+    goal.returns-in_err-heading-in-Heading-clause-turn
+returns-in_err-heading-in-Heading-clause-turn c =
+    let p = err_from_is_err_and c.from_residual.result c.from_residual.ensures.1 in
+    advance_refused _ _ _ _ _ _ _ _ _ _ _ p.1 c.in-Heading.is c.requires.ready
+    (subst (λ e. HeadingAnswers (Err e) c.args.line.now c.in-Heading.draft c.heading.new.draft) (sym p.2) c.in_err-heading-in-Heading.ensures)
+    c.requires.few c.requires.open refl
+
+pub returns-then-branch-clause-turn : goal.returns-then-branch-clause-turn
+returns-then-branch-clause-turn c =
+    subst
+    (λ (r : Replay). (x : List ℕ) × Turns (progress_of c.args.self.now) c.args.line.now (progress r.stage (c.args.self.now.line + 1) r.steps) x × (c.args.out.now.items ≡ c.args.out.now.items ++ x))
+    (sym c.open.ensures)
+    (advance_header _ _ _ _ _ _ _ _ _ c.in-Heading.is c.requires.ready c.in_ok-heading-in-Heading.ensures.0
+    (sym (c.in_ok-heading-in-Heading.ensures.1.0 c.if-branch.true)) c.requires.few c.requires.open refl)
+
+pub returns-else-branch-clause-turn : goal.returns-else-branch-clause-turn
+returns-else-branch-clause-turn c =
+    advance_header _ _ _ _ _ _ _ _ _ c.in-Heading.is c.requires.ready c.in_ok-heading-in-Heading.ensures.0 refl c.requires.few c.requires.open refl
+
+pub returns-in_ok-running-in-Running-clause-turn :
+    goal.returns-in_ok-running-in-Running-clause-turn
+returns-in_ok-running-in-Running-clause-turn c =
+    advance_event c.args.self.now.stage (Ok c.in_ok-running-in-Running.field-0) _ _ _ c.in-Running.world c.running.new.world _ _ c.in-Running.is c.in_ok-running-in-Running.ensures c.requires.few c.requires.open (omega arith)
