@@ -78,4 +78,6 @@ pub fn run_without_words<W: Sink>(output: &mut W) -> Status
 }
 
 #[cfg(test)]
+mod fold_tests;
+#[cfg(test)]
 mod tests;
