@@ -1,11 +1,11 @@
 -- What a replay printed of the bytes that it read is what it promises of all that its source had left.
-use Rattle.std.proofs.Common.{◌≡◌, ◌⊎◌, inl, inr, ℕ, List, [], ◌++◌, Option, None, Some, refl, sym, subst}
+use Rattle.std.proofs.Common.{◌⊎◌, inl, inr, ℕ, List, [], ◌++◌, Option, None, Some, refl, sym, subst}
 use Rattle.std.specs.Prelude.{IfSome}
 use Rattle.std.specs.Io.KnownBytes.{IsAtEnd}
 use Rattle.ak_outside.specs.declared.status.Status.{Status}
 use Rattle.ak_outside.specs.declared.status.Status.TheVariants.{Done, Double, Usage, Configuration, Schedule, Read, Write, Memory, Link, Turns}
 use Rattle.ak_driver.specs.InputWords.{IsPast, Reads}
-use Rattle.ak_driver.specs.ReplayText.{IsReplay, IsFirstSteps, at_start}
+use Rattle.ak_driver.specs.ReplayText.{at_start}
 use Rattle.ak_driver.specs.ReplayPromise.{MayPrint, Prints, Promises, EndsSource, read_line_text}
 use Rattle.ak_driver.specs.StatusWords.{Written, memory_line}
 use Rattle.ak_driver.proofs.CutLemmas.{past_replay, past_not_done, past_first, first_none}

@@ -1,5 +1,5 @@
 -- What one line does to a replay, from what its calls answer.
-use Rattle.std.proofs.Common.{◌≡◌, ℕ, ◌+◌, ◌<◌, ◌≤◌, List, [], ◌∷◌, ◌++◌, Option, Some, None, Result, Ok, Err, IfSome, slice_get, length, refl, sym, ap, subst, inl, inr, ◌∙◌, arith, append-nil}
+use Rattle.std.proofs.Common.{◌≡◌, ℕ, ◌+◌, ◌<◌, ◌≤◌, List, [], ◌++◌, Option, Some, None, Result, Ok, Err, IfSome, slice_get, length, refl, sym, ap, subst, inl, inr, ◌∙◌, arith, append-nil}
 use Rattle.std.proofs.lemmas.Option.{slice_get-get_or}
 use Rattle.ak_schedule.specs.declared.settings.Header as header
 use Rattle.ak_schedule.specs.Draft.{Drafted, ReadsHeader}
@@ -14,8 +14,8 @@ use Rattle.ak_driver.specs.declared.replay.Stage.TheVariants.{Heading, Running}
 use Rattle.ak_driver.specs.StepText.{step_text}
 use Rattle.ak_driver.specs.World.{empty_world}
 use Rattle.ak_driver.specs.WorldWords.{Chronicle}
-use Rattle.ak_driver.specs.ReplayText.{Progress, Judged, Passes, Sets, Steps, Refuses, S13, SetsNext, IsNoHeader, WantsHeader, WantsEvent}
-use Rattle.ak_driver.specs.ReplayWords.{progress, IsReady, Turns, TurnAnswers, HeadingAnswers, RunningAnswers, Runs}
+use Rattle.ak_driver.specs.ReplayText.{Progress, Judged, Sets, Steps, Refuses, S13}
+use Rattle.ak_driver.specs.ReplayWords.{progress, IsReady, Turns, TurnAnswers, HeadingAnswers, RunningAnswers}
 
 -- a line that is the next header
 pub header_turn : (line before after : List ℕ) (old new : Drafted) (steps n read : ℕ) → ReadsHeader line old new → read ≡ new.read

@@ -1,5 +1,5 @@
 -- A list of one word is that word.
-use Rattle.std.proofs.Common.{◌≡◌, ◌≤◌, ◌<◌, ◌↔◌, ℕ, List, [], ◌∷◌, Bool, IsTrue, length, get_or, arith}
+use Rattle.std.proofs.Common.{◌≡◌, ◌≤◌, ◌↔◌, ℕ, List, [], ◌∷◌, Bool, IsTrue, length, get_or, arith}
 
 pub lone_word : (ws : List (List ℕ)) (w name : List ℕ) (r : Bool) → w ≡ get_or ws 0 w → 1 ≤ length ws → length ws ≤ 1 → IsTrue r ↔ (w ≡ name) → IsTrue r ↔ (ws ≡ name ∷ [])
 lone_word [] w name r e some few named = absurd (omega arith)

@@ -1,16 +1,15 @@
 -- The text of two schedules, from the definitions.
-use Rattle.std.proofs.Common.{◌≡◌, ℕ, ◌+◌, ◌^◌, ◌<◌, ◌≤◌, ◌⊎◌, List, [], ◌∷◌, ◌++◌, length, refl, sym, subst, ap, ◌∙◌, inl, inr, arith, lit<, lit≤, Some, None, Ok, Err, Bool, true, false, not, ◌&&◌, cond, zero, suc, ◌≢◌, get_or, unwrap_or, if◌then◌else◌}
-use Rattle.std.specs.Prelude.{codes, slice_get, IfSome, IsTrue}
+use Rattle.std.proofs.Common.{◌≡◌, ℕ, ◌+◌, ◌^◌, ◌<◌, ◌≤◌, List, [], ◌∷◌, ◌++◌, length, refl, sym, subst, ap, ◌∙◌, inl, arith, lit<, lit≤, Some, Ok, Bool, true, false, not, ◌&&◌, zero, suc, ◌≢◌, get_or, unwrap_or, if◌then◌else◌}
+use Rattle.std.specs.Prelude.{codes, slice_get, IfSome}
 use Rattle.std.specs.Fmt.{digits, decimal}
 use Rattle.std.specs.Prelude.{nat_le, map as list_map}
-use Rattle.std.specs.List.{AllZip, AllByRecursion, AllPairs, list_all}
+use Rattle.std.specs.List.{AllPairs, list_all}
 use Rattle.std.specs.FinMap as map
 use Rattle.ak_address.specs.Uniques.{no_one, with_one}
 use Rattle.ak_address.proofs.TableLaws.{get-empty, entries-insert-empty}
 use Rattle.ak_address.proofs.UniquesLaws.{has-no_one}
 use Rattle.ak_clock.specs.Version.{count, covers, relation_by}
-use Rattle.ak_address.specs.Unique.{Endpoint, Process, IsHost, IsAddress, IsUnique}
-use Rattle.ak_address.specs.Spelling.{SpellsAddress, IsNumber, address_text}
+use Rattle.ak_address.specs.Unique.{Endpoint, Process, IsAddress, IsUnique}
 use Rattle.ak_address.proofs.Spelled.{number_text_spells, address_text_spells}
 use Rattle.ak_schedule.specs.declared.settings.Strategy.{Strategy}
 use Rattle.ak_schedule.specs.declared.settings.Strategy.TheVariants.{StaticQuorum}
@@ -18,8 +17,8 @@ use Rattle.ak_schedule.specs.declared.settings.Header as header
 use Rattle.ak_schedule.specs.declared.event.Event.{Event}
 use Rattle.ak_schedule.specs.declared.event.Event.TheVariants.{Start, Found}
 use Rattle.ak_schedule.specs.Line.{words, most_bytes}
-use Rattle.ak_schedule.specs.Settings.{Setup, IsListing, IsWithin}
-use Rattle.ak_schedule.specs.Schedule.{headers, Sets, SetsHeader, SpellsEvent, SpellsListing, SpellsStrategy, SpellsSetting, SpellsNumber, event_text}
+use Rattle.ak_schedule.specs.Settings.{Setup}
+use Rattle.ak_schedule.specs.Schedule.{headers, SetsHeader, SpellsEvent, SpellsListing, SpellsStrategy, SpellsSetting, SpellsNumber}
 use Rattle.ak_schedule.proofs.Canonical.{canonical}
 use Rattle.ak_schedule.proofs.PassedOver.{no_event, no_header}
 use Rattle.ak_driver.specs.declared.member.Effect.TheVariants.{Joined}

@@ -1,11 +1,11 @@
 -- Lemmas of the definitions of a world: what a list of actions does by parts, how many nodes a run has and how many
 -- events each was given, and which node a process is.
-use Rattle.std.proofs.Common.{◌≡◌, is_ok, OnOk, ℕ, zero, suc, ◌+◌, ◌<◌, ◌≤◌, ◌^◌, leb, ltb, Bool, true, false, cond, not, ◌&&◌, ◌||◌, List, [], ◌∷◌, ◌++◌, map, set, length, Option, Some, None, is_some, option_map, Contains, IsTrue, ◌↔◌, ◌⊎◌, inl, inr, ⊎_elim, position, slice_get, slice_set, Result, Ok, Err, if◌then◌else◌, refl, sym, ap, ◌∙◌, subst, arith, append_assoc, one-add, le-leb, true≢false, length-append, take, get_or}
+use Rattle.std.proofs.Common.{◌≡◌, is_ok, OnOk, ℕ, zero, suc, ◌+◌, ◌<◌, ◌≤◌, ◌^◌, leb, ltb, Bool, true, false, cond, not, ◌||◌, List, [], ◌∷◌, ◌++◌, set, length, Option, Some, None, is_some, option_map, Contains, IsTrue, ◌↔◌, ◌⊎◌, inl, inr, ⊎_elim, position, slice_get, slice_set, Result, Ok, Err, if◌then◌else◌, refl, sym, ap, ◌∙◌, subst, arith, append_assoc, one-add, le-leb, true≢false, length-append, take, get_or}
 use Rattle.std.proofs.Math.ListN.{length-set}
-use Rattle.std.proofs.lemmas.Option.{same_Some, slice_get-map, slice_get-get_or, cond_some}
-use Rattle.std.proofs.lemmas.Bool.{leb-false, ltb-true, lt-leb}
+use Rattle.std.proofs.lemmas.Option.{same_Some, slice_get-map, slice_get-get_or}
+use Rattle.std.proofs.lemmas.Bool.{leb-false, lt-leb}
 use Rattle.std.proofs.lemmas.Bool.Decides.{nat_tests}
-use Rattle.std.proofs.lemmas.List.{take_more, map-set, map-append}
+use Rattle.std.proofs.lemmas.List.{take_more, map-set}
 use Rattle.std.proofs.lemmas.List.Folds.{list_any_at}
 use Rattle.std.proofs.lemmas.Cmp.{tied_itself}
 use Rattle.std.specs.declared.cmp.Ordering.{Ordering}
@@ -37,7 +37,7 @@ use Rattle.ak_driver.specs.History.{entries_of}
 use Rattle.ak_driver.specs.Node.{Outcome, started, is_for, is_listed, nothing, refused as refused_by, and_sends, update, on_join, on_received, on_gossip, on_message, rule, step}
 use Rattle.ak_driver.specs.NodeWords.{Machine}
 use Rattle.ak_driver.specs.World.{WorldState, Done, sent, recorded, gives, acts, arrives, delivers, starts, stepped, is_process, is_used, happens, after, run_from, run, empty_world, node_of, receiver_of, packet_at}
-use Rattle.ak_driver.specs.WorldWords.{states, IsReady, Went, Stayed, Scenes, Chronicle, Accepts, Refuses, Applies}
+use Rattle.ak_driver.specs.WorldWords.{states, IsReady, Went, Scenes}
 
 -- what actions send and record, by parts
 pub sent-append : (a b : List Action) → sent (a ++ b) ≡ sent a ++ sent b

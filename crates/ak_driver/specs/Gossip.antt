@@ -1,5 +1,5 @@
 -- What a node knows of the cluster, and what it makes of a gossip that comes (Akka's Cluster Specification, "Gossip" and "Gossip convergence").
-use Rattle.std.specs.Prelude.{◌≡◌, ℕ, ◌+◌, Bool, nat_lt, min, ◌^◌, ◌-◌, List, Result, Ok, Err, if◌then◌else◌, refl}
+use Rattle.std.specs.Prelude.{ℕ, nat_lt, min, ◌^◌, ◌-◌, List, Result, Ok, Err, if◌then◌else◌, refl}
 use Rattle.std.specs.FinMap as map
 use Rattle.std.specs.FinSet as set
 use Rattle.std.specs.Coded.{Coded, code_by, coded×, coded_ℕ}

@@ -1,8 +1,8 @@
 -- What happened to the members of a cluster, and what a version shows of it (Akka's Cluster Specification,
 -- "Gossip": a vector clock says which updates a view has seen).
-use Rattle.std.specs.Prelude.{◌≡◌, ℕ, ◌+◌, Bool, nat_le, ◌==◌, List, [], ◌∷◌, if◌then◌else◌}
+use Rattle.std.specs.Prelude.{◌≡◌, ℕ, ◌+◌, Bool, nat_le, List, [], ◌∷◌, if◌then◌else◌}
 use Rattle.std.specs.FinMap.{FinMap}
-use Rattle.ak_address.specs.Uniques.{UniqueSet, no_one, has, with_one}
+use Rattle.ak_address.specs.Uniques.{UniqueSet, no_one, with_one}
 use Rattle.std.specs.Ordering.{is_eq}
 use Rattle.ak_address.specs.Unique.{Process, unique_cmp}
 use Rattle.ak_clock.specs.Version.{count}

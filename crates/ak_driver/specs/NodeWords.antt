@@ -1,5 +1,5 @@
 -- Words of the contracts of a node's calls.
-use Rattle.std.specs.Prelude.{◌≡◌, ℕ, ◌≤◌, Bool, List}
+use Rattle.std.specs.Prelude.{◌≡◌, ◌≤◌, Bool, List}
 use Rattle.ak_clock.specs.Version.{count}
 use Rattle.ak_driver.specs.declared.node.State.{State}
 use Rattle.ak_driver.specs.declared.node.Action.{Action}

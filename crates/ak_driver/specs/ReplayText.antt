@@ -1,6 +1,6 @@
 -- What a replay of a recorded schedule prints, and its status: a relation over the schedule's lines, by the grammar of a line
 -- and the rules of the world.
-use Rattle.std.specs.Prelude.{◌≡◌, ℕ, ◌+◌, ◌<◌, ◌≤◌, ◌⊎◌, List, [], ◌∷◌, ◌++◌, codes, length, slice_get, Result, Ok, Err, IfSome}
+use Rattle.std.specs.Prelude.{◌≡◌, ℕ, ◌+◌, ◌<◌, ◌≤◌, ◌⊎◌, List, [], ◌∷◌, ◌++◌, codes, length, slice_get, Ok, Err, IfSome}
 use Rattle.std.specs.Fmt.{decimal}
 use Rattle.ak_schedule.specs.Line.{lines, IsPassedOver}
 use Rattle.ak_schedule.specs.Settings.{Setup}

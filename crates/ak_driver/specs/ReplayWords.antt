@@ -1,5 +1,5 @@
 -- Words of the contracts of a replay's calls.
-use Rattle.std.specs.Prelude.{◌≡◌, ℕ, ◌+◌, ◌<◌, ◌≤◌, ◌⊎◌, ◌↔◌, Option, List, [], ◌∷◌, ◌++◌, Bool, false, IsTrue, length, Result, Ok, Err, ⊤}
+use Rattle.std.specs.Prelude.{◌≡◌, ℕ, ◌+◌, ◌<◌, ◌≤◌, ◌⊎◌, ◌↔◌, Option, List, [], ◌∷◌, ◌++◌, Bool, false, IsTrue, length, Result, Ok, Err}
 use Rattle.ak_schedule.specs.Draft.{Drafted, ReadsHeader}
 use Rattle.ak_schedule.specs.Schedule.{SpellsEvent}
 use Rattle.ak_schedule.specs.declared.event.Event.{Event}

@@ -1,7 +1,7 @@
 -- Words of how a run ends.
 use Rattle.std.specs.Prelude.{◌≡◌, ◌⊎◌, List, ℕ, [], ◌∷◌, ◌++◌, Option, codes, ⊤}
 use Rattle.std.specs.Io.KnownBytes.{Appends}
-use Rattle.ak_outside.specs.Outside.{Rose, AppendsFront}
+use Rattle.ak_outside.specs.Outside.{AppendsFront}
 use Rattle.ak_outside.specs.declared.status.Status.{Status}
 use Rattle.ak_outside.specs.declared.status.Status.TheVariants.{Done, Double, Usage, Configuration, Schedule, Read, Write, Memory, Link, Turns}
 

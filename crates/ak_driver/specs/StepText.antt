@@ -3,7 +3,7 @@ use Rattle.std.specs.Prelude.{ℕ, ◌+◌, List, [], ◌∷◌, ◌++◌, lengt
 use Rattle.std.specs.Fmt.{decimal}
 use Rattle.std.specs.FinMap as finmap
 use Rattle.ak_address.specs.Uniques.{in_order}
-use Rattle.ak_address.specs.Unique.{Endpoint, Process, unique_cmp}
+use Rattle.ak_address.specs.Unique.{Process, unique_cmp}
 use Rattle.ak_address.specs.Spelling.{address_text, unique_text}
 use Rattle.ak_schedule.specs.Schedule.{event_text}
 use Rattle.ak_schedule.specs.declared.event.Event.{Event}

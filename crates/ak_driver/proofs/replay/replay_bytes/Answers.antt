@@ -1,9 +1,9 @@
-use Rattle.std.proofs.Common.{◌≡◌, ◌∷◌, ◌++◌, ℕ, List, sym, subst, ◌∙◌, arith}
+use Rattle.std.proofs.Common.{ℕ, List, sym, subst, ◌∙◌, arith}
 use Rattle.std.specs.Io.KnownBytes.{Appends}
 use Rattle.ak_outside.specs.Outside.{Rose, AppendsFront}
 use Rattle.ak_schedule.specs.Line.{lines}
 use Rattle.ak_driver.specs.ReplayWords.{progress_of}
-use Rattle.ak_driver.proofs.ReplayLoop.{Along, along_turn, along_flush, along_fails, along_stop, along_finish, progress_line}
+use Rattle.ak_driver.proofs.ReplayLoop.{along_turn, along_flush, along_fails, along_stop, along_finish, progress_line}
 use Rattle.ak_driver.proofs.replay.replay_bytes.Goals as goal
 
 pub returns-in-Err-clause-prints : goal.returns-in-Err-clause-prints

@@ -1,4 +1,4 @@
-use Rattle.std.proofs.Common.{◌≡◌, sym, ◌∙◌}
+use Rattle.std.proofs.Common.{sym, ◌∙◌}
 use Rattle.ak_driver.proofs.WorldLemmas.{recorded-kept, recorded-none, recorded-pushed}
 use Rattle.ak_driver.proofs.world.keep_entries.Goals as goal
 use Rattle.ak_driver.proofs.world.keep_entries.Goals.{in-Update+in_ok-copy+in_ok-push, in_default}

@@ -1,4 +1,4 @@
-use Rattle.std.proofs.Common.{◌≡◌, ◌<◌, List, ◌++◌, length, refl, sym, ap, ◌∙◌, get_or-set_same}
+use Rattle.std.proofs.Common.{◌≡◌, ◌<◌, List, ◌++◌, length, refl, ap, ◌∙◌, get_or-set_same}
 use Rattle.ak_driver.specs.declared.node.Action.{Action}
 use Rattle.ak_driver.specs.NodeWords.{Machine}
 use Rattle.ak_driver.specs.World.{sent, recorded}

@@ -1,4 +1,4 @@
-use Rattle.std.proofs.Common.{◌≡◌, subst, length, position, refl, sym, ap, ◌∙◌, arith}
+use Rattle.std.proofs.Common.{◌≡◌, subst, position, refl, sym, ap, ◌∙◌, arith}
 use Rattle.std.specs.List.{list_any}
 use Rattle.std.specs.Ordering.{is_eq}
 use Rattle.ak_address.specs.Unique.{Endpoint, Process, address_cmp}

@@ -1,4 +1,4 @@
-use Rattle.std.proofs.Common.{◌≡◌, false, ◌<◌, ◌^◌, ◌++◌, ◌∷◌, [], List, length, sym, subst, ap, ◌∙◌, rules, arith}
+use Rattle.std.proofs.Common.{◌≡◌, false, ◌<◌, ◌^◌, ◌++◌, ◌∷◌, [], List, length, sym, subst, ap, ◌∙◌, arith}
 use Rattle.std.proofs.lemmas.Grind.{common_steps}
 use Rattle.ak_schedule.specs.declared.event.Event.{Event}
 use Rattle.ak_driver.specs.World.{run}
