@@ -1,5 +1,6 @@
 -- What a change of the sorted list behind a table makes of the table.
-use Rattle.std.proofs.Common.{◌≡◌, ℕ, Bool, true, false, cond, not, T, IsTrue, List, None, Result, Ok, Err, MatchResult, refl, sym, ap, ◌∙◌, subst}
+use Rattle.std.proofs.Common.{◌≡◌, ℕ, Bool, true, false, cond, not, T, IsTrue, List, [], ◌∷◌, ◌<◌, length, set, get_or, option_map, is_some, None, Result, Ok, Err, MatchResult, refl, sym, ap, ◌∙◌, subst, arith}
+use Rattle.std.proofs.lemmas.Option.{slice_get-get_or}
 use Rattle.std.specs.Ordering.{is_eq, eq_by_cmp}
 use Rattle.std.specs.Cmp.{alike_right, eq_by_cmp_equiv}
 use Rattle.std.specs.FinMap as map
@@ -14,6 +15,11 @@ use Rattle.ak_address.proofs.TableLaws.{is_true, true_is, same_table, rows_of, r
 turned : {A : Type 0} (b : Bool) (x y : A) → cond (not b) x y ≡ cond b y x
 turned true x y = refl
 turned false x y = refl
+
+-- a list that has a place has a row
+first_row : {A : Type 0} (es : List A) (n : ℕ) → n < length es → A
+first_row [] n lt = absurd (omega arith)
+first_row (e ∷ es) n lt = e
 
 -- a list in order that is seen as a table
 pub record IsBehind {X : Type 0} (es : List (Process × X)) (m : map.FinMap unique_cmp X) : Type 0 where
@@ -33,6 +39,14 @@ module _ {X : Type 0} where
 
     pub behind_put : (q : Process) (v : X) (fs : List (Process × X)) → map.put unique_cmp q v es ≡ fs → IsBehind fs (map.insert m q v)
     behind_put q v fs is = behind_rows fs _ (map.entries-insert unique_total m q v ∙ ap (map.put unique_cmp q v) rows ∙ is)
+
+    -- a new value at the place of a key
+    pub behind_renewed : (q k : Process) (v : X) (d : Process × X) (n : ℕ) → Stands unique_cmp q es n → k ≡ (get_or es n d).0 → IsBehind (set es n (k, v)) (map.insert m q v)
+    behind_renewed q k v d n s is = behind_put q v _ (s.put_there v ∙ ap (λ k. set es n (k, v)) (sym (is ∙ s.held d)))
+
+    pub has_at_place : (q : Process) (n : ℕ) → Stands unique_cmp q es n → true ≡ map.contains_key m q
+    has_at_place q n s =
+        ap is_some (ap (option_map (λ e. e.1)) (sym (slice_get-get_or es n (first_row es n s.in_range) s.in_range)) ∙ sym s.found ∙ found_in q)
 
     pub behind_without : (q : Process) (fs : List (Process × X)) → where_key unique_cmp (λ x. not (eq_by_cmp unique_cmp q x)) es ≡ fs → IsBehind fs (map.remove m q)
     behind_without q fs is =

@@ -1,5 +1,5 @@
 -- What is found in a list of rows in order, at the place of a key and in two lists that are woven.
-use Rattle.std.proofs.Common.{◌≡◌, ℕ, zero, suc, ◌+◌, ◌<◌, ◌≤◌, Bool, true, false, not, cond, ◌&&◌, T, List, [], ◌∷◌, ◌++◌, length, drop, set, insert, remove, slice_get, Option, Some, None, is_some, unwrap_or, ◌≢◌, option_map, Result, Ok, Err, MatchResult, ◌⊎◌, inl, inr, drop_of_length-le, append-nil, refl, sym, ap, ◌∙◌, subst, arith}
+use Rattle.std.proofs.Common.{◌≡◌, ℕ, zero, suc, ◌+◌, ◌<◌, ◌≤◌, Bool, true, false, not, cond, ◌&&◌, T, List, [], ◌∷◌, ◌++◌, length, drop, set, insert, remove, get_or, slice_get, Option, Some, None, is_some, unwrap_or, ◌≢◌, option_map, Result, Ok, Err, MatchResult, ◌⊎◌, inl, inr, drop_of_length-le, append-nil, refl, sym, ap, ◌∙◌, subst, arith}
 use Rattle.std.specs.declared.cmp.Ordering.{Ordering}
 use Rattle.std.specs.declared.cmp.Ordering.TheVariants.{Less, Equal, Greater}
 use Rattle.std.specs.Ordering.{is_lt, is_eq, ordering_reverse, eq_by_cmp}
@@ -46,6 +46,7 @@ module _ {K X : Type 0} (R : K → K → Ordering) where
   -- a key that a list has at place n
   pub record Stands (q : K) (es : List (K × X)) (n : ℕ) : Type 0 where
     pub in_range : n < length es
+    pub held : (d : K × X) → (get_or es n d).0 ≡ q
     pub found : find R q es ≡ option_map (λ e. e.1) (slice_get es n)
     pub put_there : (v : X) → put R q v es ≡ set es n (q, v)
     pub without : where_key R (λ x. not (eq_by_cmp R q x)) es ≡ remove es n
@@ -61,6 +62,7 @@ module _ {K X : Type 0} (R : K → K → Ordering) where
   stands_later : (q : K) (e : K × X) (es : List (K × X)) (n : ℕ) → R q e.0 ≡ Greater → Stands q es n → Stands q (e ∷ es) (suc n)
   stands_later q e es n above s = record {
     in_range = omega (arith, s.in_range);
+    held = λ d. s.held d;
     found = ap (λ r. cond (is_eq r) (Some e.1) (find R q es)) above ∙ s.found;
     put_there = λ v. ap (λ r. by_order r ((q, v) ∷ e ∷ es) ((e.0, v) ∷ es) (e ∷ put R q v es)) above ∙ ap (λ l. e ∷ l) (s.put_there v);
     without = ap (λ r. cond (not (is_eq r)) (e ∷ where_key R (λ x. not (eq_by_cmp R q x)) es) (where_key R (λ x. not (eq_by_cmp R q x)) es)) above ∙ ap (λ l. e ∷ l) s.without;
@@ -105,6 +107,7 @@ module _ {K X : Type 0} (R : K → K → Ordering) where
           let rest = where_key R (λ x. not (eq_by_cmp R q x)) es in
           record {
             in_range = omega arith;
+            held = λ d. sym (same q e.0 tied);
             found = ap (λ r. cond (is_eq r) (Some e.1) (find R q es)) tied;
             put_there = λ v. ap (λ r. by_order r ((q, v) ∷ e ∷ es) ((e.0, v) ∷ es) (e ∷ put R q v es)) tied ∙ ap (λ k. (k, v) ∷ es) (sym (same q e.0 tied));
             without = ap (λ r. cond (not (is_eq r)) (e ∷ rest) rest) tied ∙ without_below q es (below_tied q e.0 es tied h);

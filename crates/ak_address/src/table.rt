@@ -1,4 +1,4 @@
-ghost use Rattle.std.specs.Prelude.{◌≡◌, IfOk, OnOk, OnErr, IsOk, IsSome, [], ◌∷◌, ◌++◌, slice_get, option_map, option_copied};
+ghost use Rattle.std.specs.Prelude.{◌≡◌, IfOk, OnOk, OnErr, IsOk, IsSome, [], ◌∷◌, ◌++◌, slice_get, option_map, option_copied, if◌then◌else◌};
 ghost use Rattle.std.specs.FinMap as map;
 ghost use Rattle.ak_address.specs.Unique.{Process, unique_cmp};
 ghost use Rattle.ak_address.specs.Rows.{place, woven};
@@ -91,6 +91,20 @@ impl<V: Drop> Table<V> {
                 Ok(())
             }
             Err(place) => Ok(self.entries.insert(place, (who, value))?),
+        }
+    }
+
+    /// Gives the process this value where the table has it; whether it has. Takes no memory.
+    pub fn update(&mut self, who: &Unique, value: V) -> bool
+        ensures has { result ≡ map.contains_key self.old who.now }
+        ensures after { self.new ≡ (if result then map.insert self.old who.now value else self.old) }
+    {
+        match place_of(&self.entries, who) {
+            Ok(place) => {
+                self.entries[place].1 = value;
+                true
+            }
+            Err(_) => false,
         }
     }
 

@@ -1,5 +1,6 @@
 -- What versions count after a merge and a bump, and the order that covering is.
-use Rattle.std.proofs.Common.{◌≡◌, ◌≢◌, ℕ, zero, suc, ◌+◌, ◌<◌, ◌≤◌, max, leb, Bool, true, false, ◌&&◌, ◌↔◌, inl, inr, T, List, [], ◌∷◌, Option, Some, None, is_some, unwrap_or, slice_get, Result, Ok, Err, OnOk, OnErr, refl, sym, ap, ◌∙◌, subst, arith, true≢false, leb-true, le-leb}
+use Rattle.std.proofs.Common.{◌≡◌, ◌≢◌, ℕ, zero, suc, ◌+◌, ◌<◌, ◌≤◌, max, leb, Bool, true, false, ◌&&◌, ◌↔◌, inl, inr, T, List, [], ◌∷◌, Option, Some, None, is_some, unwrap_or, slice_get, Result, Ok, Err, OnOk, OnErr, refl, sym, ap, ◌∙◌, subst, arith, true≢false, leb-true, leb-false, le-leb, ◌⊎◌, if◌then◌else◌}
+use Rattle.std.proofs.lemmas.Bool.{lt-leb}
 use Rattle.std.specs.List.{list_all}
 use Rattle.std.specs.FinMap as map
 use Rattle.ak_address.specs.Unique.{Process}
@@ -8,7 +9,7 @@ use Rattle.ak_address.proofs.TableLaws.{same_table, get-empty, get-insert_here, 
 use Rattle.ak_clock.specs.declared.version.TheConstants.{BOUND}
 use Rattle.ak_clock.specs.declared.version.Relation.{Relation}
 use Rattle.ak_clock.specs.declared.version.Relation.TheVariants.{Same, Before, After, Concurrent}
-use Rattle.ak_clock.specs.Version.{Counts, count, IsVersion, Covers, Relates, covers, relation_by, relation, merged, bumped}
+use Rattle.ak_clock.specs.Version.{Counts, count, IsVersion, Covers, Relates, covers, relation_by, relation, merged, bumped, reaching}
 
 -- ---- one process
 max_at : (a b : Option ℕ) → unwrap_or (joined_at max a b) 0 ≡ max (unwrap_or a 0) (unwrap_or b 0)
@@ -94,6 +95,60 @@ bumped_is_version v a p room = record { no_zero = no_zero; bounded = bounded }
     bounded u = elim (same_or_apart u a) [
       | inl same ↦ subst (λ k. count (bumped v a) k ≤ BOUND) (sym same) (omega (arith, count-bumped_author v a, room))
       | inr apart ↦ omega (arith, count-bumped_others v a u apart, p.bounded u)
+    ]
+
+-- ---- at least so many
+reaching-by : Bool → Counts → Process → ℕ → Counts
+reaching-by b v u n = if b then v else map.insert v u n
+
+pub reaching-stays : (v : Counts) (u : Process) (n : ℕ) → n ≤ count v u → reaching v u n ≡ v
+unfolding reaching-by
+reaching-stays v u n le = ap (λ b. reaching-by b v u n) (le-leb n (count v u) le)
+
+pub reaching-rises : (v : Counts) (u : Process) (n : ℕ) → count v u < n → reaching v u n ≡ map.insert v u n
+unfolding reaching-by
+reaching-rises v u n lt = ap (λ b. reaching-by b v u n) (lt-leb n (count v u) lt)
+
+pub reaching-cases : (v : Counts) (u : Process) (n : ℕ) → (reaching v u n ≡ v) × (n ≤ count v u) ⊎ (reaching v u n ≡ map.insert v u n) × (count v u < n)
+reaching-cases v u n =
+    elim (leb n (count v u)) as (λ b. leb n (count v u) ≡ b → (reaching v u n ≡ v) × (n ≤ count v u) ⊎ (reaching v u n ≡ map.insert v u n) × (count v u < n)) [
+      | true ↦ λ h. let le = leb-true n (count v u) h in inl (reaching-stays v u n le, le)
+      | false ↦ λ h. let lt = leb-false n (count v u) h in inr (reaching-rises v u n lt, lt)
+    ] refl
+
+pub count-reaching_there : (v : Counts) (u : Process) (n : ℕ) → count (reaching v u n) u ≡ max n (count v u)
+count-reaching_there v u n = elim (reaching-cases v u n) [
+  | inl stays ↦ ap (λ (w : Counts). count w u) stays.0 ∙ omega (arith, stays.1)
+  | inr rises ↦ ap (λ (w : Counts). count w u) rises.0 ∙ ap (λ o. unwrap_or o 0) (get-insert_here v u n) ∙ omega (arith, rises.1)
+]
+
+pub count-reaching_others : (v : Counts) (u q : Process) (n : ℕ) → q ≢ u → count (reaching v u n) q ≡ count v q
+count-reaching_others v u q n apart = elim (reaching-cases v u n) [
+  | inl stays ↦ ap (λ (w : Counts). count w q) stays.0
+  | inr rises ↦ ap (λ (w : Counts). count w q) rises.0 ∙ ap (λ o. unwrap_or o 0) (get-insert_elsewhere v u n q apart)
+]
+
+-- a count above another is a count of a version
+pub inserted_is_version : (v : Counts) (a : Process) (n : ℕ) → IsVersion v → count v a < n → n ≤ BOUND → IsVersion (map.insert v a n)
+inserted_is_version v a n p lt le = record { no_zero = none; bounded = within }
+  where
+    none : (u : Process) → map.get (map.insert v a n) u ≢ Some 0
+    none u e = elim (same_or_apart u a) [
+      | inl same ↦
+          let zero_count : count (map.insert v a n) u ≡ 0 = ap (λ o. unwrap_or o 0) e in
+          let is : count (map.insert v a n) u ≡ n = ap (count (map.insert v a n)) same ∙ ap (λ o. unwrap_or o 0) (get-insert_here v a n) in
+          omega (arith, zero_count, is, lt)
+      | inr apart ↦ p.no_zero u (sym (get-insert_elsewhere v a n u apart) ∙ e)
+    ]
+
+    within : (u : Process) → count (map.insert v a n) u ≤ BOUND
+    within u = elim (same_or_apart u a) [
+      | inl same ↦
+          let is : count (map.insert v a n) u ≡ n = ap (count (map.insert v a n)) same ∙ ap (λ o. unwrap_or o 0) (get-insert_here v a n) in
+          omega (arith, is, le)
+      | inr apart ↦
+          let is : count (map.insert v a n) u ≡ count v u = ap (λ o. unwrap_or o 0) (get-insert_elsewhere v a n u apart) in
+          omega (arith, is, p.bounded u)
     ]
 
 -- ---- covering is an order

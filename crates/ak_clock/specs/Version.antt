@@ -1,6 +1,6 @@
 -- Versions (Akka's Cluster Specification, "Gossip": vector clocks): for each process, how many entries of its
 -- history are seen.
-use Rattle.std.specs.Prelude.{◌≡◌, ◌≢◌, ℕ, ◌+◌, ◌≤◌, max, Bool, true, false, Some, unwrap_or, nat_le}
+use Rattle.std.specs.Prelude.{◌≡◌, ◌≢◌, ℕ, ◌+◌, ◌≤◌, max, Bool, true, false, Some, unwrap_or, nat_le, if◌then◌else◌}
 use Rattle.std.specs.List.{list_all}
 use Rattle.std.specs.FinMap as map
 use Rattle.ak_address.specs.Unique.{Process, unique_cmp}
@@ -58,3 +58,7 @@ merged v w = joined max v w
 -- one more entry of this process
 abbrev pub bumped : Counts → Process → Counts
 bumped v u = map.insert v u (count v u + 1)
+
+-- at least so many entries of this process
+abbrev pub reaching : Counts → Process → ℕ → Counts
+reaching v u n = if nat_le n (count v u) then v else map.insert v u n

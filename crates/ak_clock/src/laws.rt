@@ -1,6 +1,6 @@
-ghost use Rattle.std.specs.Prelude.{◌≡◌, ◌≢◌, ◌+◌, ◌↔◌, max};
+ghost use Rattle.std.specs.Prelude.{◌≡◌, ◌≢◌, ℕ, ◌+◌, ◌↔◌, max};
 ghost use Rattle.ak_address.specs.Unique.{Process};
-ghost use Rattle.ak_clock.specs.Version.{Counts, count, Covers, IsVersion, relation, Relates, merged, bumped};
+ghost use Rattle.ak_clock.specs.Version.{Counts, count, Covers, IsVersion, relation, Relates, merged, bumped, reaching};
 
 use crate::version::Relation;
 
@@ -30,6 +30,12 @@ pub fn merge_is_a_join()
 pub fn bump_raises_one_count()
     ensures author { (v : Counts) (u : Process) → count (bumped v u) u ≡ count v u + 1 }
     ensures others { (v : Counts) (u q : Process) → q ≢ u → count (bumped v u) q ≡ count v q }
+{}
+
+/// Reaching a count raises the count of one process to it, where it was less, and keeps all others.
+pub fn reaching_raises_one_count()
+    ensures there { (v : Counts) (u : Process) (n : ℕ) → count (reaching v u n) u ≡ max n (count v u) }
+    ensures others { (v : Counts) (u q : Process) (n : ℕ) → q ≢ u → count (reaching v u n) q ≡ count v q }
 {}
 
 /// Of the four relations exactly one holds between two versions, the one that `relation` names.

@@ -9,6 +9,6 @@ mod version_tests;
 
 pub use laws::{
     bump_raises_one_count, covering_is_an_order, merge_is_a_join, merge_is_the_least_cover,
-    relations_are_exact,
+    reaching_raises_one_count, relations_are_exact,
 };
 pub use version::{BOUND, Relation, Version};

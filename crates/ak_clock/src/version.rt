@@ -1,6 +1,6 @@
-ghost use Rattle.std.specs.Prelude.{◌≡◌, ◌+◌, ◌<◌, ◌≤◌, ◌↔◌, IfOk, OnOk, OnErr, IfSome, IsTrue, slice_get, option_map};
+ghost use Rattle.std.specs.Prelude.{◌≡◌, ◌+◌, ◌<◌, ◌≤◌, ◌↔◌, IfOk, OnOk, OnErr, IsOk, IfSome, IsTrue, slice_get, option_map};
 ghost use Rattle.std.specs.FinMap as map;
-ghost use Rattle.ak_clock.specs.Version.{count, covers, Covers, relation, relation_by, Relates, merged, bumped};
+ghost use Rattle.ak_clock.specs.Version.{count, covers, Covers, relation, relation_by, Relates, merged, bumped, reaching};
 ghost use Rattle.ak_clock.specs.Walk.{reached};
 
 use ak_address::{Table, Unique};
@@ -126,6 +126,22 @@ impl Version {
         let who = author.copy(alloc)?;
         self.counts.insert(who, next)?;
         Ok(next)
+    }
+
+    /// At least so many entries of this process, up to `BOUND`. After an error the version is as it was; where it counts
+    /// as many already it stays as it is and takes no memory.
+    pub fn reach(&mut self, alloc: Global, who: &Unique, least: u64) -> Result<(), AllocError>
+        requires { least ≤ BOUND }
+        ensures ok { OnOk result (self.new ≡ reaching self.old who.now least) }
+        ensures err { OnErr result (self.new ≡ self.old) }
+        ensures reached { least ≤ count self.old who.now → IsOk result }
+    {
+        if least <= count_in(&self.counts, who) {
+            return Ok(());
+        }
+        let who = who.copy(alloc)?;
+        self.counts.insert(who, least)?;
+        Ok(())
     }
 }
 

@@ -86,3 +86,16 @@ fn versions_are_merged(rt: HostRuntime) -> Result<(), Fail> {
     }
     Ok(())
 }
+
+// A count is raised where it was less, and else stays.
+#[test]
+fn counts_are_reached(rt: HostRuntime) -> Result<(), Fail> {
+    let alloc = rt.alloc();
+    let who = process(alloc, 1)?;
+    for (least, wanted) in [(0, 2), (2, 2), (5, 5)] {
+        let mut version = seen(alloc, (2, 1))?;
+        version.reach(alloc, &who, least)?;
+        assert_eq!(rt; [row(&version, 0), row(&version, 1)], [(1, wanted), (2, 1)]);
+    }
+    Ok(())
+}
