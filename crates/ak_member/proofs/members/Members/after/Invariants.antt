@@ -1,0 +1,7 @@
+use Rattle.std.proofs.Common.{◌≡◌, drop}
+use Rattle.ak_member.specs.View.{after_effects}
+use Rattle.ak_member.proofs.members.Members.after.Given as goal
+
+-- the effects that are left make of the members what all of them make
+abbrev pub invariant-effects : goal.invariant-effects
+invariant-effects l = after_effects (drop l.effect-index l.effect-items) l.members ≡ after_effects l.effects l.fn.self

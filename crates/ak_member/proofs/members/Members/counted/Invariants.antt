@@ -1,0 +1,11 @@
+use Rattle.std.proofs.Common.{◌≤◌, drop, option_copied}
+use Rattle.std.specs.FinMap as map
+use Rattle.ak_member.specs.Age.{distinct, counted_addresses}
+use Rattle.ak_member.proofs.CountedLaws.{Counting}
+use Rattle.ak_member.proofs.members.Members.counted.Given as goal
+
+abbrev pub invariant-rows : goal.invariant-rows
+invariant-rows l = record {
+  few : l.count ≤ l.row;
+  counting : Counting (option_copied l.last) l.count (drop l.row (map.entries l.self)) (distinct (counted_addresses l.self));
+}

@@ -1,0 +1,4 @@
+pub mod Age
+pub mod Places
+pub mod Standing
+pub mod View

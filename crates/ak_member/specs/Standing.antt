@@ -1,0 +1,97 @@
+-- What a view knows of each process, and what two views of it come to (Akka's Cluster Specification, "Membership
+-- Lifecycle" and "Gossip": a status only rises, and a process that was removed never comes back).
+use Rattle.std.specs.Prelude.{ℕ, min, nat_lt, ◌==◌, Bool, ◌||◌, List, [], ◌∷◌, Option, None, Some, is_some, if◌then◌else◌}
+use Rattle.std.specs.FinMap as map
+use Rattle.ak_address.specs.Unique.{Process, unique_cmp}
+use Rattle.ak_address.specs.Table.{value_with, joined}
+use Rattle.ak_member.specs.declared.status.Status.{Status}
+use Rattle.ak_member.specs.declared.status.Status.TheVariants.{Joining, Up, Leaving, Exiting, Down}
+use Rattle.ak_member.specs.declared.standing.Standing.{Standing}
+use Rattle.ak_member.specs.declared.standing.Standing.TheVariants.{Member, Buried}
+
+abbrev pub rank : Status → ℕ
+rank Joining = 1
+rank Up = 2
+rank Leaving = 3
+rank Exiting = 4
+rank Down = 5
+
+abbrev pub greater_status : Status → Status → Status
+greater_status one other = if nat_lt (rank one) (rank other) then other else one
+
+-- the least of two numbers that is not 0, and 0 where both are
+abbrev pub older_number : ℕ → ℕ → ℕ
+older_number one other = if one == 0 then other else (if other == 0 then one else min one other)
+
+-- A tombstone stays one, confirmed where either is. A member has the greater status and the older number.
+abbrev pub joined_standing : Standing → Standing → Standing
+joined_standing (Member status number) (Member other other_number) = Member (greater_status status other) (older_number number other_number)
+joined_standing (Member status number) (Buried confirmed) = Buried confirmed
+joined_standing (Buried confirmed) (Member status number) = Buried confirmed
+joined_standing (Buried confirmed) (Buried other) = Buried (confirmed || other)
+
+-- who is a member or a tombstone; of everybody else nothing is known
+abbrev pub Standings : Type 0
+Standings = map.FinMap unique_cmp Standing
+
+abbrev pub nobody : Standings
+nobody = map.empty
+
+-- what is known of each process by both
+abbrev pub joined_standings : Standings → Standings → Standings
+joined_standings s t = joined joined_standing s t
+
+-- the same of one process, joined with what is known of it
+abbrev pub known : Standings → Process → Standing → Standings
+known s who standing = map.insert s who (value_with joined_standing (map.get s who) standing)
+
+-- a member has at least this status; a tombstone stays one
+abbrev pub raised : Standings → Process → Status → ℕ → Standings
+raised s who status number = known s who (Member status number)
+
+-- a process is removed
+abbrev pub buried : Standings → Process → Bool → Standings
+buried s who confirmed = known s who (Buried confirmed)
+
+-- a member's status and number, and whether a tombstone is confirmed
+abbrev pub as_member : Standing → Option (Status × ℕ)
+as_member (Member status number) = Some (status, number)
+as_member (Buried confirmed) = None
+
+abbrev pub as_tombstone : Standing → Option Bool
+as_tombstone (Member status number) = None
+as_tombstone (Buried confirmed) = Some confirmed
+
+abbrev pub member_of : Option Standing → Option (Status × ℕ)
+member_of None = None
+member_of (Some standing) = as_member standing
+
+abbrev pub tombstone_of : Option Standing → Option Bool
+tombstone_of None = None
+tombstone_of (Some standing) = as_tombstone standing
+
+abbrev pub is_member : Standings → Process → Bool
+is_member s who = is_some (member_of (map.get s who))
+
+abbrev pub is_tombstone : Standings → Process → Bool
+is_tombstone s who = is_some (tombstone_of (map.get s who))
+
+-- the rows that have one, in their order
+abbrev pub row_of : {X : Type 0} → Process → Option X → List (Process × X) → List (Process × X)
+row_of who None rows = rows
+row_of who (Some x) rows = (who, x) ∷ rows
+
+abbrev pub member_rows : List (Process × Standing) → List (Process × (Status × ℕ))
+member_rows [] = []
+member_rows (row ∷ rows) = row_of row.0 (as_member row.1) (member_rows rows)
+
+abbrev pub tombstone_rows : List (Process × Standing) → List (Process × Bool)
+tombstone_rows [] = []
+tombstone_rows (row ∷ rows) = row_of row.0 (as_tombstone row.1) (tombstone_rows rows)
+
+-- the members, and the tombstones, in the order of processes
+abbrev pub members_of : Standings → List (Process × (Status × ℕ))
+members_of s = member_rows (map.entries s)
+
+abbrev pub tombstones_of : Standings → List (Process × Bool)
+tombstones_of s = tombstone_rows (map.entries s)

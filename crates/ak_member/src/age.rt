@@ -1,0 +1,151 @@
+ghost use Rattle.std.specs.Prelude.{◌≡◌, ◌<◌, ◌^◌, [], ◌∷◌, ◌++◌, IfOk, OnOk, slice_get, option_map, option_to_list, option_copied};
+ghost use Rattle.std.specs.Prelude as list;
+ghost use Rattle.std.specs.List.{list_any};
+ghost use Rattle.std.specs.Ordering.{is_eq};
+ghost use Rattle.std.specs.FinMap as map;
+ghost use Rattle.ak_address.specs.Unique.{address_cmp};
+ghost use Rattle.ak_member.specs.Standing.{member_rows, members_of};
+ghost use Rattle.ak_member.specs.Age.{counted_rows, least_row, oldest, IsOldest, distinct, counted_addresses, IsByAge};
+ghost use Rattle.ak_member.specs.Places.{placed_from};
+
+use crate::members::{Member, Members};
+use ak_address::Unique;
+use std::alloc::{AllocError, Global};
+
+impl Members {
+    /// The oldest member: of the Up and Leaving ones that with the least up number, at equal numbers the first in the
+    /// order of processes; none exactly where no member is Up or Leaving (Akka's Cluster Singleton runs on it). Takes no
+    /// memory.
+    pub fn oldest(&self) -> Option<&Unique>
+        ensures value { option_copied result ≡ oldest self.now }
+        ensures meaning { IsOldest self.now (option_copied result) }
+    {
+        match oldest_row(self) {
+            Some((unique, _)) => Some(unique),
+            None => None,
+        }
+    }
+
+    /// The places among the members of the Up and Leaving ones, the oldest first, each once. Only memory can fail.
+    pub fn by_age(&self, alloc: Global) -> Result<Vec<u32>, AllocError>
+        requires { map.len self.now < 2 ^ 32 }
+        ensures { IfOk result (λ places. IsByAge self.now places.items) }
+    {
+        let mut counted = counted_places(alloc, self)?;
+        counted.sort_unstable();
+        places_of(alloc, &counted)
+    }
+
+    /// How many different addresses the Up and Leaving members have. Takes no memory.
+    pub fn counted(&self) -> u32
+        requires { map.len self.now < 2 ^ 32 }
+        ensures { result ≡ distinct (counted_addresses self.now) }
+    {
+        let mut count = 0;
+        let mut last = None;
+        'rows: for row in 0..self.uniques() {
+            if let Some((unique, _)) = counted_at(self, row) {
+                if !shares_address(last, unique) {
+                    count += 1;
+                }
+                last = Some(unique);
+            }
+        }
+        count
+    }
+}
+
+// The process and the up number of the member at a row, where there is one that counts.
+fn counted_at(members: &Members, row: usize) -> Option<(&Unique, u64)>
+    ensures { option_to_list (option_map (λ r. (r.0.now, r.1)) result) ≡ counted_rows (member_rows (option_to_list (slice_get (map.entries members.now) row))) }
+{
+    match members.member_at_row(row) {
+        Some(member) => counted_one(&member),
+        None => None,
+    }
+}
+
+// The process and the up number of a member that counts.
+fn counted_one<'a>(member: &Member<'a>) -> Option<(&'a Unique, u64)>
+    ensures { option_to_list (option_map (λ r. (r.0.now, r.1)) result) ≡ counted_rows ((member.now.unique.now, (member.now.status, member.now.up_number)) ∷ []) }
+{
+    if member.status.counts() {
+        return Some((member.unique, member.up_number));
+    }
+    None
+}
+
+fn oldest_row(members: &Members) -> Option<(&Unique, u64)>
+    ensures { option_map (λ r. (r.0.now, r.1)) result ≡ least_row (counted_rows (members_of members.now)) }
+{
+    let mut oldest = None;
+    'rows: for row in 0..members.uniques() {
+        oldest = older(oldest, counted_at(members, row));
+    }
+    oldest
+}
+
+// The one with the lesser number, at equal numbers the first.
+fn older<'a>(
+    first: Option<(&'a Unique, u64)>,
+    second: Option<(&'a Unique, u64)>,
+) -> Option<(&'a Unique, u64)>
+    ensures { option_map (λ r. (r.0.now, r.1)) result ≡ least_row (option_to_list (option_map (λ r. (r.0.now, r.1)) first.entry) ++ option_to_list (option_map (λ r. (r.0.now, r.1)) second.entry)) }
+{
+    match (first, second) {
+        (Some((one, number)), Some((other, later))) => {
+            if later < number {
+                return Some((other, later));
+            }
+            Some((one, number))
+        }
+        (Some(first), None) => Some(first),
+        (None, second) => second,
+    }
+}
+
+// Whether the last process has the address of this one.
+fn shares_address(last: Option<&Unique>, unique: &Unique) -> bool
+    ensures { result ≡ list_any (λ u. is_eq (address_cmp u.address unique.now.address)) (option_to_list (option_copied last.entry)) }
+{
+    match last {
+        Some(last) => last.address.compare(&unique.address).is_eq(),
+        None => false,
+    }
+}
+
+// The up number and the place of each member that counts, in the order of places.
+fn counted_places(alloc: Global, members: &Members) -> Result<Vec<(u64, u32)>, AllocError>
+    requires { map.len members.now < 2 ^ 32 }
+    ensures { IfOk result (λ counted. counted.items ≡ placed_from 0 (members_of members.now)) }
+{
+    let mut counted = Vec::new(alloc);
+    let mut place = 0;
+    'rows: for row in 0..members.uniques() {
+        if let Some(member) = members.member_at_row(row) {
+            push_counted(&mut counted, &member, place)?;
+            place += 1;
+        }
+    }
+    Ok(counted)
+}
+
+// Appends the up number and the place of a member that counts.
+fn push_counted(
+    counted: &mut Vec<(u64, u32)>,
+    member: &Member<'_>,
+    place: u32,
+) -> Result<(), AllocError>
+    ensures { OnOk result (counted.new.items ≡ counted.old.items ++ placed_from place ((member.now.unique.now, (member.now.status, member.now.up_number)) ∷ [])) }
+{
+    if member.status.counts() {
+        counted.push((member.up_number, place))?;
+    }
+    Ok(())
+}
+
+fn places_of(alloc: Global, counted: &[(u64, u32)]) -> Result<Vec<u32>, AllocError>
+    ensures { IfOk result (λ places. places.items ≡ list.map (λ row. row.1) counted.now) }
+{
+    counted.iter().map(|row| row.1).collect(alloc)
+}

@@ -1,0 +1,21 @@
+//! What a node knows of the members of its cluster: who is a member and with which status, who was removed, and
+//! what one entry of the cluster's history adds.
+#![tactic(auto)]
+
+mod age;
+mod effect;
+mod laws;
+mod members;
+mod standing;
+mod status;
+#[cfg(test)]
+mod tests;
+
+pub use effect::{Effect, Effects};
+pub use laws::{
+    effects_add_to_joins, effects_change_one_process, members_are_joined, standings_are_joined,
+    views_are_joined,
+};
+pub use members::{Member, Members, Tombstone};
+pub use standing::Standing;
+pub use status::Status;

@@ -1,0 +1,313 @@
+ghost use Rattle.std.specs.Prelude.{◌≡◌, IfOk, OnOk, OnErr, IsOk, IsSome, length, slice_get, option_map, option_to_list, ◌+◌, ℕ};
+ghost use Rattle.std.specs.FinMap as map;
+ghost use Rattle.ak_address.specs.Table.{value_with};
+ghost use Rattle.ak_member.specs.Standing.{nobody, joined_standings, joined_standing, known, member_rows, tombstone_rows, raised, buried, member_of, tombstone_of, members_of, tombstones_of};
+ghost use Rattle.ak_member.specs.View.{after_effect, after_effects};
+
+use crate::effect::{Effect, Effects};
+use crate::standing::Standing;
+use crate::status::Status;
+use ak_address::{Table, Unique};
+use std::alloc::{AllocError, Global};
+use std::marker::Model;
+
+/// A member: its status, and the number with which it became Up, 0 where it was never Up.
+#[derive(Clone, Copy)]
+pub struct Member<'a> {
+    pub unique: &'a Unique,
+    pub status: Status,
+    pub up_number: u64,
+}
+
+/// A process that was removed for good; whether it is confirmed that it has stopped.
+#[derive(Clone, Copy)]
+pub struct Tombstone<'a> {
+    pub unique: &'a Unique,
+    pub confirmed: bool,
+}
+
+/// The members and the tombstones that a node knows, in the order of processes; nobody is both. A status only rises,
+/// and a tombstone stays one.
+#[derive(Drop)]
+pub struct Members {
+    table: Table<Standing>,
+}
+
+impl Model for Members {
+    ghost use Rattle.std.specs.FinMap as map;
+    ghost use Rattle.ak_address.specs.Unique.{coded_unique};
+    ghost use Rattle.ak_member.specs.Standing.{Standings};
+    ghost use Rattle.ak_member.specs.contracts.standing.Standing as standing;
+
+    ghost Value = { Standings };
+
+    ghost coded = { map.code coded_unique standing.the_row.coded };
+
+    ghost view = { λ m. m.table };
+}
+
+impl Members {
+    /// Nobody. Takes no memory.
+    pub fn empty(alloc: Global) -> Members
+        ensures { result ≡ nobody }
+    {
+        let table = Table::empty(alloc);
+        Members { table }
+    }
+
+    /// The member that the process is; none where it is no member. Takes no memory.
+    pub fn get<'a>(&'a self, who: &'a Unique) -> Option<Member<'a>>
+        ensures { option_map (λ m. (m.status, m.up_number)) result ≡ member_of (map.get self.now who.now) }
+    {
+        match self.table.get(who) {
+            Some(Standing::Member(status, up_number)) => Some(Member {
+                unique: who,
+                status: *status,
+                up_number: *up_number,
+            }),
+            Some(Standing::Buried(_)) => None,
+            None => None,
+        }
+    }
+
+    /// Whether the process was removed, and then whether it is confirmed that it has stopped; none where it was not
+    /// removed. Takes no memory.
+    pub fn tombstone(&self, who: &Unique) -> Option<bool>
+        ensures { result ≡ tombstone_of (map.get self.now who.now) }
+    {
+        match self.table.get(who) {
+            Some(Standing::Buried(confirmed)) => Some(*confirmed),
+            Some(Standing::Member(_, _)) => None,
+            None => None,
+        }
+    }
+
+    /// How many processes are known, members and tombstones together.
+    pub fn uniques(&self) -> usize
+        ensures { result ≡ map.len self.now }
+    {
+        self.table.len()
+    }
+
+    /// The process at a place among all that are known, from 0 on in the order of processes, and what is known of it;
+    /// none past the end.
+    pub fn row(&self, place: usize) -> Option<(&Unique, Standing)>
+        ensures { option_map (λ row. (row.0.now, row.1)) result ≡ slice_get (map.entries self.now) place }
+    {
+        match self.table.at(place) {
+            Some((who, standing)) => Some((who, *standing)),
+            None => None,
+        }
+    }
+
+    /// How many members there are.
+    pub fn len(&self) -> usize
+        ensures { result ≡ length (members_of self.now) }
+    {
+        members_in(&self.table)
+    }
+
+    /// The member at a place, from 0 on in the order of processes; none past the end.
+    pub fn at(&self, place: usize) -> Option<Member<'_>>
+        ensures { option_map (λ m. (m.unique.now, (m.status, m.up_number))) result ≡ slice_get (members_of self.now) place }
+    {
+        member_in(&self.table, place)
+    }
+
+    // The member at a row, where there is one: a row is a place among all that are known.
+    pub(crate) fn member_at_row(&self, row: usize) -> Option<Member<'_>>
+        ensures { option_to_list (option_map (λ m. (m.unique.now, (m.status, m.up_number))) result) ≡ member_rows (option_to_list (slice_get (map.entries self.now) row)) }
+    {
+        member_at(&self.table, row)
+    }
+
+    /// How many tombstones there are.
+    pub fn buried_len(&self) -> usize
+        ensures { result ≡ length (tombstones_of self.now) }
+    {
+        tombstones_in(&self.table)
+    }
+
+    /// The tombstone at a place, from 0 on in the order of processes; none past the end.
+    pub fn buried_at(&self, place: usize) -> Option<Tombstone<'_>>
+        ensures { option_map (λ t. (t.unique.now, t.confirmed)) result ≡ slice_get (tombstones_of self.now) place }
+    {
+        tombstone_in(&self.table, place)
+    }
+
+    /// The process becomes a member, or its status rises to at least this one and its number to the least that is not 0.
+    /// A tombstone stays one. After an error the members are as they were; a process that is known takes no memory.
+    pub fn raise(
+        &mut self,
+        alloc: Global,
+        who: &Unique,
+        status: Status,
+        up_number: u64,
+    ) -> Result<(), AllocError>
+        ensures ok { OnOk result (self.new ≡ raised self.old who.now status up_number) }
+        ensures err { OnErr result (self.new ≡ self.old) }
+        ensures present { IsSome (map.get self.old who.now) → IsOk result }
+    {
+        self.note(alloc, who, Standing::Member(status, up_number))
+    }
+
+    /// The process becomes a tombstone, confirmed where it was confirmed before or is now. After an error the members
+    /// are as they were; a process that is known takes no memory.
+    pub fn bury(&mut self, alloc: Global, who: &Unique, confirmed: bool) -> Result<(), AllocError>
+        ensures ok { OnOk result (self.new ≡ buried self.old who.now confirmed) }
+        ensures err { OnErr result (self.new ≡ self.old) }
+        ensures present { IsSome (map.get self.old who.now) → IsOk result }
+    {
+        self.note(alloc, who, Standing::Buried(confirmed))
+    }
+
+    /// The members after these effects, in their order. Only memory can fail.
+    pub fn after(self, alloc: Global, effects: &Effects) -> Result<Members, AllocError>
+        ensures { IfOk result (λ members. members ≡ after_effects effects.now self) }
+    {
+        let mut members = self;
+        'effects: for effect in effects.as_slice() {
+            members.take_effect(alloc, effect)?;
+        }
+        Ok(members)
+    }
+
+    /// Takes in what another view knows: of each process what both know of it. After an error the members are as they
+    /// were.
+    pub fn merge(&mut self, alloc: Global, other: &Members) -> Result<(), AllocError>
+        ensures ok { OnOk result (self.new ≡ joined_standings self.old other.now) }
+        ensures err { OnErr result (self.new ≡ self.old) }
+    {
+        self.table.merge(alloc, &other.table)
+    }
+
+    /// Equal members and tombstones. Only memory can fail.
+    pub fn copy(&self, alloc: Global) -> Result<Members, AllocError>
+        ensures { IfOk result (λ copy. copy ≡ self.now) }
+    {
+        let table = self.table.copy(alloc)?;
+        Ok(Members { table })
+    }
+
+    // Joins the standing with what is known of the process. After an error the members are as they were; a process
+    // that is known takes no memory.
+    fn note(&mut self, alloc: Global, who: &Unique, standing: Standing) -> Result<(), AllocError>
+        ensures ok { OnOk result (self.new ≡ known self.old who.now standing) }
+        ensures err { OnErr result (self.new ≡ self.old) }
+        ensures present { IsSome (map.get self.old who.now) → IsOk result }
+    {
+        let standing = self.with(who, &standing);
+        if self.table.update(who, standing) {
+            return Ok(());
+        }
+        let who = who.copy(alloc)?;
+        self.table.insert(who, standing)
+    }
+
+    // The standing, joined with what is known of the process.
+    fn with(&self, who: &Unique, standing: &Standing) -> Standing
+        ensures { result ≡ value_with joined_standing (map.get self.now who.now) standing.now }
+    {
+        match self.table.get(who) {
+            Some(before) => before.with(standing),
+            None => *standing,
+        }
+    }
+
+    // What the effect makes of the members. After an error they are as they were.
+    fn take_effect(&mut self, alloc: Global, effect: &Effect) -> Result<(), AllocError>
+        ensures { OnOk result (self.new ≡ after_effect effect.now self.old) }
+    {
+        match effect {
+            Effect::Joined(who) => self.raise(alloc, who, Status::Joining, 0),
+            Effect::Rise(who, status, number) => self.raise(alloc, who, *status, *number),
+            Effect::Removed(who, confirmed) => self.bury(alloc, who, *confirmed),
+            Effect::Observed(_) => Ok(()),
+        }
+    }
+}
+
+// The member at a row of the table, where there is one.
+fn member_at(table: &Table<Standing>, row: usize) -> Option<Member<'_>>
+    ensures { option_to_list (option_map (λ m. (m.unique.now, (m.status, m.up_number))) result) ≡ member_rows (option_to_list (slice_get (map.entries table.now) row)) }
+{
+    match table.at(row) {
+        Some((unique, Standing::Member(status, up_number))) => Some(Member {
+            unique,
+            status: *status,
+            up_number: *up_number,
+        }),
+        Some((_, Standing::Buried(_))) => None,
+        None => None,
+    }
+}
+
+// The tombstone at a row of the table, where there is one.
+fn tombstone_at(table: &Table<Standing>, row: usize) -> Option<Tombstone<'_>>
+    ensures { option_to_list (option_map (λ t. (t.unique.now, t.confirmed)) result) ≡ tombstone_rows (option_to_list (slice_get (map.entries table.now) row)) }
+{
+    match table.at(row) {
+        Some((unique, Standing::Buried(confirmed))) => Some(Tombstone {
+            unique,
+            confirmed: *confirmed,
+        }),
+        Some((_, Standing::Member(_, _))) => None,
+        None => None,
+    }
+}
+
+fn members_in(table: &Table<Standing>) -> usize
+    ensures { result ≡ length (member_rows (map.entries table.now)) }
+{
+    let mut count = 0;
+    'rows: for row in 0..table.len() {
+        if member_at(table, row).is_some() {
+            count += 1;
+        }
+    }
+    count
+}
+
+fn tombstones_in(table: &Table<Standing>) -> usize
+    ensures { result ≡ length (tombstone_rows (map.entries table.now)) }
+{
+    let mut count = 0;
+    'rows: for row in 0..table.len() {
+        if tombstone_at(table, row).is_some() {
+            count += 1;
+        }
+    }
+    count
+}
+
+fn member_in(table: &Table<Standing>, place: usize) -> Option<Member<'_>>
+    ensures { option_map (λ m. (m.unique.now, (m.status, m.up_number))) result ≡ slice_get (member_rows (map.entries table.now)) place }
+{
+    let mut left = place;
+    'rows: for row in 0..table.len() {
+        let found = member_at(table, row);
+        if found.is_some() {
+            if left == 0 {
+                return found;
+            }
+            left -= 1;
+        }
+    }
+    None
+}
+
+fn tombstone_in(table: &Table<Standing>, place: usize) -> Option<Tombstone<'_>>
+    ensures { option_map (λ t. (t.unique.now, t.confirmed)) result ≡ slice_get (tombstone_rows (map.entries table.now)) place }
+{
+    let mut left = place;
+    'rows: for row in 0..table.len() {
+        let found = tombstone_at(table, row);
+        if found.is_some() {
+            if left == 0 {
+                return found;
+            }
+            left -= 1;
+        }
+    }
+    None
+}

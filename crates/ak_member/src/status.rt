@@ -1,0 +1,45 @@
+ghost use Rattle.std.specs.Prelude.{◌≡◌};
+ghost use Rattle.ak_member.specs.Standing.{rank};
+ghost use Rattle.ak_member.specs.Age.{counts};
+
+/// How far a member has come, in this order (Akka's Cluster Specification, "Membership Lifecycle").
+#[derive(Clone, Copy, Debug, PartialEq, Eq)]
+pub enum Status {
+    /// It has joined, and no leader has moved it up yet.
+    Joining,
+    Up,
+    /// It was asked to leave.
+    Leaving,
+    /// It is on its way out: it hands over what it holds.
+    Exiting,
+    /// It was taken down, by a user or by the resolver.
+    Down,
+}
+
+impl Status {
+    /// The place in the order of statuses, from 1 to 5. A status only ever rises. Takes no memory.
+    pub fn rank(&self) -> u8
+        ensures { result ≡ rank self.now }
+    {
+        match self {
+            Status::Joining => 1,
+            Status::Up => 2,
+            Status::Leaving => 3,
+            Status::Exiting => 4,
+            Status::Down => 5,
+        }
+    }
+
+    /// Whether a member of this status counts: the Up and Leaving ones serve the cluster. Takes no memory.
+    pub fn counts(&self) -> bool
+        ensures { result ≡ counts self.now }
+    {
+        match self {
+            Status::Joining => false,
+            Status::Up => true,
+            Status::Leaving => true,
+            Status::Exiting => false,
+            Status::Down => false,
+        }
+    }
+}

@@ -1,0 +1,12 @@
+//! Whom the members of a cluster find unreachable: a row for each observer.
+#![tactic(auto)]
+
+mod laws;
+mod row;
+mod rows;
+#[cfg(test)]
+mod rows_tests;
+
+pub use laws::rows_are_joined;
+pub use row::Row;
+pub use rows::Rows;
