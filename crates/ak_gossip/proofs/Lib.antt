@@ -1,0 +1,11 @@
+pub mod GossipLaws
+pub mod Kept
+pub mod MayUpdates
+pub mod Observing
+pub mod PartsBack
+pub mod PartsLaws
+pub mod PartsOrder
+pub mod PartsPlaces
+pub mod PartsSteps
+pub mod PartsWalks
+pub mod SeenLemmas

@@ -1,0 +1,4 @@
+pub mod Gossip
+pub mod GossipWords
+pub mod Parts
+pub mod PartsWalk

@@ -1,0 +1,365 @@
+ghost use Rattle.std.specs.Prelude.{◌≡◌, ◌+◌, ◌≤◌, if◌then◌else◌, IfOk, OnOk, OnErr, IsFalse, option_copied};
+ghost use Rattle.std.specs.FinMap as map;
+ghost use Rattle.ak_address.specs.Uniques.{has, with_one, those, union};
+ghost use Rattle.ak_clock.specs.Version.{count};
+ghost use Rattle.ak_member.specs.Standing.{is_member, joined_standings};
+ghost use Rattle.ak_member.specs.View.{observed, after_observed};
+ghost use Rattle.ak_reach.specs.Reach.{is_as_new};
+ghost use Rattle.ak_gossip.specs.Gossip.{GossipState, IsGossip, most_uniques, nothing_known, MayUpdate, updated, seen_by, same, both};
+ghost use Rattle.ak_gossip.specs.GossipWords.{Receives, excess_of};
+
+use ak_address::{Unique, Uniques};
+use ak_clock::{Relation, Version};
+use ak_member::{Effect, Effects, Members};
+use ak_reach::Rows;
+use std::alloc::{AllocError, Global};
+use std::marker::Model;
+
+/// How a gossip that was taken was related to what the node knew.
+#[derive(Clone, Copy, Debug, PartialEq, Eq)]
+pub enum Received {
+    /// Both knew the same.
+    Same,
+    /// The gossip knew all that the node knew, and more.
+    Newer,
+    /// The node knew all that the gossip knew, and more.
+    Older,
+    /// Each knew what the other did not.
+    Merged,
+}
+
+/// Why a gossip is refused.
+#[derive(Clone, Copy, Debug, PartialEq, Eq)]
+pub enum GossipFault {
+    /// It counts more updates of the receiving node than the node made.
+    ForeignCount { own: u64, theirs: u64 },
+    /// Together with it the node would hold more than 128 uniques.
+    TooManyUniques { union: u32 },
+    NoMemory,
+}
+
+/// What a node knows: the version of the entries that it has seen, the members, tombstones and rows that they show, and
+/// which members are known to know exactly the same. Every process in it is a member or a tombstone, at most 128 of them,
+/// those that have seen it are members, and a row's number is at most what is counted of its observer: invariants of the
+/// type.
+#[derive(Drop)]
+pub struct Gossip {
+    pub(crate) version: Version,
+    pub(crate) members: Members,
+    pub(crate) rows: Rows,
+    pub(crate) seen: Uniques,
+}
+
+impl Model for Gossip {
+    ghost use Rattle.ak_gossip.specs.Gossip.{GossipState, coded_gossip, IsGossip};
+
+    ghost Value = { GossipState };
+
+    ghost coded = { coded_gossip };
+
+    ghost view = { λ g. record { version = g.version; view = record { standings = g.members; rows = g.rows }; seen = g.seen } };
+
+    ghost invariant = { λ g. IsGossip (record { version = g.version; view = record { standings = g.members; rows = g.rows }; seen = g.seen }) };
+}
+
+impl Gossip {
+    /// Nothing is known. Takes no memory.
+    pub fn empty(alloc: Global) -> Gossip
+        ensures { result ≡ nothing_known }
+    {
+        Gossip {
+            version: Version::empty(alloc),
+            members: Members::empty(alloc),
+            rows: Rows::empty(alloc),
+            seen: Uniques::empty(alloc),
+        }
+    }
+
+    /// How many entries of each author are seen.
+    pub fn version(&self) -> &Version
+        ensures { result.now ≡ self.now.version }
+    {
+        &self.version
+    }
+
+    /// The members and tombstones after the entries that are seen.
+    pub fn members(&self) -> &Members
+        ensures { result.now ≡ self.now.view.standings }
+    {
+        &self.members
+    }
+
+    /// Whom the observers found unreachable by then.
+    pub fn rows(&self) -> &Rows
+        ensures { result.now ≡ self.now.view.rows }
+    {
+        &self.rows
+    }
+
+    /// Which members are known to know exactly this.
+    pub fn seen(&self) -> &Uniques
+        ensures { result.now ≡ self.now.seen }
+    {
+        &self.seen
+    }
+
+    /// How many processes are in it, members and tombstones together, at most 128. So a caller that asks before an update
+    /// knows what holds of every gossip.
+    pub fn uniques(&self) -> u32
+        ensures value { result ≡ map.len self.now.view.standings }
+        ensures whole { IsGossip self.now }
+    {
+        self.members.uniques() as u32
+    }
+
+    /// Tells a proof what is true of every gossip. It does nothing.
+    pub fn invariant(&self)
+        ensures { IsGossip self.now }
+    {
+        let _version = &self.version;
+    }
+
+    /// An equal gossip. Only memory can fail.
+    pub fn copy(&self, alloc: Global) -> Result<Gossip, AllocError>
+        ensures { IfOk result (λ copy. copy ≡ self.now) }
+    {
+        let version = self.version.copy(alloc)?;
+        let members = self.members.copy(alloc)?;
+        let rows = self.rows.copy(alloc)?;
+        let seen = self.seen.copy(alloc)?;
+        Ok(Gossip {
+            version,
+            members,
+            rows,
+            seen,
+        })
+    }
+
+    /// The author makes an entry with these effects and answers its number; only the author has seen what is known then.
+    /// Of several Observed the last one counts. After an error the gossip is as it was; only memory can fail.
+    pub fn update(
+        &mut self,
+        alloc: Global,
+        author: &Unique,
+        effects: &Effects,
+    ) -> Result<u64, AllocError>
+        requires { MayUpdate author.now effects.now self.old }
+        ensures number { IfOk result (λ number. number ≡ count self.old.version author.now + 1) }
+        ensures ok { OnOk result (self.new ≡ updated author.now effects.now self.old) }
+        ensures err { OnErr result (self.new ≡ self.old) }
+    {
+        let mut only_author = Uniques::empty(alloc);
+        only_author.insert(alloc, author)?;
+        let members = self.members.copy(alloc)?.after(alloc, effects)?;
+        let mut version = self.version.copy(alloc)?;
+        let number = version.bump(alloc, author)?;
+        let mut rows = self.rows.copy(alloc)?;
+        observe(alloc, author, number, effects, &mut rows)?;
+        *self = Gossip {
+            version,
+            members,
+            rows,
+            seen: only_author,
+        };
+        Ok(number)
+    }
+
+    /// Takes in a gossip that came to the node `me`, or refuses it: `ForeignCount` exactly where it counts more entries
+    /// of `me` than are known here, and else `TooManyUniques` exactly where both together hold more than 128 processes.
+    /// After an error the gossip is as it was.
+    pub fn receive(
+        &mut self,
+        alloc: Global,
+        me: &Unique,
+        incoming: &Gossip,
+    ) -> Result<Received, GossipFault>
+        ensures { Receives me.now self.old incoming.now result self.new }
+    {
+        let own = self.version.count(me);
+        let theirs = incoming.version.count(me);
+        if own < theirs {
+            return Err(GossipFault::ForeignCount { own, theirs });
+        }
+        if let Some(union) = self.excess(alloc, incoming)? {
+            return Err(GossipFault::TooManyUniques { union });
+        }
+        match self.version.compare(&incoming.version) {
+            Relation::Same => Ok(self.take_same(alloc, me, incoming)?),
+            Relation::Before => Ok(self.take_newer(alloc, me, incoming)?),
+            Relation::After => Ok(Received::Older),
+            Relation::Concurrent => Ok(self.take_both(alloc, me, incoming)?),
+        }
+    }
+
+    // Both know the same: who has seen it there, and is a member here, has seen it here.
+    fn take_same(
+        &mut self,
+        alloc: Global,
+        me: &Unique,
+        incoming: &Gossip,
+    ) -> Result<Received, AllocError>
+        ensures ok { OnOk result (self.new ≡ seen_by me.now (same self.old incoming.now)) }
+        ensures answer { IfOk result (λ r. r ≡ Received.Same) }
+        ensures err { OnErr result (self.new ≡ self.old) }
+    {
+        let mut seen = self.seen.copy(alloc)?;
+        add_members(alloc, &incoming.seen, &self.members, &mut seen)?;
+        add_member(alloc, me, &self.members, &mut seen)?;
+        self.seen = seen;
+        Ok(Received::Same)
+    }
+
+    // What came replaces what was known.
+    fn take_newer(
+        &mut self,
+        alloc: Global,
+        me: &Unique,
+        incoming: &Gossip,
+    ) -> Result<Received, AllocError>
+        ensures ok { OnOk result (self.new ≡ seen_by me.now incoming.now) }
+        ensures answer { IfOk result (λ r. r ≡ Received.Newer) }
+        ensures err { OnErr result (self.new ≡ self.old) }
+    {
+        let version = incoming.version.copy(alloc)?;
+        let members = incoming.members.copy(alloc)?;
+        let rows = incoming.rows.copy(alloc)?;
+        let mut seen = incoming.seen.copy(alloc)?;
+        add_member(alloc, me, &incoming.members, &mut seen)?;
+        *self = Gossip {
+            version,
+            members,
+            rows,
+            seen,
+        };
+        Ok(Received::Newer)
+    }
+
+    // Each knows what the other does not.
+    fn take_both(
+        &mut self,
+        alloc: Global,
+        me: &Unique,
+        incoming: &Gossip,
+    ) -> Result<Received, AllocError>
+        requires { map.len (joined_standings self.old.view.standings incoming.now.view.standings) ≤ most_uniques }
+        ensures ok { OnOk result (self.new ≡ seen_by me.now (both self.old incoming.now)) }
+        ensures answer { IfOk result (λ r. r ≡ Received.Merged) }
+        ensures err { OnErr result (self.new ≡ self.old) }
+    {
+        let mut version = self.version.copy(alloc)?;
+        version.merge(alloc, &incoming.version)?;
+        let mut members = self.members.copy(alloc)?;
+        members.merge(alloc, &incoming.members)?;
+        let mut rows = self.rows.copy(alloc)?;
+        rows.merge(alloc, &incoming.rows)?;
+        let mut seen = Uniques::empty(alloc);
+        add_member(alloc, me, &members, &mut seen)?;
+        *self = Gossip {
+            version,
+            members,
+            rows,
+            seen,
+        };
+        Ok(Received::Merged)
+    }
+
+    // How many processes both know together, where a gossip may not hold so many.
+    fn excess(&self, alloc: Global, incoming: &Gossip) -> Result<Option<u32>, AllocError>
+        ensures { IfOk result (λ excess. excess ≡ excess_of (map.len (joined_standings self.now.view.standings incoming.now.view.standings))) }
+    {
+        let own = self.members.uniques();
+        let theirs = incoming.members.uniques();
+        if own + theirs <= MOST_UNIQUES {
+            return Ok(None);
+        }
+        let union = size_of_both(alloc, &self.members, &incoming.members)?;
+        if union <= MOST_UNIQUES {
+            return Ok(None);
+        }
+        Ok(Some(union as u32))
+    }
+}
+
+// A gossip may hold this many processes, members and tombstones together.
+pub(crate) const MOST_UNIQUES: usize = 128;
+
+// How many processes are known to either.
+fn size_of_both(alloc: Global, one: &Members, other: &Members) -> Result<usize, AllocError>
+    ensures { IfOk result (λ size. size ≡ map.len (joined_standings one.now other.now)) }
+{
+    let mut both = one.copy(alloc)?;
+    both.merge(alloc, other)?;
+    Ok(both.uniques())
+}
+
+// Whom the last of the effects that observes found unreachable.
+fn last_observed(effects: &[Effect]) -> Option<&Uniques>
+    ensures { option_copied result ≡ observed effects.now }
+{
+    let mut found = None;
+    'effects: for effect in effects {
+        if let Effect::Observed(subjects) = effect {
+            found = Some(subjects);
+        }
+    }
+    found
+}
+
+// The author's row after its entry of this number, where that observes.
+fn observe(
+    alloc: Global,
+    author: &Unique,
+    number: u64,
+    effects: &Effects,
+    rows: &mut Rows,
+) -> Result<(), AllocError>
+    requires { IsFalse (is_as_new (map.get rows.old author.now) number) }
+    ensures { OnOk result (rows.new ≡ after_observed author.now number (observed effects.now) rows.old) }
+{
+    match last_observed(effects.as_slice()) {
+        Some(subjects) => rows.set_row(alloc, author, number, subjects),
+        None => Ok(()),
+    }
+}
+
+// Adds a process that is a member.
+fn add_member(
+    alloc: Global,
+    who: &Unique,
+    members: &Members,
+    seen: &mut Uniques,
+) -> Result<(), AllocError>
+    ensures { OnOk result (seen.new ≡ (if is_member members.now who.now then with_one seen.old who.now else seen.old)) }
+{
+    if members.get(who).is_some() {
+        return seen.insert(alloc, who);
+    }
+    Ok(())
+}
+
+// Adds those that are members.
+fn add_members(
+    alloc: Global,
+    others: &Uniques,
+    members: &Members,
+    seen: &mut Uniques,
+) -> Result<(), AllocError>
+    ensures { OnOk result (seen.new ≡ union seen.old (those others.now (is_member members.now))) }
+{
+    'others: for place in 0..others.len() {
+        if let Some(who) = others.at(place) {
+            add_member(alloc, who, members, seen)?;
+        }
+    }
+    Ok(())
+}
+
+impl From<AllocError> for GossipFault {
+    ghost use Rattle.ak_gossip.specs.declared.gossip.GossipFault.TheVariants.{NoMemory};
+
+    ghost from_gives = { λ _ e. e ≡ NoMemory };
+
+    fn from(_error: AllocError) -> GossipFault {
+        GossipFault::NoMemory
+    }
+}

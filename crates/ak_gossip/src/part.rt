@@ -1,0 +1,110 @@
+ghost use Rattle.std.specs.Prelude.{◌≡◌, [], ◌∷◌, ◌++◌, length, slice_get, IfOk, OnOk, OnErr};
+ghost use Rattle.std.specs.Option.{option_copied};
+
+use ak_address::Unique;
+use std::alloc::{AllocError, Global};
+use std::marker::Model;
+
+/// Places in a list of parts.
+#[derive(Drop)]
+pub struct Places {
+    list: Vec<u8>,
+}
+
+impl Model for Places {
+    ghost use Rattle.std.specs.Prelude.{List, ℕ};
+
+    ghost Value = { List ℕ };
+
+    ghost view = { λ p. p.list.items };
+}
+
+impl Places {
+    /// These places.
+    pub fn new(list: Vec<u8>) -> Places
+        ensures { result ≡ list.items }
+    {
+        Places { list }
+    }
+
+    /// The places, in order.
+    pub fn as_slice(&self) -> &[u8]
+        ensures { result.now ≡ self.now }
+    {
+        &self.list
+    }
+}
+
+/// One process of a gossip, as it stands in a datagram: what its version counts of it, its state (1 Joining, 2 Up,
+/// 3 Leaving, 4 Exiting, 5 Down, 6 removed, 7 removed and confirmed) and up number, whether it has seen the gossip, and
+/// its row as an observer: the number, 0 where there is none, and the places of the subjects among the parts.
+#[derive(Drop)]
+pub struct Part {
+    pub unique: Unique,
+    pub count: u64,
+    pub state: u8,
+    pub up_number: u64,
+    pub seen: bool,
+    pub row_number: u64,
+    pub subjects: Places,
+}
+
+/// A list of parts.
+#[derive(Drop)]
+pub struct Parts {
+    list: Vec<Part>,
+}
+
+impl Model for Parts {
+    ghost use Rattle.std.specs.Prelude.{List};
+    ghost use Rattle.std.specs.Coded.{codes};
+    ghost use Rattle.ak_address.specs.Unique.{coded_unique};
+    ghost use Rattle.ak_gossip.specs.declared.part.Part.{Part};
+
+    ghost Value = { List Part };
+
+    ghost coded = { Prim.hlevel (codes, coded_unique) };
+
+    ghost view = { λ p. p.list.items };
+}
+
+impl Parts {
+    /// No part. Takes no memory.
+    pub fn empty(alloc: Global) -> Parts
+        ensures { result ≡ [] }
+    {
+        Parts {
+            list: Vec::new(alloc),
+        }
+    }
+
+    /// Adds a part at the end. An error leaves the list as it was; only memory can fail.
+    pub fn push(&mut self, part: Part) -> Result<(), AllocError>
+        ensures ok { OnOk result (self.new ≡ self.old ++ part ∷ []) }
+        ensures err { OnErr result (self.new ≡ self.old) }
+    {
+        self.list.push(part)?;
+        Ok(())
+    }
+
+    /// How many parts there are.
+    pub fn len(&self) -> usize
+        ensures { result ≡ length self.now }
+    {
+        self.list.len()
+    }
+
+    /// The part at a place from 0 on; none past the end.
+    pub fn at(&self, place: usize) -> Option<&Part>
+        ensures { option_copied result ≡ slice_get self.now place }
+    {
+        self.list.get(place)
+    }
+
+    /// The parts, in order.
+    pub fn as_slice(&self) -> &[Part]
+        ensures { result.now ≡ self.now }
+    {
+        &self.list
+    }
+}

@@ -1,0 +1,355 @@
+ghost use Rattle.std.specs.Prelude.{◌≡◌, ◌↔◌, ◌≤◌, ℕ, [], Some, None, IsTrue, IfOk, OnOk, length, slice_get, option_copied, if◌then◌else◌};
+ghost use Rattle.std.specs.FinMap as map;
+ghost use Rattle.ak_address.specs.Uniques.{no_one, with_one};
+ghost use Rattle.ak_member.specs.Standing.{nobody};
+ghost use Rattle.ak_clock.specs.declared.version.TheConstants.{BOUND};
+ghost use Rattle.ak_clock.specs.Version.{IsVersion};
+ghost use Rattle.ak_gossip.specs.Gossip.{GossipState, IsGossip, IsNumber, most_uniques};
+ghost use Rattle.ak_gossip.specs.Parts.{state_of, number_of, row_number_of, places_of, subjects_of, part_of, parts_of, IsState, IsPart, AreParts};
+ghost use Rattle.ak_gossip.specs.PartsWalk.{standing_of, ascend_from, is_above, ascend_after, has_there, with_counts, with_known, with_standings, with_seen, with_process, with_places, with_part_row, with_part_rows};
+
+use crate::gossip::{Gossip, MOST_UNIQUES};
+use crate::part::{Part, Parts, Places};
+use ak_address::{Unique, Uniques};
+use ak_clock::{BOUND, Version};
+use ak_member::{Members, Standing, Status};
+use ak_reach::{Row, Rows};
+use std::alloc::{AllocError, Global};
+
+impl Gossip {
+    /// The gossip as parts, one for each process, in the order of processes; they are valid. Only memory can fail.
+    pub fn to_parts(&self, alloc: Global) -> Result<Parts, AllocError>
+        ensures parts { IfOk result (λ parts. parts ≡ parts_of self.now) }
+        ensures valid { IfOk result (λ parts. AreParts parts) }
+    {
+        let members = &self.members;
+        let mut parts = Parts::empty(alloc);
+        'places: for place in 0..members.uniques() {
+            if let Some((who, standing)) = members.row(place) {
+                let part = self.part_of(alloc, who, standing)?;
+                parts.push(part)?;
+            }
+        }
+        Ok(parts)
+    }
+
+    // The part of a process that has this standing.
+    fn part_of(&self, alloc: Global, who: &Unique, standing: Standing) -> Result<Part, AllocError>
+        ensures part { IfOk result (λ part. part ≡ part_of self.now (who.now, standing)) }
+        ensures counted { IfOk result (λ part. part.count ≤ BOUND) }
+    {
+        let unique = who.copy(alloc)?;
+        let row = self.rows.row(who);
+        let subjects = subjects_of(alloc, row, &self.members)?;
+        Ok(Part {
+            unique,
+            count: self.version.count(who),
+            state: state_of(standing),
+            up_number: number_of(standing),
+            seen: self.seen.contains(who),
+            row_number: row_number_of(row),
+            subjects,
+        })
+    }
+
+    /// The gossip of these parts: of the parts of a gossip that gossip again. Only memory can fail.
+    pub fn from_parts(alloc: Global, parts: &[Part]) -> Result<Gossip, AllocError>
+        requires { AreParts parts.now }
+        ensures parts { IfOk result (λ gossip. parts_of gossip ≡ parts.now) }
+        ensures back { IfOk result (λ gossip. (g : GossipState) → IsGossip g → IsVersion g.version → parts_of g ≡ parts.now → gossip ≡ g) }
+    {
+        let version = version_of(alloc, parts)?;
+        let members = members_of(alloc, parts)?;
+        let rows = rows_of(alloc, parts)?;
+        let seen = seen_of(alloc, parts)?;
+        Ok(Gossip {
+            version,
+            members,
+            rows,
+            seen,
+        })
+    }
+}
+
+/// Whether the parts keep the ranges and the order of a gossip's parts (this project's choice): at most 128 of them,
+/// their processes ascending; a count at most 4611686018427387904; a state from 1 to 7, an up number that is 0 while
+/// Joining and of a tombstone, from 1 to the greatest count of an Up, Leaving or Exiting member, and up to it of one that
+/// is Down; seen by members alone; a row's number at most the count; without a row no subjects, and else places of parts
+/// that ascend. Takes no memory.
+pub fn parts_valid(parts: &[Part]) -> bool
+    ensures { IsTrue result ↔ AreParts parts.now }
+{
+    if parts.len() > MOST_UNIQUES || !each_valid(parts) {
+        return false;
+    }
+    uniques_ascend(parts)
+}
+
+fn each_valid(parts: &[Part]) -> bool
+    ensures { IsTrue result ↔ ((i : ℕ) (part : Part) → slice_get parts.now i ≡ Some part → IsPart (length parts.now) part) }
+{
+    let many = parts.len();
+    'parts: for part in parts {
+        if !part_valid(many, part) {
+            return false;
+        }
+    }
+    true
+}
+
+// Whether a part is one of so many that are in their ranges.
+fn part_valid(many: usize, part: &Part) -> bool
+    ensures { IsTrue result ↔ IsPart many part.now }
+{
+    if part.count > BOUND || !state_valid(part.state, part.up_number, part.seen) {
+        return false;
+    }
+    row_valid(part) && places_ascend(part.subjects.as_slice(), many)
+}
+
+// Whether there is a standing of this state and number, which may have seen a gossip where it has.
+fn state_valid(state: u8, up_number: u64, seen: bool) -> bool
+    ensures { IsTrue result ↔ IsState state up_number seen }
+{
+    match standing_of(state, up_number) {
+        Some(Standing::Member(status, number)) => number_valid(status, number),
+        Some(Standing::Buried(_)) => up_number == 0 && !seen,
+        None => false,
+    }
+}
+
+// The standing of a state, with this number where it is a member's.
+fn standing_of(state: u8, up_number: u64) -> Option<Standing>
+    ensures { result ≡ standing_of state up_number }
+{
+    match state {
+        1 => Some(Standing::Member(Status::Joining, up_number)),
+        2 => Some(Standing::Member(Status::Up, up_number)),
+        3 => Some(Standing::Member(Status::Leaving, up_number)),
+        4 => Some(Standing::Member(Status::Exiting, up_number)),
+        5 => Some(Standing::Member(Status::Down, up_number)),
+        6 => Some(Standing::Buried(false)),
+        7 => Some(Standing::Buried(true)),
+        _ => None,
+    }
+}
+
+fn number_valid(status: Status, number: u64) -> bool
+    ensures { IsTrue result ↔ IsNumber status number }
+{
+    match status {
+        Status::Joining => number == 0,
+        Status::Up => 1 <= number && number <= BOUND,
+        Status::Leaving => 1 <= number && number <= BOUND,
+        Status::Exiting => 1 <= number && number <= BOUND,
+        Status::Down => number <= BOUND,
+    }
+}
+
+// Whether a row is of an entry that is counted, and no row has no subjects.
+fn row_valid(part: &Part) -> bool
+    ensures { IsTrue result ↔ ((part.now.row_number ≤ part.now.count) × (part.now.row_number ≡ 0 → part.now.subjects ≡ [])) }
+{
+    if part.row_number > part.count {
+        return false;
+    }
+    part.row_number > 0 || part.subjects.as_slice().is_empty()
+}
+
+// Whether the places ascend below the end.
+fn places_ascend(places: &[u8], end: usize) -> bool
+    ensures { result ≡ ascend_from 0 end places.now }
+{
+    let mut least = 0;
+    'places: for place in places {
+        let place = usize::from(*place);
+        if place < least || end <= place {
+            return false;
+        }
+        least = place + 1;
+    }
+    true
+}
+
+// Whether the processes of the parts ascend.
+fn uniques_ascend(parts: &[Part]) -> bool
+    ensures { result ≡ ascend_after None parts.now }
+{
+    let mut last = None;
+    'parts: for part in parts {
+        if !is_above(last, &part.unique) {
+            return false;
+        }
+        last = Some(&part.unique);
+    }
+    true
+}
+
+// Whether the process is above the last one, where there is one.
+fn is_above(last: Option<&Unique>, who: &Unique) -> bool
+    ensures { result ≡ is_above (option_copied last.entry) who.now }
+{
+    match last {
+        Some(last) => last.compare(who).is_lt(),
+        None => true,
+    }
+}
+
+fn state_of(standing: Standing) -> u8
+    ensures { result ≡ state_of standing }
+{
+    match standing {
+        Standing::Member(status, _) => status.rank(),
+        Standing::Buried(false) => 6,
+        Standing::Buried(true) => 7,
+    }
+}
+
+fn number_of(standing: Standing) -> u64
+    ensures { result ≡ number_of standing }
+{
+    match standing {
+        Standing::Member(_, up_number) => up_number,
+        Standing::Buried(_) => 0,
+    }
+}
+
+// The number of a row, 0 where there is none.
+fn row_number_of(row: Option<&Row>) -> u64
+    ensures { result ≡ row_number_of (option_copied row.entry) }
+{
+    match row {
+        Some(row) => row.number,
+        None => 0,
+    }
+}
+
+// The places of a row's subjects among all that are known; no place where there is no row.
+fn subjects_of(alloc: Global, row: Option<&Row>, everybody: &Members) -> Result<Places, AllocError>
+    requires { map.len everybody.now ≤ most_uniques }
+    ensures { IfOk result (λ places. places ≡ subjects_of (option_copied row.entry) (map.keys everybody.now)) }
+{
+    match row {
+        Some(row) => places_of(alloc, &row.subjects, everybody),
+        None => Ok(Places::new(Vec::new(alloc))),
+    }
+}
+
+// The places of those that are in the set, among all that are known.
+fn places_of(alloc: Global, set: &Uniques, everybody: &Members) -> Result<Places, AllocError>
+    requires { map.len everybody.now ≤ most_uniques }
+    ensures { IfOk result (λ places. places ≡ places_of set.now 0 (map.keys everybody.now)) }
+{
+    let mut places = Vec::new(alloc);
+    'everybody: for place in 0..everybody.uniques() {
+        if has_at(set, everybody, place) {
+            places.push(place as u8)?;
+        }
+    }
+    Ok(Places::new(places))
+}
+
+// Whether the process at a place is in the set.
+fn has_at(set: &Uniques, everybody: &Members, place: usize) -> bool
+    ensures { result ≡ has_there set.now (slice_get (map.keys everybody.now) place) }
+{
+    match everybody.row(place) {
+        Some((who, _)) => set.contains(who),
+        None => false,
+    }
+}
+
+fn version_of(alloc: Global, parts: &[Part]) -> Result<Version, AllocError>
+    requires { AreParts parts.now }
+    ensures { IfOk result (λ version. version ≡ with_counts map.empty parts.now) }
+{
+    let mut version = Version::empty(alloc);
+    'parts: for part in parts {
+        version.reach(alloc, &part.unique, part.count)?;
+    }
+    Ok(version)
+}
+
+fn members_of(alloc: Global, parts: &[Part]) -> Result<Members, AllocError>
+    ensures { IfOk result (λ members. members ≡ with_standings nobody parts.now) }
+{
+    let mut members = Members::empty(alloc);
+    'parts: for part in parts {
+        add_standing(alloc, part, &mut members)?;
+    }
+    Ok(members)
+}
+
+// The process of the part becomes the member or the tombstone that the part says.
+fn add_standing(alloc: Global, part: &Part, members: &mut Members) -> Result<(), AllocError>
+    ensures { OnOk result (members.new ≡ with_known members.old part.now.unique (standing_of part.now.state part.now.up_number)) }
+{
+    match standing_of(part.state, part.up_number) {
+        Some(Standing::Member(status, up_number)) => {
+            members.raise(alloc, &part.unique, status, up_number)
+        }
+        Some(Standing::Buried(confirmed)) => members.bury(alloc, &part.unique, confirmed),
+        None => Ok(()),
+    }
+}
+
+fn seen_of(alloc: Global, parts: &[Part]) -> Result<Uniques, AllocError>
+    ensures { IfOk result (λ seen. seen ≡ with_seen no_one parts.now) }
+{
+    let mut seen = Uniques::empty(alloc);
+    'parts: for part in parts {
+        add_seen(alloc, part, &mut seen)?;
+    }
+    Ok(seen)
+}
+
+fn add_seen(alloc: Global, part: &Part, seen: &mut Uniques) -> Result<(), AllocError>
+    ensures { OnOk result (seen.new ≡ (if part.now.seen then with_one seen.old part.now.unique else seen.old)) }
+{
+    if part.seen {
+        return seen.insert(alloc, &part.unique);
+    }
+    Ok(())
+}
+
+fn rows_of(alloc: Global, parts: &[Part]) -> Result<Rows, AllocError>
+    ensures { IfOk result (λ rows. rows ≡ with_part_rows parts.now map.empty parts.now) }
+{
+    let mut rows = Rows::empty(alloc);
+    'parts: for part in parts {
+        add_row(alloc, parts, part, &mut rows)?;
+    }
+    Ok(rows)
+}
+
+// Adds the row of the part, where it has one.
+fn add_row(alloc: Global, parts: &[Part], part: &Part, rows: &mut Rows) -> Result<(), AllocError>
+    ensures { OnOk result (rows.new ≡ with_part_row parts.now rows.old part.now) }
+{
+    if part.row_number == 0 {
+        return Ok(());
+    }
+    let subjects = those_at(alloc, parts, part.subjects.as_slice())?;
+    rows.set_row(alloc, &part.unique, part.row_number, &subjects)
+}
+
+// The processes of the parts at these places.
+fn those_at(alloc: Global, parts: &[Part], places: &[u8]) -> Result<Uniques, AllocError>
+    ensures { IfOk result (λ them. them ≡ with_places parts.now no_one places.now) }
+{
+    let mut them = Uniques::empty(alloc);
+    'places: for place in places {
+        add_at(alloc, parts, usize::from(*place), &mut them)?;
+    }
+    Ok(them)
+}
+
+// Adds the process of the part at a place.
+fn add_at(alloc: Global, parts: &[Part], place: usize, them: &mut Uniques) -> Result<(), AllocError>
+    ensures { OnOk result (them.new ≡ with_process them.old (slice_get parts.now place)) }
+{
+    match parts.get(place) {
+        Some(part) => them.insert(alloc, &part.unique),
+        None => Ok(()),
+    }
+}

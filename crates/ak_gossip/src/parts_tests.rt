@@ -1,0 +1,281 @@
+ghost use Rattle.std.specs.Prelude.{◌≤◌};
+
+use crate::gossip::Gossip;
+use crate::part::{Part, Parts, Places};
+use crate::parts::parts_valid;
+use ak_address::{Address, Text, Unique, Uniques};
+use ak_member::Status;
+use std::alloc::{AllocError, Global};
+use std::test::Fail;
+
+// A part of the process with this uid.
+#[derive(Clone, Copy)]
+struct Line {
+    uid: u32,
+    count: u64,
+    state: u8,
+    up_number: u64,
+    seen: bool,
+    row_number: u64,
+    subjects: &'static [u8],
+}
+
+fn process(alloc: Global, uid: u32) -> Result<Unique, AllocError>
+    requires { 1 ≤ uid }
+{
+    let host = Text::from_bytes(alloc, b"a")?;
+    let address = Address { host, port: 1 };
+    let uid = u64::from(uid);
+    Ok(Unique { address, uid })
+}
+
+fn places(alloc: Global, list: &[u8]) -> Result<Places, AllocError> {
+    let mut places = Vec::new(alloc);
+    for place in list {
+        places.push(*place)?;
+    }
+    Ok(Places::new(places))
+}
+
+fn push_line(alloc: Global, line: Line, parts: &mut Parts) -> Result<(), AllocError> {
+    if line.uid == 0 {
+        return Ok(());
+    }
+    let unique = process(alloc, line.uid)?;
+    let subjects = places(alloc, line.subjects)?;
+    parts.push(Part {
+        unique,
+        count: line.count,
+        state: line.state,
+        up_number: line.up_number,
+        seen: line.seen,
+        row_number: line.row_number,
+        subjects,
+    })
+}
+
+fn parts(alloc: Global, lines: &[Line]) -> Result<Parts, AllocError> {
+    let mut parts = Parts::empty(alloc);
+    for line in lines {
+        push_line(alloc, *line, &mut parts)?;
+    }
+    Ok(parts)
+}
+
+fn is_line(part: &Part, line: &Line) -> bool {
+    let counts = part.count == line.count && part.row_number == line.row_number;
+    let standing = part.state == line.state && part.up_number == line.up_number;
+    let seen = part.seen == line.seen && part.subjects.as_slice() == line.subjects;
+    part.unique.uid == u64::from(line.uid) && counts && standing && seen
+}
+
+fn are_lines(parts: &Parts, lines: &[Line]) -> bool {
+    for (place, line) in lines.iter().enumerate() {
+        match parts.at(place) {
+            Some(part) => {
+                if !is_line(part, line) {
+                    return false;
+                }
+            }
+            None => return false,
+        }
+    }
+    parts.len() == lines.len()
+}
+
+fn valid(alloc: Global, lines: &[Line]) -> Result<bool, AllocError> {
+    let parts = parts(alloc, lines)?;
+    Ok(parts_valid(parts.as_slice()))
+}
+
+// The gossip of these lines, where they are valid, and else the empty one.
+fn gossip(alloc: Global, lines: &[Line]) -> Result<Gossip, AllocError> {
+    let parts = parts(alloc, lines)?;
+    if parts_valid(parts.as_slice()) {
+        return Gossip::from_parts(alloc, parts.as_slice());
+    }
+    Ok(Gossip::empty(alloc))
+}
+
+fn plain(uid: u32, state: u8, up_number: u64) -> Line {
+    Line {
+        uid,
+        count: 3,
+        state,
+        up_number,
+        seen: false,
+        row_number: 0,
+        subjects: &[],
+    }
+}
+
+fn observer(uid: u32, row_number: u64, subjects: &'static [u8]) -> Line {
+    Line {
+        uid,
+        count: 3,
+        state: 2,
+        up_number: 1,
+        seen: true,
+        row_number,
+        subjects,
+    }
+}
+
+fn counted(uid: u32, count: u64) -> Line {
+    Line {
+        uid,
+        count,
+        state: 1,
+        up_number: 0,
+        seen: false,
+        row_number: 0,
+        subjects: &[],
+    }
+}
+
+fn seen(uid: u32, state: u8) -> Line {
+    Line {
+        uid,
+        count: 3,
+        state,
+        up_number: 0,
+        seen: true,
+        row_number: 0,
+        subjects: &[],
+    }
+}
+
+fn lines() -> [Line; 5] {
+    [
+        observer(1, 2, &[1, 3]),
+        plain(2, 6, 0),
+        plain(3, 7, 0),
+        seen(4, 1),
+        counted(5, 0),
+    ]
+}
+
+fn has_uid(set: &Uniques, place: usize) -> u64 {
+    match set.at(place) {
+        Some(who) => who.uid,
+        None => 0,
+    }
+}
+
+// The number of the first row, and the uids of its subjects.
+fn first_row(gossip: &Gossip) -> (u64, u64, u64, usize) {
+    match gossip.rows().at(0) {
+        Some((_, row)) => {
+            let subjects = &row.subjects;
+            (
+                row.number,
+                has_uid(subjects, 0),
+                has_uid(subjects, 1),
+                subjects.len(),
+            )
+        }
+        None => (0, 0, 0, 0),
+    }
+}
+
+// The status and the number of the member at a place.
+fn member(gossip: &Gossip, place: usize) -> Option<(Status, u64)> {
+    match gossip.members().at(place) {
+        Some(member) => Some((member.status, member.up_number)),
+        None => None,
+    }
+}
+
+fn tombstone(gossip: &Gossip, place: usize) -> Option<(u64, bool)> {
+    match gossip.members().buried_at(place) {
+        Some(tombstone) => {
+            let who = tombstone.unique;
+            Some((who.uid, tombstone.confirmed))
+        }
+        None => None,
+    }
+}
+
+#[test]
+fn parts_come_back(rt: HostRuntime) -> Result<(), Fail> {
+    let alloc = rt.alloc();
+    let lines = lines();
+    let gossip = gossip(alloc, &lines)?;
+    let parts = gossip.to_parts(alloc)?;
+    assert!(rt; are_lines(&parts, &lines));
+    Ok(())
+}
+
+#[test]
+fn a_gossip_is_made_of_parts(rt: HostRuntime) -> Result<(), Fail> {
+    let gossip = gossip(rt.alloc(), &lines())?;
+    assert_eq!(rt; member(&gossip, 0), Some((Status::Up, 1)));
+    assert_eq!(rt; member(&gossip, 1), Some((Status::Joining, 0)));
+    assert_eq!(rt; tombstone(&gossip, 0), Some((2, false)));
+    assert_eq!(rt; tombstone(&gossip, 1), Some((3, true)));
+    assert_eq!(rt; first_row(&gossip), (2, 2, 4, 2));
+    assert_eq!(rt;
+        (has_uid(gossip.seen(), 0), has_uid(gossip.seen(), 1)),
+        (1, 4)
+    );
+    assert_eq!(rt; (gossip.version().len(), gossip.rows().len()), (4, 1));
+    Ok(())
+}
+
+#[test]
+fn valid_parts_are_taken(rt: HostRuntime) -> Result<(), Fail> {
+    let cases = [
+        [plain(1, 2, 1), plain(2, 1, 0)],
+        [plain(1, 3, 9), plain(2, 4, 9)],
+        [plain(1, 5, 0), plain(2, 5, 4611686018427387904)],
+        [plain(1, 6, 0), plain(2, 7, 0)],
+        [counted(1, 4611686018427387904), counted(2, 0)],
+        [observer(1, 3, &[0, 1]), observer(2, 1, &[])],
+    ];
+    for case in cases {
+        assert!(rt; valid(rt.alloc(), &case)?);
+    }
+    assert!(rt; valid(rt.alloc(), &[])?);
+    Ok(())
+}
+
+#[test]
+fn other_parts_are_refused(rt: HostRuntime) -> Result<(), Fail> {
+    let cases = [
+        [plain(1, 1, 0), counted(2, 4611686018427387905)],
+        [plain(1, 1, 0), plain(2, 0, 0)],
+        [plain(1, 1, 0), plain(2, 8, 0)],
+        [plain(1, 1, 0), plain(2, 2, 0)],
+        [plain(1, 1, 0), plain(2, 2, 4611686018427387905)],
+        [plain(1, 1, 0), plain(2, 1, 1)],
+        [plain(1, 1, 0), plain(2, 6, 1)],
+        [plain(1, 1, 0), seen(2, 6)],
+        [plain(1, 1, 0), observer(2, 4, &[])],
+        [plain(1, 1, 0), observer(2, 0, &[0])],
+        [plain(1, 1, 0), observer(2, 1, &[1, 0])],
+        [plain(1, 1, 0), observer(2, 1, &[1, 1])],
+        [plain(1, 1, 0), observer(2, 1, &[2])],
+        [plain(2, 1, 0), plain(1, 1, 0)],
+        [plain(1, 1, 0), plain(1, 1, 0)],
+    ];
+    for case in cases {
+        assert!(rt; !valid(rt.alloc(), &case)?);
+    }
+    Ok(())
+}
+
+// So many Joining processes are valid parts.
+fn many_valid(alloc: Global, many: u32) -> Result<bool, AllocError> {
+    let mut parts = Parts::empty(alloc);
+    for uid in 0..many {
+        push_line(alloc, plain(uid + 1, 1, 0), &mut parts)?;
+    }
+    Ok(parts_valid(parts.as_slice()))
+}
+
+#[test]
+fn at_most_128_parts_are_valid(rt: HostRuntime) -> Result<(), Fail> {
+    assert!(rt; many_valid(rt.alloc(), 128)?);
+    assert!(rt; !many_valid(rt.alloc(), 129)?);
+    Ok(())
+}
