@@ -9,9 +9,11 @@ use Rattle.ak_schedule.specs.Schedule.{headers, SetsHeader}
 use Rattle.ak_schedule.specs.declared.settings.Header as header
 use Rattle.ak_schedule.proofs.Cutting.{begun_more}
 use Rattle.ak_driver.specs.InputWords.{IsPast}
-use Rattle.ak_driver.specs.ReplayText.{Progress, Judgement, Judged, Code, GoesOn, Replays, GoesOnPrinting, FirstSteps, IsReplay, IsFirstSteps, WantsHeader, WantsEvent, SetsNext, most_lines, header_count, at_start}
+use Rattle.ak_driver.specs.declared.replay.Code.{Code}
+use Rattle.ak_driver.specs.declared.replay.Code.TheVariants.{Malformed, BadHeader, Unlisted, UniqueUsed, AddressInUse, SecondFound, UnknownNode, NoPacket, TooManyStarts, PastLimit, NotBuilt}
+use Rattle.ak_driver.specs.declared.world.Refused.{Refused}
+use Rattle.ak_driver.specs.ReplayText.{Progress, Judgement, Judged, GoesOn, Replays, GoesOnPrinting, FirstSteps, IsReplay, IsFirstSteps, WantsHeader, WantsEvent, SetsNext, IsInvalid, most_lines, header_count, at_start}
 use Rattle.ak_driver.specs.ReplayText.Judgement.{Passes, Sets, Steps, Refuses}
-use Rattle.ak_driver.specs.ReplayText.Code.{S1, S12, S13}
 use Rattle.ak_driver.proofs.NodeLemmas.{not_none}
 
 -- ---- the parts of two texts, one behind the other
@@ -183,14 +185,25 @@ wants_event p line other stops w = record { in_limit = w.in_limit; not_passed = 
 wants_header : (p : Progress) (line other : List ℕ) → Stops p other → WantsHeader p line → WantsHeader p other
 wants_header p line other stops w = record { in_limit = w.in_limit; not_passed = λ passed. never p other stops w.in_limit passed.short; heading = w.heading }
 
+-- such a line spells no event that the world could refuse
+no_event : (p : Progress) (line : List ℕ) (why : Refused) → Stops p line → IsInvalid p line why → ⊥
+no_event p line why stops invalid = never p line stops invalid.0.in_limit invalid.3.short
+
 -- such a line is refused alike, whatever it holds
 refused_alike : (p : Progress) (line other : List ℕ) (code : Code) → Stops p line → Stops p other → Judged p line (Refuses code) → Judged p other (Refuses code)
-refused_alike p line other S1 stops stopped j = (wants_event p line other stopped j.0, j.1, λ event spells. never p other stopped j.0.in_limit spells.short)
-refused_alike p line other S12 stops stopped (inl over) = inl over
-refused_alike p line other S12 stops stopped (inr many) = inr (wants_event p line other stopped many.0, many.1)
-refused_alike p line other S13 stops stopped (inl none) =
-    inl (wants_header p line other stopped none.0, λ setup sets. never p other stopped none.0.in_limit (sets_short p other setup none.0.heading sets))
-refused_alike p line other S13 stops stopped (inr invalid) = absurd (never p line stops invalid.0.in_limit invalid.4.short)
+refused_alike p line other Malformed stops stopped j = (wants_event p line other stopped j.0, j.1, λ event spells. never p other stopped j.0.in_limit spells.short)
+refused_alike p line other BadHeader stops stopped j =
+    (wants_header p line other stopped j.0, λ setup sets. never p other stopped j.0.in_limit (sets_short p other setup j.0.heading sets))
+refused_alike p line other PastLimit stops stopped (inl over) = inl over
+refused_alike p line other PastLimit stops stopped (inr many) = inr (wants_event p line other stopped many.0, many.1)
+refused_alike p line other Unlisted stops stopped j = absurd (no_event p line _ stops j)
+refused_alike p line other UniqueUsed stops stopped j = absurd (no_event p line _ stops j)
+refused_alike p line other AddressInUse stops stopped j = absurd (no_event p line _ stops j)
+refused_alike p line other SecondFound stops stopped j = absurd (no_event p line _ stops j)
+refused_alike p line other UnknownNode stops stopped j = absurd (no_event p line _ stops j)
+refused_alike p line other NoPacket stops stopped j = absurd (no_event p line _ stops j.1)
+refused_alike p line other TooManyStarts stops stopped j = absurd (no_event p line _ stops j)
+refused_alike p line other NotBuilt stops stopped j = absurd (no_event p line _ stops j)
 
 at_stop : (p : Progress) (line other : List ℕ) (judgement : Judgement) (Rest Then : Progress → ℕ → List ℕ → Type 0) (status : ℕ) (text : List ℕ) → Stops p line → Stops p other
     → Judged p line judgement → GoesOn p judgement Rest status text → ((j : Judgement) × Judged p other j × GoesOn p j Then status text) × (status ≡ 4)

@@ -1,30 +1,34 @@
 -- Each step of a node keeps what it knows the fold of the history, and so does each event of a world.
-use Rattle.std.proofs.Common.{◌≡◌, ◌≢◌, ℕ, zero, suc, ◌+◌, ◌-◌, ◌^◌, ◌≤◌, min, nat_lt, nat_le, Bool, true, false, not, if◌then◌else◌, List, [], ◌∷◌, ◌++◌, slice_get, Some, Ok, Err, refl, sym, ap, ◌∙◌, subst, arith}
+use Rattle.std.proofs.Common.{◌≡◌, ◌≢◌, ℕ, zero, suc, ◌+◌, ◌-◌, ◌^◌, ◌≤◌, min, nat_lt, nat_le, Bool, true, false, not, ◌&&◌, if◌then◌else◌, List, [], ◌∷◌, ◌++◌, slice_get, Some, Ok, Err, refl, sym, ap, ◌∙◌, subst, arith}
 use Rattle.std.proofs.lemmas.Option.{same_Some}
 use Rattle.ak_address.specs.Unique.{Endpoint, Process}
-use Rattle.ak_address.specs.Uniques.{UniqueSet, has, union, how_many, with_one}
+use Rattle.ak_address.specs.Uniques.{UniqueSet, has, with_one}
+use Rattle.std.specs.FinMap as map
+use Rattle.ak_member.specs.Standing as standing
+use Rattle.ak_member.specs.View.{View, after_entry, joined_views}
 use Rattle.ak_clock.specs.Version.{count, covers, relation, relation_by}
 use Rattle.ak_clock.proofs.VersionLaws.{count-merged, count-bumped_author, covers_from_test}
-use Rattle.ak_driver.specs.declared.history.Entry.{Entry}
-use Rattle.ak_driver.specs.declared.member.Effect.{Effect}
-use Rattle.ak_driver.specs.declared.member.Effect.TheVariants.{Joined}
+use Rattle.ak_history.specs.declared.entry.Entry.{Entry}
+use Rattle.ak_member.specs.declared.effect.Effect.{Effect}
+use Rattle.ak_member.specs.declared.effect.Effect.TheVariants.{Joined}
 use Rattle.ak_driver.specs.declared.wire.Envelope.{Envelope}
 use Rattle.ak_driver.specs.declared.wire.Message.{Message}
 use Rattle.ak_driver.specs.declared.wire.Message.TheVariants as message
-use Rattle.ak_driver.specs.declared.gossip.Received.{Received}
-use Rattle.ak_driver.specs.declared.gossip.GossipFault.TheVariants as fault
+use Rattle.ak_gossip.specs.declared.gossip.Received.{Received}
+use Rattle.ak_gossip.specs.declared.gossip.GossipFault.TheVariants as fault
 use Rattle.ak_driver.specs.declared.node.State.{State}
 use Rattle.ak_driver.specs.declared.node.NodeEvent.{NodeEvent}
 use Rattle.ak_driver.specs.declared.node.NodeEvent.TheVariants as event
 use Rattle.ak_driver.specs.declared.node.Action.{Action}
 use Rattle.ak_driver.specs.declared.node.Action.TheVariants as action
-use Rattle.ak_driver.specs.History.{entries_of, IsNumbered, after_effects, view}
-use Rattle.ak_driver.specs.Gossip.{GossipState, seen_by, same, both, taken, noted, most_uniques}
-use Rattle.ak_driver.specs.Node.{Outcome, nothing, refused, update, and_sends, to_process, is_member, is_listed, is_taken, most_at_join, on_join, found, join, is_answered, on_received, on_gossip, on_message, is_for, rule, is_other, step}
+use Rattle.ak_history.specs.History.{entries_of, IsNumbered, IsBounded, view}
+use Rattle.ak_gossip.specs.Gossip.{GossipState, is_known, seen_by, same, both, taken, noted, most_uniques}
+use Rattle.ak_driver.specs.Node.{Outcome, nothing, refused, update, and_sends, to_process, is_member, is_listed, is_taken, most_at_join, on_join, found, join, is_answered, is_gone, on_received, on_gossip, on_message, is_for, rule, is_other, step}
 use Rattle.ak_driver.specs.World.{sent, recorded}
 use Rattle.ak_driver.specs.Fold.{IsFold}
 use Rattle.ak_driver.proofs.WorldLemmas.{sent-append, recorded-append}
-use Rattle.ak_driver.proofs.HistoryLemmas.{view-merged, view-later, view-update, bounded-front, bounded-update, entries-author, entries-others}
+use Rattle.ak_history.proofs.HistoryLemmas.{bounded-front, bounded-update, entries-author, entries-others}
+use Rattle.ak_history.proofs.ViewsJoined.{view-merged, view-later, view-update}
 
 -- ---- what a message carries
 abbrev pub CarriesFold : List Entry → Message → Type 0
@@ -108,13 +112,16 @@ module _ (history : List Entry) (is_numbered : IsNumbered history) where
         knows = record {
           own = bump ∙ ap (λ c. c + 1) k.own ∙ sym grown;
           fold = record {
-            members = ap (after_effects effects) k.fold.members ∙ sym (view-update entry history n.gossip.version (refl, is_numbered) k.own);
+            shown =
+                ap (λ c. after_entry n.me (c + 1) effects n.gossip.view) k.own
+                ∙ ap (after_entry n.me (entries_of n.me history + 1) effects) k.fold.shown
+                ∙ sym (view-update entry history n.gossip.version (refl, is_numbered) k.own);
             bounded = bounded-update entry history n.gossip.version k.fold.bounded;
           };
         };
         others = λ u apart. entries-others entry history u apart;
         kept = λ g fold. record {
-          members = fold.members ∙ sym (view-later entry history g.version (refl, is_numbered) fold.bounded);
+          shown = fold.shown ∙ sym (view-later entry history g.version (refl, is_numbered) fold.bounded);
           bounded = bounded-front (entry ∷ []) history g.version fold.bounded;
         };
         packets = no_packets (entry ∷ history);
@@ -133,7 +140,7 @@ module _ (history : List Entry) (is_numbered : IsNumbered history) where
   })
 
   found_good : (n : State) → Knows history n.me n.gossip → Good history n.me (found n)
-  found_good n k = either (is_member n) (nothing_good n k) (update_good (Joined n.me ∷ []) (record n { founder = true }) k)
+  found_good n k = either (is_known n.gossip.view.standings n.me) (nothing_good n k) (update_good (Joined n.me ∷ []) (record n { founder = true }) k)
 
 -- then the node sends what it knows
 and_sends_good : (history : List Entry) (me : Process) (what : GossipState → Message) (to : Process) (o : Outcome)
@@ -157,26 +164,27 @@ module _ (history : List Entry) (is_numbered : IsNumbered history) where
   on_join_good from n k =
       either (not (is_member n)) (refused_good history is_numbered 3 n k)
       (either (not (is_listed n.settings.listed from.address)) (refused_good history is_numbered 4 n k)
-      (either (has n.gossip.members from) (and_sends_good history n.me message.Welcome from (nothing n) (λ h g fold. fold) (nothing_good history is_numbered n k))
-      (either (is_taken from n.gossip.members) (nothing_good history is_numbered n k)
-      (either (nat_le most_at_join (how_many n.gossip.members)) (refused_good history is_numbered 6 n k)
-      (and_sends_good history n.me message.Welcome from (update (Joined from ∷ []) n) (λ h g fold. fold) (update_good history is_numbered (Joined from ∷ []) n k))))))
+      (either (standing.is_member n.gossip.view.standings from) (and_sends_good history n.me message.Welcome from (nothing n) (λ h g fold. fold) (nothing_good history is_numbered n k))
+      (either (is_known n.gossip.view.standings from) (nothing_good history is_numbered n k)
+      (either (is_taken from n.gossip.view.standings) (nothing_good history is_numbered n k)
+      (either (nat_le most_at_join (map.len n.gossip.view.standings)) (refused_good history is_numbered 6 n k)
+      (and_sends_good history n.me message.Welcome from (update (Joined from ∷ []) n) (λ h g fold. fold) (update_good history is_numbered (Joined from ∷ []) n k)))))))
 
 -- ---- a gossip that comes
 seen_knows : (history : List Entry) (me : Process) (b : Bool) (g : GossipState) (seen : UniqueSet) → Knows history me g → Knows history me (if b then record g { seen = seen } else g)
-seen_knows history me true g seen k = record { own = k.own; fold = record { members = k.fold.members; bounded = k.fold.bounded } }
+seen_knows history me true g seen k = record { own = k.own; fold = record { shown = k.fold.shown; bounded = k.fold.bounded } }
 seen_knows history me false g seen k = k
 
-module _ (history : List Entry) (me : Process) (own incoming : GossipState) (k : Knows history me own) (fold : IsFold history incoming) where
+module _ (history : List Entry) (is_numbered : IsNumbered history) (me : Process) (own incoming : GossipState) (k : Knows history me own) (fold : IsFold history incoming) where
   noted_knows : (g : GossipState) → Knows history me g → Knows history me (seen_by me g)
-  noted_knows g h = seen_knows history me (has g.members me) g (with_one g.seen me) h
+  noted_knows g h = seen_knows history me (standing.is_member g.view.standings me) g (with_one g.seen me) h
 
   -- nobody else counts more of the node's updates
   not_above : count incoming.version me ≤ count own.version me
   not_above = let below : count incoming.version me ≤ entries_of me history = fold.bounded me in let mine = k.own in omega arith
 
   by_relation : (a b : Bool) → covers own.version incoming.version ≡ a → covers incoming.version own.version ≡ b → Knows history me (noted me (taken (relation_by a b) own incoming)).1
-  by_relation true true p q = noted_knows (same own incoming) (record { own = k.own; fold = record { members = k.fold.members; bounded = k.fold.bounded } })
+  by_relation true true p q = noted_knows (same own incoming) (record { own = k.own; fold = record { shown = k.fold.shown; bounded = k.fold.bounded } })
   by_relation true false p q = k
   by_relation false true p q = noted_knows incoming (record {
     own =
@@ -193,10 +201,10 @@ module _ (history : List Entry) (me : Process) (own incoming : GossipState) (k :
         let mine = k.own in
         omega arith;
     fold = record {
-      members =
-          ap (λ s. union s incoming.members) k.fold.members
-          ∙ ap (λ s. union (view history own.version) s) fold.members
-          ∙ sym (view-merged history own.version incoming.version);
+      shown =
+          ap (λ (v : View). joined_views v incoming.view) k.fold.shown
+          ∙ ap (λ (v : View). joined_views (view history own.version) v) fold.shown
+          ∙ view-merged history own.version incoming.version is_numbered;
       bounded = λ u.
           let is = count-merged own.version incoming.version u in
           let first : count own.version u ≤ entries_of u history = k.fold.bounded u in
@@ -215,18 +223,18 @@ by_tests_good : (history : List Entry) (is_numbered : IsNumbered history) (from 
 by_tests_good history is_numbered from n incoming true b own theirs union r k l = refused_good history is_numbered 5 n k
 by_tests_good history is_numbered from n incoming false true own theirs union r k l = refused_good history is_numbered 6 n k
 by_tests_good history is_numbered from n incoming false false own theirs union r k l =
-    either (is_answered n.me incoming r.0)
+    either (is_answered n.me incoming r.0 && not (is_gone (record n { gossip = r.1 })))
     (and_sends_good history n.me message.Gossip from (nothing (record n { gossip = r.1 })) (λ h g fold. fold) (nothing_good history is_numbered (record n { gossip = r.1 }) l))
     (nothing_good history is_numbered (record n { gossip = r.1 }) l)
 
 module _ (history : List Entry) (is_numbered : IsNumbered history) where
   on_gossip_good : (from : Process) (incoming : GossipState) (n : State) → Knows history n.me n.gossip → IsFold history incoming → Good history n.me (on_gossip from incoming n)
   on_gossip_good from incoming n k fold =
-      either (has incoming.members n.me)
+      either (is_known incoming.view.standings n.me)
       (by_tests_good history is_numbered from n incoming
-      (nat_lt (count n.gossip.version n.me) (count incoming.version n.me)) (nat_lt most_uniques (how_many (union n.gossip.members incoming.members)))
-      (count n.gossip.version n.me) (count incoming.version n.me) (min (how_many (union n.gossip.members incoming.members)) (2 ^ 32 - 1))
-      (noted n.me (taken (relation n.gossip.version incoming.version) n.gossip incoming)) k (noted_is history n.me n.gossip incoming k fold))
+      (nat_lt (count n.gossip.version n.me) (count incoming.version n.me)) (nat_lt most_uniques (map.len (standing.joined_standings n.gossip.view.standings incoming.view.standings)))
+      (count n.gossip.version n.me) (count incoming.version n.me) (map.len (standing.joined_standings n.gossip.view.standings incoming.view.standings))
+      (noted n.me (taken (relation n.gossip.version incoming.version) n.gossip incoming)) k (noted_is history is_numbered n.me n.gossip incoming k fold))
       (nothing_good history is_numbered n k)
 
   on_message_good : (from : Process) (m : Message) (n : State) → Knows history n.me n.gossip → CarriesFold history m → Good history n.me (on_message from m n)

@@ -1,19 +1,19 @@
 -- Each event of a world keeps what is known in it the fold of its history, and a history only grows.
-use Rattle.std.proofs.Common.{◌≡◌, ◌≢◌, ℕ, zero, suc, ◌+◌, ◌-◌, leb, ◌==◌, Bool, true, false, not, if◌then◌else◌, ◌⊎◌, inl, inr, List, [], ◌∷◌, ◌++◌, length, slice_get, slice_set, Option, Some, None, Result, Ok, Err, refl, sym, ap, ◌∙◌, subst, arith, true≢false, append_assoc}
+use Rattle.std.proofs.Common.{◌≡◌, ◌≢◌, ℕ, zero, suc, ◌+◌, ◌-◌, leb, ◌==◌, Bool, true, false, not, if◌then◌else◌, ◌⊎◌, inl, inr, List, [], ◌∷◌, ◌++◌, length, take, slice_get, slice_set, Option, Some, None, Result, Ok, Err, refl, sym, ap, ◌∙◌, subst, arith, true≢false, append_assoc}
 use Rattle.std.proofs.lemmas.Bool.{lt-leb}
 use Rattle.std.proofs.lemmas.Option.{same_Some}
 use Rattle.std.specs.List.{list_any}
 use Rattle.std.specs.Ordering.{is_eq}
 use Rattle.std.specs.FinMap as map
 use Rattle.ak_address.specs.Unique.{Process, unique_cmp}
-use Rattle.ak_address.specs.Uniques.{no_one}
+use Rattle.ak_member.specs.View.{empty_view, after_entry}
 use Rattle.ak_address.proofs.TableLaws.{key_itself}
 use Rattle.ak_clock.specs.Version.{count}
 use Rattle.ak_clock.proofs.VersionLaws.{count-empty}
 use Rattle.ak_schedule.specs.Settings.{Setup}
 use Rattle.ak_schedule.specs.declared.event.Event.{Event}
 use Rattle.ak_schedule.specs.declared.event.Event.TheVariants.{Start, Found, Join, Tick, Deliver, Leave, Down, Offer, Stop}
-use Rattle.ak_driver.specs.declared.history.Entry.{Entry}
+use Rattle.ak_history.specs.declared.entry.Entry.{Entry}
 use Rattle.ak_driver.specs.declared.wire.Envelope.{Envelope}
 use Rattle.ak_driver.specs.declared.wire.Message.{Message}
 use Rattle.ak_driver.specs.declared.wire.Message.TheVariants as message
@@ -24,13 +24,13 @@ use Rattle.ak_driver.specs.declared.node.Action.{Action}
 use Rattle.ak_driver.specs.declared.node.Action.TheVariants.{Send, Update, View, Refused as RefusedAction, Dead}
 use Rattle.ak_driver.specs.declared.world.Refused.{Refused}
 use Rattle.ak_driver.specs.declared.world.Refused.TheVariants as refusal
-use Rattle.ak_driver.specs.History.{entries_of, IsNumbered, after_effects, view}
-use Rattle.ak_driver.specs.Gossip.{GossipState}
+use Rattle.ak_history.specs.History.{entries_of, IsNumbered, view}
+use Rattle.ak_gossip.specs.Gossip.{GossipState}
 use Rattle.ak_driver.specs.Node.{Outcome, started, is_listed, step}
 use Rattle.ak_driver.specs.World.{WorldState, Done, empty_world, sent, recorded, stepped, gives, acts, arrives, delivers, starts, packet_at, is_process, is_used, node_of, receiver_of, most_starts, happens, after, run_from, run}
 use Rattle.ak_driver.specs.Fold.{IsFold, Carries, IsIn}
 use Rattle.ak_driver.proofs.NodeLemmas.{any_here}
-use Rattle.ak_driver.proofs.HistoryLemmas.{view-front}
+use Rattle.ak_history.proofs.ViewsJoined.{view-front}
 use Rattle.ak_driver.proofs.FoldLemmas.{CarriesFold, Packets, no_packets, more_packets, Knows, Good, BringsFold, step_good}
 
 -- ---- a list of nodes after one is replaced, and after one more
@@ -64,13 +64,13 @@ front_at (x ∷ xs) ys zero m is = is
 front_at (x ∷ xs) ys (suc j) m is = front_at xs ys j m is
 
 -- nothing is shown where nothing is counted
-view-nothing : (history : List Entry) → IsNumbered history → no_one ≡ view history map.empty
+view-nothing : (history : List Entry) → IsNumbered history → empty_view ≡ view history map.empty
 view-nothing [] is_numbered = refl
 view-nothing (e ∷ history) is_numbered =
     let number : e.number ≡ entries_of e.author history + 1 = is_numbered.0 in
     let none = count-empty e.author in
     view-nothing history is_numbered.1
-    ∙ ap (λ b. if b then after_effects e.effects (view history map.empty) else view history map.empty) (sym (lt-leb e.number (count map.empty e.author) (omega arith)))
+    ∙ ap (λ b. if b then after_entry e.author e.number e.effects (view history map.empty) else view history map.empty) (sym (lt-leb e.number (count map.empty e.author) (omega arith)))
 
 -- ---- what is true of each world of a run
 -- no node is this process
@@ -185,7 +185,7 @@ module _ (nodes : List State) (packets : List Envelope) (history : List Entry) (
     each = push_at (λ j (m : State). Knows history m.me m.gossip) nodes (started u setup) s.each (record {
       own = count-empty u ∙ sym (s.fresh u is_new);
       fold = record {
-        members = view-nothing history s.is_numbered;
+        shown = view-nothing history s.is_numbered;
         bounded = λ v. let none = count-empty v in omega arith;
       };
     });
@@ -290,17 +290,35 @@ run-append : (setup : Setup) (w : WorldState) (first more : List Event) → run_
 run-append setup w [] more = refl
 run-append setup w (e ∷ first) more = run-append setup (after w (happens setup e w)) first more
 
-later_members : (old new : WorldState) → IsSound old → Next old.history new → (g f : GossipState) → IsIn g old → IsIn f new → g.version ≡ f.version → g.members ≡ f.members
-later_members old new s next g f in_old in_new same =
+later_views : (old new : WorldState) → IsSound old → Next old.history new → (g f : GossipState) → IsIn g old → IsIn f new → g.version ≡ f.version → g.view ≡ f.view
+later_views old new s next g f in_old in_new same =
     let first : IsFold old.history g = known_fold old s g in_old in
     let second : IsFold new.history f = known_fold new next.sound f in_new in
-    first.members
+    first.shown
     ∙ sym (view-front next.added old.history g.version (subst IsNumbered next.grown next.sound.is_numbered) first.bounded)
     ∙ ap (λ h. view h g.version) (sym next.grown)
     ∙ ap (view new.history) same
-    ∙ sym second.members
+    ∙ sym second.shown
 
-pub same_members : (setup : Setup) (first more : List Event) (g f : GossipState) → IsIn g (run setup first) → IsIn f (run setup (first ++ more)) → g.version ≡ f.version → g.members ≡ f.members
-same_members setup first more g f in_old in_new same =
-    later_members (run setup first) (run_from setup (run setup first) more) (run_sound setup first) (run_next setup (run setup first) more (run_sound setup first)) g f in_old
+pub same_views : (setup : Setup) (first more : List Event) (g f : GossipState) → IsIn g (run setup first) → IsIn f (run setup (first ++ more)) → g.version ≡ f.version → g.view ≡ f.view
+same_views setup first more g f in_old in_new same =
+    later_views (run setup first) (run_from setup (run setup first) more) (run_sound setup first) (run_next setup (run setup first) more (run_sound setup first)) g f in_old
     (subst (IsIn f) (run-append setup empty_world first more) in_new) same
+
+-- of two first parts of a list one goes on from the other
+one_goes_on : (i j : ℕ) (events : List Event) → ((more : List Event) × (take j events ≡ take i events ++ more)) ⊎ ((more : List Event) × (take i events ≡ take j events ++ more))
+one_goes_on zero j events = inl (take j events, refl)
+one_goes_on (suc i) zero events = inr (take (suc i) events, refl)
+one_goes_on (suc i) (suc j) [] = inl ([], refl)
+one_goes_on (suc i) (suc j) (e ∷ events) = elim (one_goes_on i j events) [
+  | inl longer ↦ inl (longer.0, ap (λ (l : List Event). e ∷ l) longer.1)
+  | inr shorter ↦ inr (shorter.0, ap (λ (l : List Event). e ∷ l) shorter.1)
+]
+
+-- at any two times of one run
+pub views_at_times : (setup : Setup) (events : List Event) (i j : ℕ) (g f : GossipState) → IsIn g (run setup (take i events)) → IsIn f (run setup (take j events))
+    → g.version ≡ f.version → g.view ≡ f.view
+views_at_times setup events i j g f at_i at_j same = elim (one_goes_on i j events) [
+  | inl longer ↦ same_views setup (take i events) longer.0 g f at_i (subst (λ (l : List Event). IsIn f (run setup l)) longer.1 at_j) same
+  | inr shorter ↦ sym (same_views setup (take j events) shorter.0 f g at_j (subst (λ (l : List Event). IsIn g (run setup l)) shorter.1 at_i) (sym same))
+]

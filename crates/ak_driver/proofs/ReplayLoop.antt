@@ -9,7 +9,7 @@ use Rattle.ak_outside.proofs.Fronts.{AppendsFront-after, AppendsFront-more}
 use Rattle.ak_schedule.specs.Draft.{first_draft}
 use Rattle.ak_schedule.specs.Line.{lines}
 use Rattle.ak_driver.specs.declared.replay.Code.{Code}
-use Rattle.ak_driver.specs.declared.replay.Code.TheVariants.{Malformed, PastLimit, NotBuilt}
+use Rattle.ak_driver.specs.declared.replay.Code.TheVariants.{Malformed, BadHeader, Unlisted, UniqueUsed, AddressInUse, SecondFound, UnknownNode, NoPacket, TooManyStarts, PastLimit, NotBuilt}
 use Rattle.ak_driver.specs.declared.replay.Replay.{Replay}
 use Rattle.ak_driver.specs.declared.replay.Stage.{Stage}
 use Rattle.ak_driver.specs.declared.replay.Stage.TheVariants.{Heading, Running}
@@ -17,9 +17,9 @@ use Rattle.ak_driver.specs.declared.replay.Stop.{Stop}
 use Rattle.ak_driver.specs.declared.replay.Stop.TheVariants.{Refused, NoMemory}
 use Rattle.ak_driver.specs.StatusWords.{Written, memory_line}
 use Rattle.ak_driver.specs.StepText.{summary_text}
-use Rattle.ak_driver.specs.ReplayText.{Progress, Judgement, Passes, Sets, Steps, Refuses, S13, GoesOn, GoesOnPrinting, Replays, IsReplay, FirstSteps, IsFirstSteps, at_start, refusal_text}
+use Rattle.ak_driver.specs.ReplayText.{Progress, Judgement, Passes, Sets, Steps, Refuses, GoesOn, GoesOnPrinting, Replays, IsReplay, FirstSteps, IsFirstSteps, at_start, refusal_text}
 use Rattle.ak_driver.specs.ReplayPromise.{Prints}
-use Rattle.ak_driver.specs.ReplayWords.{code_of, progress, progress_of, Brings, Turns, TurnAnswers, FinishAnswers, Ended}
+use Rattle.ak_driver.specs.ReplayWords.{progress, progress_of, Brings, Turns, TurnAnswers, FinishAnswers, Ended}
 
 -- one whole text, and then the last one
 pub written_after : (a b d : Option (List ℕ)) (text last : List ℕ) (ends answer : Status) (f0 f1 f2 : ℕ) → f0 ≤ f1 → f1 ≤ f2 → Appends a b text
@@ -39,7 +39,7 @@ refusal_starved text same refusal answer rose old new s w =
 -- an end that is a refusal
 pub refused_end : (end : Result (Unit {0}) Stop) (stop : Stop) (code : Code) (line : ℕ) (text : List ℕ) (answer : Status) (rose : Type 0) (old new : Option (List ℕ))
     → end ≡ Err stop → stop ≡ Refused code
-    → Written Schedule (text ++ refusal_text (code_of code) line) answer rose old new ⊎ Written Memory (text ++ memory_line) answer rose old new
+    → Written Schedule (text ++ refusal_text code line) answer rose old new ⊎ Written Memory (text ++ memory_line) answer rose old new
     → Ended end line text answer rose old new
 refused_end end stop code line text answer rose old new e f w =
     subst (λ (r : Result (Unit {0}) Stop). Ended r line text answer rose old new) (sym e)
@@ -186,9 +186,9 @@ pub along_stop : (e : Stop) (bytes : List ℕ) (old now later : Option (List ℕ
     (number : ℕ) (answer : Status) (rose : Type 0) → Along bytes old now p rest out → rest ≡ line ∷ behind → TurnAnswers (Err e) line p q out after
     → number ≡ p.line → Ended (Err e) number after answer rose now later → Prints bytes answer old later
 along_stop (Refused code) bytes old now later p q line rest behind out after number answer rose a e t n w =
-    along_refusal bytes old now later p rest out after (refusal_text (code_of code) number) answer rose a
-    (subst (λ (k : ℕ). Replays p rest 4 (refusal_text (code_of code) k)) (sym n)
-    (subst (λ (ls : List (List ℕ)). Replays p ls 4 (refusal_text (code_of code) p.line)) (sym e) (Refuses (code_of code), t.0, (refl, refl))))
+    along_refusal bytes old now later p rest out after (refusal_text code number) answer rose a
+    (subst (λ (k : ℕ). Replays p rest 4 (refusal_text code k)) (sym n)
+    (subst (λ (ls : List (List ℕ)). Replays p ls 4 (refusal_text code p.line)) (sym e) (Refuses code, t.0, (refl, refl))))
     t.1 w
 along_stop NoMemory bytes old now later p q line rest behind out after number answer rose a e t n w =
     along_memory bytes old now later p rest out after answer rose a t w
@@ -208,11 +208,19 @@ along_finish (Ok u) bytes old now later p rest out after number answer rose a e 
     a.taken
     (subst (λ (t : List ℕ). Written Done t answer rose now later) f.1 w)
 along_finish (Err (Refused Malformed)) bytes old now later p rest out after number answer rose a e f n w = absurd f
+along_finish (Err (Refused Unlisted)) bytes old now later p rest out after number answer rose a e f n w = absurd f
+along_finish (Err (Refused UniqueUsed)) bytes old now later p rest out after number answer rose a e f n w = absurd f
+along_finish (Err (Refused AddressInUse)) bytes old now later p rest out after number answer rose a e f n w = absurd f
+along_finish (Err (Refused SecondFound)) bytes old now later p rest out after number answer rose a e f n w = absurd f
+along_finish (Err (Refused UnknownNode)) bytes old now later p rest out after number answer rose a e f n w = absurd f
+along_finish (Err (Refused NoPacket)) bytes old now later p rest out after number answer rose a e f n w = absurd f
+along_finish (Err (Refused TooManyStarts)) bytes old now later p rest out after number answer rose a e f n w = absurd f
 along_finish (Err (Refused PastLimit)) bytes old now later p rest out after number answer rose a e f n w = absurd f
-along_finish (Err (Refused NotBuilt)) bytes old now later p rest out after number answer rose a e f n w =
-    along_refusal bytes old now later p rest out after (refusal_text S13 number) answer rose a
-    (subst (λ (k : ℕ). Replays p rest 4 (refusal_text S13 k)) (sym n)
-    (subst (λ (ls : List (List ℕ)). Replays p ls 4 (refusal_text S13 p.line)) (sym e) (inr (f.0, refl, refl))))
+along_finish (Err (Refused NotBuilt)) bytes old now later p rest out after number answer rose a e f n w = absurd f
+along_finish (Err (Refused BadHeader)) bytes old now later p rest out after number answer rose a e f n w =
+    along_refusal bytes old now later p rest out after (refusal_text BadHeader number) answer rose a
+    (subst (λ (k : ℕ). Replays p rest 4 (refusal_text BadHeader k)) (sym n)
+    (subst (λ (ls : List (List ℕ)). Replays p ls 4 (refusal_text BadHeader p.line)) (sym e) (inr (f.0, refl, refl))))
     f.1 w
 along_finish (Err NoMemory) bytes old now later p rest out after number answer rose a e f n w =
     along_memory bytes old now later p rest out after answer rose a f w

@@ -1,12 +1,15 @@
 -- What is printed of a list, one piece after another, and of the parts of a step and a summary.
-use Rattle.std.proofs.Common.{◌≡◌, ℕ, ◌+◌, ◌<◌, ◌≤◌, List, [], ◌∷◌, ◌++◌, length, map, take, slice_get, Option, Some, None, refl, sym, ap, ◌∙◌, arith, append_assoc, suc, zero, rules}
+use Rattle.std.proofs.Common.{◌≡◌, ℕ, ◌+◌, ◌<◌, ◌≤◌, List, [], ◌∷◌, ◌++◌, length, map, take, drop, slice_get, option_to_list, Option, Some, None, refl, sym, ap, ◌∙◌, arith, lit<, append_assoc, append-nil, suc, zero, rules}
 use Rattle.std.specs.Prelude.{codes}
 use Rattle.std.specs.Fmt.{decimal}
 use Rattle.std.specs.FinMap as finmap
 use Rattle.std.proofs.lemmas.List.{take_more, take_all, map_push, length-take-le, length-map, nil_from_length}
 use Rattle.std.proofs.lemmas.Option.{get_or_from_slice_get, slice_get_within}
 use Rattle.ak_address.specs.Uniques.{UniqueSet, in_order, how_many}
-use Rattle.ak_driver.specs.StepText.{listed_text, separator, summary_text, step_text, delivery_text, actions_text, shown, acting}
+use Rattle.ak_address.specs.Unique.{Process}
+use Rattle.ak_address.specs.Spelling.{unique_text}
+use Rattle.ak_member.proofs.Walks.{KeepsRows, kept_row, kept_at_end, drop_from}
+use Rattle.ak_driver.specs.StepText.{listed_text, separator, none_text, spaced_text, subjects_text, summary_text, step_text, delivery_text, actions_text, shown, acting}
 use Rattle.ak_driver.specs.World.{WorldState, Done}
 use Rattle.ak_driver.specs.declared.node.State.{State}
 use Rattle.ak_schedule.specs.Schedule.{event_text}
@@ -57,6 +60,82 @@ printed_all f xs place start now past some printed = printed ∙ ap (λ (t : Lis
 -- there is nothing to print
 pub printed_none : {X : Type 0} (f : X → List ℕ) (xs : List X) (start now : List ℕ) → length xs ≡ 0 → now ≡ start ++ codes "-" → now ≡ start ++ listed_text (map f xs)
 printed_none {X = X} f xs start now none printed = printed ∙ ap (λ (ys : List X). start ++ listed_text (map f ys)) (sym (nil_from_length xs none))
+
+-- the text of the pieces that are left after so many
+abbrev pub rest_text : ℕ → List (List ℕ) → List ℕ
+rest_text printed [] = none_text printed
+rest_text printed (piece ∷ pieces) = separator printed ++ piece ++ rest_text (printed + 1) pieces
+
+behind_some : (n : ℕ) → 0 < n → separator n ≡ codes ", "
+behind_some zero some = absurd (omega arith)
+behind_some (suc n) some = separator_later n
+
+none_behind : (n : ℕ) → 0 < n → none_text n ≡ []
+none_behind zero some = absurd (omega arith)
+none_behind (suc n) some = search rules
+
+rest_later : (n : ℕ) (piece : List ℕ) (pieces : List (List ℕ)) → 0 < n → rest_text n (piece ∷ pieces) ≡ codes ", " ++ listed_text (piece ∷ pieces)
+rest_later n piece [] some =
+    ap (λ (t : List ℕ). t ++ piece ++ none_text (n + 1)) (behind_some n some)
+    ∙ ap (λ (t : List ℕ). codes ", " ++ piece ++ t) (none_behind (n + 1) (omega arith))
+    ∙ append-nil (codes ", " ++ piece)
+rest_later n piece (next ∷ pieces) some =
+    ap (λ (t : List ℕ). t ++ piece ++ rest_text (n + 1) (next ∷ pieces)) (behind_some n some)
+    ∙ ap (λ (t : List ℕ). codes ", " ++ piece ++ t) (rest_later (n + 1) next pieces (omega arith))
+    ∙ append_assoc (codes ", ") piece (codes ", " ++ listed_text (next ∷ pieces))
+    ∙ ap (λ (t : List ℕ). codes ", " ++ t) (sym (append_assoc piece (codes ", ") (listed_text (next ∷ pieces))))
+
+-- at first all pieces are left
+pub all_left : (pieces : List (List ℕ)) → rest_text 0 pieces ≡ listed_text pieces
+all_left [] = refl
+all_left (piece ∷ []) = append-nil piece
+all_left (piece ∷ next ∷ pieces) = ap (λ (t : List ℕ). piece ++ t) (rest_later 1 next pieces (lit< tt)) ∙ sym (append_assoc piece (codes ", ") (listed_text (next ∷ pieces)))
+
+-- rows are walked once, and what is kept of them is printed
+module _ {X Y : Type 0} (kept : List X → List Y) (k : KeepsRows kept) (f : Y → List ℕ) where
+  pub walk_printed : (xs : List X) (place n : ℕ) (y : Y) (was parted now whole : List ℕ) → y ∷ [] ≡ kept (option_to_list (slice_get xs place))
+      → parted ≡ was ++ separator n → now ≡ parted ++ f y
+      → was ++ rest_text n (map f (kept (drop place xs))) ≡ whole → now ++ rest_text (n + 1) (map f (kept (drop (place + 1) xs))) ≡ whole
+  walk_printed xs place n y was parted now whole there apart printed so_far =
+      let rest : List (List ℕ) = map f (kept (drop (place + 1) xs)) in
+      let row : kept (drop place xs) ≡ y ∷ kept (drop (place + 1) xs) = kept_row kept k xs place (Some y) there in
+      ap (λ (t : List ℕ). t ++ rest_text (n + 1) rest) (printed ∙ ap (λ (t : List ℕ). t ++ f y) apart)
+      ∙ ap (λ (t : List ℕ). t ++ rest_text (n + 1) rest) (append_assoc was (separator n) (f y))
+      ∙ append_assoc was (separator n ++ f y) (rest_text (n + 1) rest)
+      ∙ ap (λ (ys : List Y). was ++ rest_text n (map f ys)) (sym row)
+      ∙ so_far
+
+  pub walk_passed : (xs : List X) (place n : ℕ) (was whole : List ℕ) → [] ≡ kept (option_to_list (slice_get xs place))
+      → was ++ rest_text n (map f (kept (drop place xs))) ≡ whole → was ++ rest_text n (map f (kept (drop (place + 1) xs))) ≡ whole
+  walk_passed xs place n was whole there so_far =
+      let row : kept (drop place xs) ≡ kept (drop (place + 1) xs) = kept_row kept k xs place None there in
+      ap (λ (ys : List Y). was ++ rest_text n (map f ys)) (sym row) ∙ so_far
+
+  pub walk_ended : (xs : List X) (place n : ℕ) (was now whole : List ℕ) → length xs ≤ place → now ≡ was ++ none_text n
+      → was ++ rest_text n (map f (kept (drop place xs))) ≡ whole → now ≡ whole
+  walk_ended xs place n was now whole past printed so_far =
+      printed ∙ ap (λ (ys : List Y). was ++ rest_text n (map f ys)) (sym (kept_at_end kept k xs place past)) ∙ so_far
+
+-- one more process is printed, after its space
+pub spaced_more : (us : List Process) (place : ℕ) (u : Process) (was parted now whole : List ℕ) → u ∷ [] ≡ option_to_list (slice_get us place)
+    → parted ≡ was ++ codes " " → now ≡ parted ++ unique_text u
+    → was ++ spaced_text (drop place us) ≡ whole → now ++ spaced_text (drop (place + 1) us) ≡ whole
+spaced_more us place u was parted now whole there apart printed so_far =
+    let rest : List ℕ = spaced_text (drop (place + 1) us) in
+    let row : drop place us ≡ u ∷ drop (place + 1) us = drop_from us place ∙ ap (λ (first : List Process). first ++ drop (place + 1) us) (sym there) in
+    ap (λ (t : List ℕ). t ++ rest) (printed ∙ ap (λ (t : List ℕ). t ++ unique_text u) apart)
+    ∙ ap (λ (t : List ℕ). t ++ rest) (append_assoc was (codes " ") (unique_text u))
+    ∙ append_assoc was (codes " " ++ unique_text u) rest
+    ∙ ap (λ (us : List Process). was ++ spaced_text us) (sym row)
+    ∙ so_far
+
+-- an observer finds nobody, or somebody, unreachable
+pub subjects_none : (us : List Process) → length us ≡ 0 → subjects_text us ≡ codes " none"
+subjects_none us none = ap subjects_text (nil_from_length us none)
+
+pub subjects_some : (us : List Process) → 0 < length us → subjects_text us ≡ spaced_text us
+subjects_some [] some = absurd (omega arith)
+subjects_some (u ∷ us) some = refl
 
 -- where no element stands, the list has ended
 pub ended : {X : Type 0} (xs : List X) (place : ℕ) → slice_get xs place ≡ None → place < length xs → ⊥

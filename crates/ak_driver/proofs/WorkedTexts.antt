@@ -1,5 +1,5 @@
 -- The text of two schedules, from the definitions.
-use Rattle.std.proofs.Common.{◌≡◌, ℕ, ◌+◌, ◌^◌, ◌<◌, ◌≤◌, List, [], ◌∷◌, ◌++◌, length, refl, sym, subst, ap, ◌∙◌, inl, arith, lit<, lit≤, Some, Ok, Bool, true, false, not, ◌&&◌, zero, suc, ◌≢◌, get_or, unwrap_or, if◌then◌else◌}
+use Rattle.std.proofs.Common.{◌≡◌, ℕ, ◌+◌, ◌^◌, ◌<◌, ◌≤◌, List, [], ◌∷◌, ◌++◌, length, refl, sym, subst, ap, ◌∙◌, inl, arith, lit<, lit≤, Some, Ok, Bool, true, false, not, ◌&&◌, zero, suc, ◌≢◌, get_or, unwrap_or, is_some, if◌then◌else◌}
 use Rattle.std.specs.Prelude.{codes, slice_get, IfSome}
 use Rattle.std.specs.Fmt.{digits, decimal}
 use Rattle.std.specs.Prelude.{nat_le, map as list_map}
@@ -7,10 +7,11 @@ use Rattle.std.specs.List.{AllPairs, list_all}
 use Rattle.std.specs.FinMap as map
 use Rattle.ak_address.specs.Uniques.{no_one, with_one}
 use Rattle.ak_address.proofs.TableLaws.{get-empty, entries-insert-empty}
-use Rattle.ak_address.proofs.UniquesLaws.{has-no_one}
+use Rattle.ak_address.specs.Table.{value_with}
 use Rattle.ak_clock.specs.Version.{count, covers, relation_by}
 use Rattle.ak_address.specs.Unique.{Endpoint, Process, IsAddress, IsUnique}
 use Rattle.ak_address.proofs.Spelled.{number_text_spells, address_text_spells}
+use Rattle.ak_schedule.specs.Draft.{first_draft}
 use Rattle.ak_schedule.specs.declared.settings.Strategy.{Strategy}
 use Rattle.ak_schedule.specs.declared.settings.Strategy.TheVariants.{StaticQuorum}
 use Rattle.ak_schedule.specs.declared.settings.Header as header
@@ -21,16 +22,21 @@ use Rattle.ak_schedule.specs.Settings.{Setup}
 use Rattle.ak_schedule.specs.Schedule.{headers, SetsHeader, SpellsEvent, SpellsListing, SpellsStrategy, SpellsSetting, SpellsNumber}
 use Rattle.ak_schedule.proofs.Canonical.{canonical}
 use Rattle.ak_schedule.proofs.PassedOver.{no_event, no_header}
-use Rattle.ak_driver.specs.declared.member.Effect.TheVariants.{Joined}
+use Rattle.ak_member.specs.declared.effect.Effect.TheVariants.{Joined}
+use Rattle.ak_member.specs.declared.standing.Standing.{Standing}
+use Rattle.ak_member.specs.declared.standing.Standing.TheVariants.{Member}
+use Rattle.ak_member.specs.declared.status.Status.TheVariants.{Joining}
+use Rattle.ak_member.specs.Standing.{nobody, joined_standing, member_rows, tombstone_rows}
+use Rattle.ak_member.specs.View.{View}
 use Rattle.ak_driver.specs.declared.node.State.{State}
 use Rattle.ak_driver.specs.declared.node.Action.{Action}
 use Rattle.ak_driver.specs.declared.node.Action as action
 use Rattle.ak_driver.specs.declared.node.NodeEvent as event
-use Rattle.ak_driver.specs.Gossip.{GossipState}
+use Rattle.ak_gossip.specs.Gossip.{GossipState}
 use Rattle.ak_driver.specs.Node.{Outcome, started, nothing, update, closed, step, is_same, is_other}
-use Rattle.ak_driver.specs.StepText.{step_text, listed_text, count_text, member_text, view_text, item}
+use Rattle.ak_driver.specs.StepText.{step_text, listed_text, count_text, member_text, tombstone_text, view_text, item}
 use Rattle.ak_driver.specs.World.{WorldState, Done, empty_world, happens, stepped}
-use Rattle.ak_driver.specs.ReplayText.{Progress, Judgement, Judged, GoesOn, Replays, at_start, unset, IsReplay, most_lines, most_events}
+use Rattle.ak_driver.specs.ReplayText.{Progress, Judgement, Judged, GoesOn, Replays, at_start, IsReplay, most_lines, most_events}
 use Rattle.ak_driver.specs.ReplayText as replay
 use Rattle.ak_driver.specs.Worked.{text_of, and_limits, empty_schedule, empty_text, founding_schedule, founding_text}
 
@@ -127,6 +133,7 @@ first_lines : (listing strategy : List ℕ) (listed : List Endpoint) (quorum : �
     → length strategy ≤ most_bytes → SpellsStrategy (words strategy) (StaticQuorum quorum)
     → Replays (headed 9 (limited listed (StaticQuorum quorum))) rest status text → Replays at_start (listing ∷ strategy ∷ and_limits rest) status text
 first_lines listing strategy listed quorum rest status text short spelled short' spelled' more =
+    let unset : Setup = first_draft.setup in
     header_line 0 unset (record unset { listed = listed }) listing (strategy ∷ and_limits rest) header.TheVariants.Listed status text (lit< tt) refl
     (record { short = short; words = (listed, spelled, refl) })
     (header_line 1 (record unset { listed = listed }) (record unset { listed = listed; strategy = StaticQuorum quorum }) strategy (and_limits rest) header.TheVariants.Strategy status text (lit< tt) refl
@@ -233,8 +240,14 @@ abbrev both_started : WorldState
 both_started = record empty_world { nodes = node_a ∷ node_b ∷ [] }
 
 -- what the founder knows then
+abbrev joining : Standing
+joining = Member Joining 0
+
+abbrev founders_view : Standing → View
+founders_view standing = record { standings = map.insert nobody a_1 standing; rows = map.empty }
+
 abbrev founders_gossip : GossipState
-founders_gossip = record { version = map.insert map.empty a_1 1; members = with_one no_one a_1; seen = with_one no_one a_1 }
+founders_gossip = record { version = map.insert map.empty a_1 1; view = founders_view joining; seen = with_one no_one a_1 }
 
 abbrev founder_a : State
 founder_a = record node_a { steps = 1; founder = true; gossip = founders_gossip }
@@ -258,29 +271,40 @@ not_covered =
 other : is_other map.empty (map.insert map.empty a_1 1) ≡ true
 other = ap (λ b. not (is_same (relation_by b (covers (map.insert map.empty a_1 1) map.empty)))) not_covered ∙ not_same _
 
-abbrev updated_by : ℕ → Outcome
-updated_by number = (
-  record node_a { steps = 1; founder = true; gossip = record founders_gossip { version = map.insert map.empty a_1 number } },
+new_there : value_with joined_standing (map.get nobody a_1) joining ≡ joining
+new_there = ap (λ o. value_with joined_standing o joining) (get-empty a_1)
+
+abbrev updated_by : ℕ → Standing → Outcome
+updated_by number standing = (
+  record node_a {
+    steps = 1;
+    founder = true;
+    gossip = record founders_gossip { version = map.insert map.empty a_1 number; view = founders_view standing };
+  },
   action.TheVariants.Update number (Joined a_1 ∷ []) ∷ [],
 )
 
 founds : step event.TheVariants.Found node_a ≡ (founder_a, founding)
 founds =
-    ap (λ b. closed node_a (if b then nothing (record node_a { steps = 1 }) else update (Joined a_1 ∷ []) (record node_a { steps = 1; founder = true }))) (has-no_one a_1)
-    ∙ ap (λ number. closed node_a (updated_by number)) none_counted
-    ∙ ap (λ b. if b then (founder_a, founding) else updated_by 1) other
+    ap (λ o. closed node_a (if is_some o then nothing (record node_a { steps = 1 }) else update (Joined a_1 ∷ []) (record node_a { steps = 1; founder = true }))) (get-empty a_1)
+    ∙ ap (λ number. closed node_a (updated_by number (value_with joined_standing (map.get nobody a_1) joining))) none_counted
+    ∙ ap (λ standing. closed node_a (updated_by 1 standing)) new_there
+    ∙ ap (λ b. if b then (founder_a, founding) else updated_by 1 joining) other
 
 abbrev founded : Done
 founded = stepped 0 (founder_a, founding) (record both_started { founded = true })
 
-abbrev view_with : List (Process × ℕ) → List (Process × Unit {0}) → List ℕ
-view_with rows keys = codes "view " ++ listed_text (list_map count_text rows) ++ codes " | " ++ listed_text (list_map member_text (list_map (λ e. e.0) keys)) ++ codes " | -"
+abbrev view_with : List (Process × ℕ) → List (Process × Standing) → List ℕ
+view_with counted known =
+    codes "view " ++ listed_text (list_map count_text counted)
+    ++ codes " | " ++ listed_text (list_map member_text (member_rows known))
+    ++ codes " | " ++ listed_text (list_map tombstone_text (tombstone_rows known))
 
 view_is : view_text founders_gossip ≡ codes "view a:1#1=1 | a:1#1 joining | -"
 unfolding digits
 view_is =
-    ap (λ rows. view_with rows (map.entries (with_one no_one a_1))) (entries-insert-empty a_1 1)
-    ∙ ap (view_with ((a_1, 1) ∷ [])) (entries-insert-empty a_1 tt)
+    ap (λ counted. view_with counted (map.entries founders_gossip.view.standings)) (entries-insert-empty a_1 1)
+    ∙ ap (view_with ((a_1, 1) ∷ [])) (entries-insert-empty a_1 joining)
 
 abbrev summary : List ℕ
 summary = text_of (codes "steps 3" ∷ codes "packets 0" ∷ codes "history 1" ∷ codes "margin kept" ∷ codes "doubles none" ∷ [])

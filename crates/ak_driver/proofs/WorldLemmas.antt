@@ -17,14 +17,14 @@ use Rattle.ak_address.specs.Unique.{Endpoint, Process, address_cmp}
 use Rattle.ak_schedule.specs.Settings.{Setup}
 use Rattle.ak_schedule.specs.declared.event.Event.{Event}
 use Rattle.ak_schedule.specs.declared.event.Event.TheVariants.{Start, Found, Join, Tick, Deliver, Leave, Down, Offer, Stop}
-use Rattle.ak_driver.specs.declared.history.Entry.{Entry}
-use Rattle.ak_driver.specs.declared.member.Effect.{Effect}
-use Rattle.ak_driver.specs.declared.member.Effect.TheVariants.{Joined}
+use Rattle.ak_history.specs.declared.entry.Entry.{Entry}
+use Rattle.ak_member.specs.declared.effect.Effect.{Effect}
+use Rattle.ak_member.specs.declared.effect.Effect.TheVariants.{Joined}
 use Rattle.ak_driver.specs.declared.wire.Envelope.{Envelope}
 use Rattle.ak_driver.specs.declared.wire.Message.{Message}
 use Rattle.ak_driver.specs.declared.wire.Message as message
-use Rattle.ak_driver.specs.declared.gossip.Received as received
-use Rattle.ak_driver.specs.declared.gossip.GossipFault as fault
+use Rattle.ak_gossip.specs.declared.gossip.Received as received
+use Rattle.ak_gossip.specs.declared.gossip.GossipFault as fault
 use Rattle.ak_driver.specs.declared.node.State.{State}
 use Rattle.ak_driver.specs.declared.node.NodeEvent.{NodeEvent}
 use Rattle.ak_driver.specs.declared.node.NodeEvent as event
@@ -32,9 +32,11 @@ use Rattle.ak_driver.specs.declared.node.Action.{Action}
 use Rattle.ak_driver.specs.declared.node.Action.TheVariants.{Send, Update, View, Refused, Dead}
 use Rattle.ak_driver.specs.declared.world.Refused as refused
 use Rattle.ak_driver.specs.declared.world.Step.{Step}
-use Rattle.ak_driver.specs.Gossip.{GossipState, receive}
-use Rattle.ak_driver.specs.History.{entries_of}
-use Rattle.ak_driver.specs.Node.{Outcome, started, is_for, is_listed, nothing, refused as refused_by, and_sends, update, on_join, on_received, on_gossip, on_message, rule, step}
+use Rattle.std.specs.FinMap as map
+use Rattle.ak_member.specs.Standing as standing
+use Rattle.ak_gossip.specs.Gossip.{GossipState, is_known, receive}
+use Rattle.ak_history.specs.History.{entries_of}
+use Rattle.ak_driver.specs.Node.{Outcome, started, is_for, is_listed, is_member, is_taken, most_at_join, nothing, refused as refused_by, and_sends, update, on_join, on_received, on_gossip, on_message, rule, step}
 use Rattle.ak_driver.specs.NodeWords.{Machine}
 use Rattle.ak_driver.specs.World.{WorldState, Done, sent, recorded, gives, acts, arrives, delivers, starts, stepped, is_process, is_used, happens, after, run_from, run, empty_world, node_of, receiver_of, packet_at}
 use Rattle.ak_driver.specs.WorldWords.{states, IsReady, Went, Scenes}
@@ -150,18 +152,20 @@ received_steps from incoming n (Ok r) = steps_if _ _ _ _ refl refl
 gossip_steps : (from : Process) (incoming : GossipState) (n : State) → (on_gossip from incoming n).0.steps ≡ n.steps
 gossip_steps from incoming n = steps_if _ _ _ _ (received_steps from incoming n (receive n.me n.gossip incoming)) refl
 
-steps_of_five : (a b c d e : Bool) (u v w x y z : Outcome) (k : ℕ) → u.0.steps ≡ k → v.0.steps ≡ k → w.0.steps ≡ k → x.0.steps ≡ k → y.0.steps ≡ k → z.0.steps ≡ k
-    → (if a then u else (if b then v else (if c then w else (if d then x else (if e then y else z))))).0.steps ≡ k
-steps_of_five true b c d e u v w x y z k pu pv pw px py pz = pu
-steps_of_five false true c d e u v w x y z k pu pv pw px py pz = pv
-steps_of_five false false true d e u v w x y z k pu pv pw px py pz = pw
-steps_of_five false false false true e u v w x y z k pu pv pw px py pz = px
-steps_of_five false false false false e u v w x y z k pu pv pw px py pz = steps_if e y z k py pz
+steps_of_six : (a b c d e f : Bool) (t u v w x y z : Outcome) (k : ℕ) → t.0.steps ≡ k → u.0.steps ≡ k → v.0.steps ≡ k → w.0.steps ≡ k → x.0.steps ≡ k → y.0.steps ≡ k → z.0.steps ≡ k
+    → (if a then t else (if b then u else (if c then v else (if d then w else (if e then x else (if f then y else z)))))).0.steps ≡ k
+steps_of_six true b c d e f t u v w x y z k pt pu pv pw px py pz = pt
+steps_of_six false true c d e f t u v w x y z k pt pu pv pw px py pz = pu
+steps_of_six false false true d e f t u v w x y z k pt pu pv pw px py pz = pv
+steps_of_six false false false true e f t u v w x y z k pt pu pv pw px py pz = pw
+steps_of_six false false false false true f t u v w x y z k pt pu pv pw px py pz = px
+steps_of_six false false false false false f t u v w x y z k pt pu pv pw px py pz = steps_if f y z k py pz
 
 join_steps : (from : Process) (n : State) → (on_join from n).0.steps ≡ n.steps
 join_steps from n =
-    steps_of_five _ _ _ _ _ (refused_by 3 n) (refused_by 4 n) (and_sends message.TheVariants.Welcome from (nothing n)) (nothing n) (refused_by 6 n)
-    (and_sends message.TheVariants.Welcome from (update (Joined from ∷ []) n)) n.steps refl refl refl refl refl refl
+    steps_of_six (not (is_member n)) (not (is_listed n.settings.listed from.address)) (standing.is_member n.gossip.view.standings from) (is_known n.gossip.view.standings from) (is_taken from n.gossip.view.standings)
+    (leb most_at_join (map.len n.gossip.view.standings)) (refused_by 3 n) (refused_by 4 n) (and_sends message.TheVariants.Welcome from (nothing n)) (nothing n) (nothing n) (refused_by 6 n)
+    (and_sends message.TheVariants.Welcome from (update (Joined from ∷ []) n)) n.steps refl refl refl refl refl refl refl
 
 message_steps : (from : Process) (m : Message) (n : State) → (on_message from m n).0.steps ≡ n.steps
 message_steps from message.TheVariants.Join n = join_steps from n

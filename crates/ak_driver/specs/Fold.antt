@@ -1,24 +1,19 @@
 -- What a version shows is what its entries did (Akka's Cluster Specification, "Gossip": the state of a cluster converges
 -- as updates are gossiped, and a vector clock says which of them a view has seen).
 use Rattle.std.specs.Prelude.{◌≡◌, ℕ, ◌≤◌, ◌⊎◌, slice_get, Some, List}
-use Rattle.ak_address.specs.Unique.{Process}
-use Rattle.ak_clock.specs.Version.{Counts, count}
-use Rattle.ak_driver.specs.declared.history.Entry.{Entry}
+use Rattle.ak_history.specs.declared.entry.Entry.{Entry}
 use Rattle.ak_driver.specs.declared.node.State.{State}
 use Rattle.ak_driver.specs.declared.wire.Envelope.{Envelope}
 use Rattle.ak_driver.specs.declared.wire.Message.{Message}
 use Rattle.ak_driver.specs.declared.wire.Message as message
-use Rattle.ak_driver.specs.Gossip.{GossipState}
-use Rattle.ak_driver.specs.History.{entries_of, view}
+use Rattle.ak_gossip.specs.Gossip.{GossipState}
+use Rattle.ak_history.specs.History.{IsBounded, view}
 use Rattle.ak_driver.specs.World.{WorldState}
 
--- a version counts no more entries of any author than a history has
-abbrev pub IsBounded : List Entry → Counts → Type 0
-IsBounded history version = (u : Process) → count version u ≤ entries_of u history
-
--- what is known is what its version shows of a history, and each entry that it counts is in the history
+-- what is known is what its version shows of a history: members with their statuses, tombstones and rows; and each entry
+-- that it counts is in the history
 pub record IsFold (history : List Entry) (gossip : GossipState) : Type 0 where
-  pub members : gossip.members ≡ view history gossip.version
+  pub shown : gossip.view ≡ view history gossip.version
   pub bounded : IsBounded history gossip.version
 
 -- a message carries this

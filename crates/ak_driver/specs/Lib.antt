@@ -1,7 +1,4 @@
 pub mod Fold
-pub mod Gossip
-pub mod GossipWords
-pub mod History
 pub mod InputWords
 pub mod Node
 pub mod NodeWords

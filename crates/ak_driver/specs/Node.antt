@@ -1,17 +1,22 @@
 -- A node of the cluster: its state, and what one event makes of it (Akka's Cluster Specification, "Membership Lifecycle",
 -- "Joining"; the messages and their order are this project's choice).
-use Rattle.std.specs.Prelude.{ℕ, ◌+◌, Bool, true, false, ◌&&◌, ◌||◌, not, nat_le, ◌==◌, List, [], ◌∷◌, ◌++◌, Some, None, Result, Ok, Err, if◌then◌else◌}
+use Rattle.std.specs.Prelude.{ℕ, ◌+◌, Bool, true, false, ◌&&◌, ◌||◌, not, nat_le, ◌==◌, List, [], ◌∷◌, ◌++◌, Option, Some, None, Result, Ok, Err, if◌then◌else◌}
 use Rattle.std.specs.FinMap.{FinMap}
-use Rattle.ak_address.specs.Uniques.{UniqueSet, has, union, how_many, in_order}
+use Rattle.std.specs.FinMap as finmap
+use Rattle.ak_address.specs.Uniques.{has}
 use Rattle.std.specs.List.{list_any}
 use Rattle.std.specs.Ordering.{is_eq}
 use Rattle.ak_address.specs.Unique.{Endpoint, Process, address_cmp, unique_cmp}
 use Rattle.ak_clock.specs.Version.{count, relation}
 use Rattle.ak_clock.specs.declared.version.Relation as clock
-use Rattle.ak_driver.specs.declared.member.Effect.{Effect}
-use Rattle.ak_driver.specs.declared.member.Effect.TheVariants.{Joined}
-use Rattle.ak_driver.specs.declared.gossip.Received as received
-use Rattle.ak_driver.specs.declared.gossip.GossipFault as fault
+use Rattle.ak_member.specs.declared.effect.Effect.{Effect}
+use Rattle.ak_member.specs.declared.effect.Effect.TheVariants.{Joined}
+use Rattle.ak_member.specs.declared.status.Status.{Status}
+use Rattle.ak_member.specs.declared.status.Status.TheVariants.{Joining, Up, Leaving, Exiting, Down}
+use Rattle.ak_member.specs.Standing.{Standings, member_of, members_of}
+use Rattle.ak_member.specs.Standing as standing
+use Rattle.ak_gossip.specs.declared.gossip.Received as received
+use Rattle.ak_gossip.specs.declared.gossip.GossipFault as fault
 use Rattle.ak_driver.specs.declared.wire.Message.{Message}
 use Rattle.ak_driver.specs.declared.wire.Message as message
 use Rattle.ak_driver.specs.declared.wire.Envelope.{Envelope}
@@ -21,15 +26,15 @@ use Rattle.ak_driver.specs.declared.node.NodeEvent.{NodeEvent}
 use Rattle.ak_driver.specs.declared.node.NodeEvent as event
 use Rattle.ak_driver.specs.declared.node.Action.{Action}
 use Rattle.ak_driver.specs.declared.node.Action as action
-use Rattle.ak_driver.specs.Gossip.{GossipState, nothing_known, updated, receive}
+use Rattle.ak_gossip.specs.Gossip.{GossipState, nothing_known, is_known, updated, receive}
 
 -- a process starts, and knows nothing
 abbrev pub started : Process → Setup → State
 started me settings = record { me = me; settings = settings; steps = 0; gossip = nothing_known; founder = false; target = None }
 
--- a node is a member where it is one of what it knows
+-- a node is a member where it is one of its own view
 abbrev pub is_member : State → Bool
-is_member n = has n.gossip.members n.me
+is_member n = standing.is_member n.gossip.view.standings n.me
 
 -- what a rule makes of a state, and what it does
 abbrev pub Outcome : Type 0
@@ -59,9 +64,9 @@ update effects n = (
 abbrev pub and_sends : (GossipState → Message) → Process → Outcome → Outcome
 and_sends what to o = (o.0, o.1 ++ to_process o.0 to (what o.0.gossip) ∷ [])
 
--- founding: the node becomes the first member
+-- Founding: the node becomes the first member. (A node that was removed is told so by its view; it does nothing.)
 abbrev pub found : State → Outcome
-found n = if is_member n then nothing n else update (Joined n.me ∷ []) (record n { founder = true })
+found n = if is_known n.gossip.view.standings n.me then nothing n else update (Joined n.me ∷ []) (record n { founder = true })
 
 -- the node asks to join, through an address
 abbrev pub join : Endpoint → State → Outcome
@@ -73,10 +78,10 @@ abbrev pub is_listed : List Endpoint → Endpoint → Bool
 is_listed listed a = list_any (λ b. is_eq (address_cmp b a)) listed
 
 -- another member is at the address of this one
-abbrev pub is_taken : Process → UniqueSet → Bool
-is_taken who members = list_any (λ m. is_eq (address_cmp m.address who.address)) (in_order members)
+abbrev pub is_taken : Process → Standings → Bool
+is_taken who standings = list_any (λ m. is_eq (address_cmp m.0.address who.address)) (members_of standings)
 
--- a view that holds this many uniques admits no further process
+-- a view that holds this many processes, members and tombstones together, admits no further one
 abbrev pub most_at_join : ℕ
 most_at_join = 64
 
@@ -85,10 +90,23 @@ abbrev pub on_join : Process → State → Outcome
 on_join from n =
     if not (is_member n) then refused 3 n
     else (if not (is_listed n.settings.listed from.address) then refused 4 n
-    else (if has n.gossip.members from then and_sends message.TheVariants.Welcome from (nothing n)
-    else (if is_taken from n.gossip.members then nothing n
-    else (if nat_le most_at_join (how_many n.gossip.members) then refused 6 n
-    else and_sends message.TheVariants.Welcome from (update (Joined from ∷ []) n)))))
+    else (if standing.is_member n.gossip.view.standings from then and_sends message.TheVariants.Welcome from (nothing n)
+    else (if is_known n.gossip.view.standings from then nothing n
+    else (if is_taken from n.gossip.view.standings then nothing n
+    else (if nat_le most_at_join (finmap.len n.gossip.view.standings) then refused 6 n
+    else and_sends message.TheVariants.Welcome from (update (Joined from ∷ []) n))))))
+
+-- a node that its view shows as Down or removed sends no gossip
+abbrev pub is_out : Option (Status × ℕ) → Bool
+is_out None = true
+is_out (Some (Joining, number)) = false
+is_out (Some (Up, number)) = false
+is_out (Some (Leaving, number)) = false
+is_out (Some (Exiting, number)) = false
+is_out (Some (Down, number)) = true
+
+abbrev pub is_gone : State → Bool
+is_gone n = is_out (member_of (finmap.get n.gossip.view.standings n.me))
 
 -- the sender of a gossip is answered, but where it is known to know what the node knows
 abbrev pub is_answered : Process → GossipState → received.Received → Bool
@@ -103,12 +121,12 @@ on_received from incoming n (Err (fault.TheVariants.TooManyUniques union)) = ref
 on_received from incoming n (Err fault.TheVariants.NoMemory) = nothing n
 on_received from incoming n (Ok r) =
     let known = nothing (record n { gossip = r.1 }) in
-    if is_answered n.me incoming r.0 then and_sends message.TheVariants.Gossip from known else known
+    if is_answered n.me incoming r.0 && not (is_gone known.0) then and_sends message.TheVariants.Gossip from known else known
 
--- a gossip that does not know of the node is passed over
+-- a gossip in which the node is neither a member nor a tombstone is passed over
 abbrev pub on_gossip : Process → GossipState → State → Outcome
 on_gossip from incoming n =
-    if has incoming.members n.me
+    if is_known incoming.view.standings n.me
     then on_received from incoming n (receive n.me n.gossip incoming)
     else nothing n
 

@@ -1,6 +1,9 @@
 -- Words of the contracts of a node's calls.
-use Rattle.std.specs.Prelude.{◌≡◌, ◌≤◌, Bool, List}
+use Rattle.std.specs.Prelude.{◌≡◌, ◌≤◌, Bool, false, List}
+use Rattle.std.specs.FinMap as map
+use Rattle.ak_address.specs.Unique.{Process}
 use Rattle.ak_clock.specs.Version.{count}
+use Rattle.ak_gossip.specs.Gossip.{GossipState, is_known}
 use Rattle.ak_driver.specs.declared.node.State.{State}
 use Rattle.ak_driver.specs.declared.node.Action.{Action}
 use Rattle.ak_driver.specs.Node.{Outcome}
@@ -18,3 +21,12 @@ pub record Does (outcome : Outcome) (state : State) (actions : List Action) : Ty
 -- a node made at most one update in each of its steps
 abbrev pub IsOwnCount : State → Type 0
 IsOwnCount n = count n.gossip.version n.me ≤ n.steps
+
+-- a node that knows anybody knows itself
+abbrev pub KnowsItself : Process → GossipState → Type 0
+KnowsItself me g = is_known g.view.standings me ≡ false → map.len g.view.standings ≡ 0
+
+-- what is true of every node
+pub record IsNode (n : State) : Type 0 where
+  pub counted : IsOwnCount n
+  pub itself : KnowsItself n.me n.gossip

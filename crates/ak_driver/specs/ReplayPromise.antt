@@ -1,6 +1,7 @@
 -- What a replay promises of the bytes that it read and of those that its sink took, by the status that it answers.
 use Rattle.std.specs.Prelude.{◌≡◌, ◌⊎◌, ℕ, List, [], ◌∷◌, ◌++◌, Option, None, Some, codes, ⊤}
 use Rattle.std.specs.Io.KnownBytes.{Appends, IsAtEnd}
+use Rattle.ak_outside.specs.Codes.{exit_code}
 use Rattle.ak_outside.specs.Outside.{AppendsFront}
 use Rattle.ak_outside.specs.declared.status.Status.{Status}
 use Rattle.ak_outside.specs.declared.status.Status.TheVariants.{Done, Double, Usage, Configuration, Schedule, Read, Write, Memory, Link, Turns}
@@ -46,3 +47,8 @@ EndsSource Write remaining = ⊤
 EndsSource Memory remaining = ⊤
 EndsSource Link remaining = ⊤
 EndsSource Turns remaining = ⊤
+
+-- a replay of these bytes whose source and sink did not fail ends with its status and whole text, or for want of memory
+abbrev pub IsCompleted : List ℕ → Status → Option (List ℕ) → Option (List ℕ) → Type 0
+IsCompleted bytes answer old new =
+    (status : ℕ) (text : List ℕ) → IsReplay bytes status text → ((exit_code answer ≡ status) × Appends old new text) ⊎ (answer ≡ Memory)

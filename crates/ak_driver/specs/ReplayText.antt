@@ -5,9 +5,12 @@ use Rattle.std.specs.Fmt.{decimal}
 use Rattle.ak_schedule.specs.Line.{lines, IsPassedOver}
 use Rattle.ak_schedule.specs.Settings.{Setup}
 use Rattle.ak_schedule.specs.Schedule.{headers, SetsHeader, SpellsEvent}
-use Rattle.ak_schedule.specs.declared.settings.Strategy.TheVariants.{DownAll}
+use Rattle.ak_schedule.specs.Draft.{first_draft}
 use Rattle.ak_schedule.specs.declared.event.Event.{Event}
 use Rattle.ak_driver.specs.declared.world.Refused.{Refused}
+use Rattle.ak_driver.specs.declared.world.Refused as world
+use Rattle.ak_driver.specs.declared.replay.Code.{Code}
+use Rattle.ak_driver.specs.declared.replay.Code.TheVariants.{Malformed, BadHeader, Unlisted, UniqueUsed, AddressInUse, SecondFound, UnknownNode, NoPacket, TooManyStarts, PastLimit, NotBuilt}
 use Rattle.ak_driver.specs.World.{WorldState, Done, empty_world, happens}
 use Rattle.ak_driver.specs.StepText.{step_text, summary_text}
 
@@ -31,16 +34,18 @@ pub record Progress : Type 0 where
   pub world : WorldState
   pub steps : ℕ
 
--- why a line is refused
-pub data Code : Type 0 where
-  S1 : Code
-  S12 : Code
-  S13 : Code
-
 abbrev pub code_text : Code → List ℕ
-code_text S1 = codes "S1"
-code_text S12 = codes "S12"
-code_text S13 = codes "S13"
+code_text Malformed = codes "S1"
+code_text BadHeader = codes "S2"
+code_text Unlisted = codes "S3"
+code_text UniqueUsed = codes "S4"
+code_text AddressInUse = codes "S5"
+code_text SecondFound = codes "S6"
+code_text UnknownNode = codes "S7"
+code_text NoPacket = codes "S9"
+code_text TooManyStarts = codes "S11"
+code_text PastLimit = codes "S12"
+code_text NotBuilt = codes "S13"
 
 abbrev pub refusal_text : Code → ℕ → List ℕ
 refusal_text code line = codes "error 4 " ++ code_text code ++ codes " line " ++ decimal line ++ 10 ∷ []
@@ -75,18 +80,34 @@ IsPastEvents p line = WantsEvent p line × (most_events ≤ p.steps)
 abbrev pub IsNoHeader : Progress → List ℕ → Type 0
 IsNoHeader p line = WantsHeader p line × ((setup : Setup) → SetsNext p line setup → ⊥)
 
--- the line spells an event that the world refuses
-abbrev pub IsInvalid : Progress → List ℕ → Type 0
-IsInvalid p line =
-    WantsEvent p line × (p.steps < most_events) × (event : Event) × (why : Refused) × SpellsEvent line event × (happens p.setup event p.world ≡ Err why)
+-- an event is wanted, and the line spells none
+abbrev pub IsNoEvent : Progress → List ℕ → Type 0
+IsNoEvent p line = WantsEvent p line × (p.steps < most_events) × ((event : Event) → SpellsEvent line event → ⊥)
+
+-- the line spells an event that the world refuses for this reason
+abbrev pub IsInvalid : Progress → List ℕ → Refused → Type 0
+IsInvalid p line why =
+    WantsEvent p line × (p.steps < most_events) × (event : Event) × SpellsEvent line event × (happens p.setup event p.world ≡ Err why)
+
+-- the line is refused with this code
+abbrev pub IsRefused : Progress → List ℕ → Code → Type 0
+IsRefused p line Malformed = IsNoEvent p line
+IsRefused p line BadHeader = IsNoHeader p line
+IsRefused p line Unlisted = IsInvalid p line world.TheVariants.Unlisted
+IsRefused p line UniqueUsed = IsInvalid p line world.TheVariants.UniqueUsed
+IsRefused p line AddressInUse = IsInvalid p line world.TheVariants.AddressInUse
+IsRefused p line SecondFound = IsInvalid p line world.TheVariants.SecondFound
+IsRefused p line UnknownNode = IsInvalid p line world.TheVariants.UnknownNode
+IsRefused p line NoPacket = (sent : ℕ) × IsInvalid p line (world.TheVariants.NoPacket sent)
+IsRefused p line TooManyStarts = IsInvalid p line world.TheVariants.TooManyStarts
+IsRefused p line PastLimit = (most_lines < p.line) ⊎ IsPastEvents p line
+IsRefused p line NotBuilt = IsInvalid p line world.TheVariants.NotBuilt
 
 abbrev pub Judged : Progress → List ℕ → Judgement → Type 0
 Judged p line Passes = (p.line ≤ most_lines) × IsPassedOver line
 Judged p line (Sets setup) = WantsHeader p line × SetsNext p line setup
 Judged p line (Steps event done) = WantsEvent p line × (p.steps < most_events) × SpellsEvent line event × (happens p.setup event p.world ≡ Ok done)
-Judged p line (Refuses S12) = (most_lines < p.line) ⊎ IsPastEvents p line
-Judged p line (Refuses S1) = WantsEvent p line × (p.steps < most_events) × ((event : Event) → SpellsEvent line event → ⊥)
-Judged p line (Refuses S13) = IsNoHeader p line ⊎ IsInvalid p line
+Judged p line (Refuses code) = IsRefused p line code
 
 -- a replay goes on behind a line, or ends there
 abbrev pub GoesOn : Progress → Judgement → (Progress → ℕ → List ℕ → Type 0) → ℕ → List ℕ → Type 0
@@ -102,19 +123,16 @@ GoesOn p (Refuses code) Rest status text = (status ≡ 4) × (text ≡ refusal_t
 abbrev pub Ends : Progress → ℕ → List ℕ → Type 0
 Ends p status text =
     ((header_count ≤ p.headers) × (status ≡ 0) × (text ≡ summary_text p.steps p.world))
-    ⊎ ((p.headers < header_count) × (status ≡ 4) × (text ≡ refusal_text S13 p.line))
+    ⊎ ((p.headers < header_count) × (status ≡ 4) × (text ≡ refusal_text BadHeader p.line))
 
 -- what a replay of these lines prints, and its status
 abbrev pub Replays : Progress → List (List ℕ) → ℕ → List ℕ → Type 0
 Replays p [] status text = Ends p status text
 Replays p (line ∷ lines) status text = (judgement : Judgement) × Judged p line judgement × GoesOn p judgement (λ q. Replays q lines) status text
 
--- before the first line nothing is set; each value is replaced by its header
-abbrev pub unset : Setup
-unset = record { listed = []; strategy = DownAll; margin = 1; deadline = 1; stable = 1; shards = 1; buffer = 1; threshold = 1; limit = 1 }
-
+-- before the first line no header is read
 abbrev pub at_start : Progress
-at_start = record { line = 1; headers = 0; setup = unset; world = empty_world; steps = 0 }
+at_start = record { line = 1; headers = first_draft.read; setup = first_draft.setup; world = empty_world; steps = 0 }
 
 -- the bytes of a schedule have this replay text and status
 abbrev pub IsReplay : List ℕ → ℕ → List ℕ → Type 0

@@ -1,5 +1,5 @@
 -- What a replay prints of a step, and at its end (this project's format).
-use Rattle.std.specs.Prelude.{ℕ, ◌+◌, List, [], ◌∷◌, ◌++◌, length, map, codes, ◌==◌, slice_get, Option, Some, None, option_and_then, if◌then◌else◌}
+use Rattle.std.specs.Prelude.{ℕ, ◌+◌, Bool, true, false, List, [], ◌∷◌, ◌++◌, length, map, codes, ◌==◌, slice_get, Option, Some, None, option_and_then, if◌then◌else◌}
 use Rattle.std.specs.Fmt.{decimal}
 use Rattle.std.specs.FinMap as finmap
 use Rattle.ak_address.specs.Uniques.{in_order}
@@ -7,15 +7,18 @@ use Rattle.ak_address.specs.Unique.{Process, unique_cmp}
 use Rattle.ak_address.specs.Spelling.{address_text, unique_text}
 use Rattle.ak_schedule.specs.Schedule.{event_text}
 use Rattle.ak_schedule.specs.declared.event.Event.{Event}
-use Rattle.ak_schedule.specs.declared.event.Event.TheVariants.{Start, Found, Join, Tick, Deliver, Leave, Down, Offer, Stop}
-use Rattle.ak_driver.specs.declared.member.Effect.{Effect}
-use Rattle.ak_driver.specs.declared.member.Effect.TheVariants.{Joined}
+use Rattle.ak_schedule.specs.declared.event.Event as event
+use Rattle.ak_member.specs.declared.effect.Effect.{Effect}
+use Rattle.ak_member.specs.declared.effect.Effect.TheVariants.{Joined, Rise, Removed, Observed}
+use Rattle.ak_member.specs.declared.status.Status.{Status}
+use Rattle.ak_member.specs.declared.status.Status.TheVariants.{Joining, Up, Leaving, Exiting, Down}
+use Rattle.ak_member.specs.Standing.{members_of, tombstones_of}
 use Rattle.ak_driver.specs.declared.wire.Message.{Message}
 use Rattle.ak_driver.specs.declared.wire.Message as message
 use Rattle.ak_driver.specs.declared.wire.Envelope.{Envelope}
 use Rattle.ak_driver.specs.declared.node.Action.{Action}
 use Rattle.ak_driver.specs.declared.node.Action.TheVariants.{Send, Update, View, Refused, Dead}
-use Rattle.ak_driver.specs.Gossip.{GossipState, nothing_known}
+use Rattle.ak_gossip.specs.Gossip.{GossipState, nothing_known}
 use Rattle.ak_driver.specs.declared.node.State.{State}
 use Rattle.ak_driver.specs.World.{WorldState, Done, packet_at}
 
@@ -29,6 +32,10 @@ listed_text (piece ∷ next ∷ pieces) = piece ++ codes ", " ++ listed_text (ne
 abbrev pub separator : ℕ → List ℕ
 separator place = if place == 0 then [] else codes ", "
 
+-- what stands where this many pieces were printed
+abbrev pub none_text : ℕ → List ℕ
+none_text printed = if printed == 0 then codes "-" else []
+
 -- an item stands on a line of its own, after two spaces
 abbrev pub item : List ℕ → List ℕ
 item text = codes "  " ++ text ++ 10 ∷ []
@@ -39,15 +46,46 @@ count_text e = unique_text e.0 ++ codes "=" ++ decimal e.1
 abbrev pub version_text : finmap.FinMap unique_cmp ℕ → List ℕ
 version_text version = listed_text (map count_text (finmap.entries version))
 
-abbrev pub member_text : Process → List ℕ
-member_text who = unique_text who ++ codes " joining"
+abbrev pub status_name : Status → List ℕ
+status_name Joining = codes "joining"
+status_name Up = codes "up"
+status_name Leaving = codes "leaving"
+status_name Exiting = codes "exiting"
+status_name Down = codes "down"
+
+-- a number other than 0 behind what it is of
+abbrev pub number_text : ℕ → List ℕ
+number_text number = if number == 0 then [] else codes " " ++ decimal number
+
+abbrev pub member_text : Process × (Status × ℕ) → List ℕ
+member_text m = unique_text m.0 ++ codes " " ++ status_name m.1.0 ++ number_text m.1.1
+
+abbrev pub tombstone_text : Process × Bool → List ℕ
+tombstone_text t = unique_text t.0 ++ (if t.1 then codes " confirmed" else [])
 
 -- version, members, tombstones
 abbrev pub view_text : GossipState → List ℕ
-view_text g = codes "view " ++ version_text g.version ++ codes " | " ++ listed_text (map member_text (in_order g.members)) ++ codes " | -"
+view_text g =
+    codes "view " ++ version_text g.version
+    ++ codes " | " ++ listed_text (map member_text (members_of g.view.standings))
+    ++ codes " | " ++ listed_text (map tombstone_text (tombstones_of g.view.standings))
+
+-- each after a space
+abbrev pub spaced_text : List Process → List ℕ
+spaced_text [] = []
+spaced_text (who ∷ rest) = codes " " ++ unique_text who ++ spaced_text rest
+
+-- whom an observer finds unreachable
+abbrev pub subjects_text : List Process → List ℕ
+subjects_text [] = codes " none"
+subjects_text (who ∷ rest) = spaced_text (who ∷ rest)
 
 abbrev pub effect_text : Effect → List ℕ
 effect_text (Joined who) = codes "joined " ++ unique_text who
+effect_text (Rise who status number) = status_name status ++ codes " " ++ unique_text who ++ number_text number
+effect_text (Removed who false) = codes "removed " ++ unique_text who
+effect_text (Removed who true) = codes "removed-confirmed " ++ unique_text who
+effect_text (Observed subjects) = codes "observed" ++ subjects_text (in_order subjects)
 
 abbrev pub kind_text : Message → List ℕ
 kind_text message.TheVariants.Join = codes "join"
@@ -90,15 +128,15 @@ arrival_text None e = item (codes "dead")
 
 -- a delivery begins with what arrived
 abbrev pub delivery_text : Event → WorldState → Option State → List ℕ
-delivery_text (Deliver number) w n = arrival_text n (packet_at w number)
-delivery_text (Start u) w n = []
-delivery_text (Found u) w n = []
-delivery_text (Join u target) w n = []
-delivery_text (Tick u word) w n = []
-delivery_text (Leave u who) w n = []
-delivery_text (Down u who) w n = []
-delivery_text (Offer u entity payload) w n = []
-delivery_text (Stop u) w n = []
+delivery_text (event.TheVariants.Deliver number) w n = arrival_text n (packet_at w number)
+delivery_text (event.TheVariants.Start u) w n = []
+delivery_text (event.TheVariants.Found u) w n = []
+delivery_text (event.TheVariants.Join u target) w n = []
+delivery_text (event.TheVariants.Tick u word) w n = []
+delivery_text (event.TheVariants.Leave u who) w n = []
+delivery_text (event.TheVariants.Down u who) w n = []
+delivery_text (event.TheVariants.Offer u entity payload) w n = []
+delivery_text (event.TheVariants.Stop u) w n = []
 
 -- what the node knows after the step; a dead delivery shows none
 abbrev pub shown : Option State → GossipState

@@ -7,7 +7,7 @@ use Rattle.ak_address.specs.Unique.{Endpoint, Process, address_cmp, unique_cmp}
 use Rattle.ak_schedule.specs.Settings.{Setup}
 use Rattle.ak_schedule.specs.declared.event.Event.{Event}
 use Rattle.ak_schedule.specs.declared.event.Event.TheVariants.{Start, Found, Join, Tick, Deliver, Leave, Down, Offer, Stop}
-use Rattle.ak_driver.specs.declared.history.Entry.{Entry}
+use Rattle.ak_history.specs.declared.entry.Entry.{Entry}
 use Rattle.ak_driver.specs.declared.wire.Envelope.{Envelope}
 use Rattle.ak_driver.specs.declared.node.NodeEvent.{NodeEvent}
 use Rattle.ak_driver.specs.declared.node.NodeEvent as event
@@ -16,7 +16,7 @@ use Rattle.ak_driver.specs.declared.node.Action.TheVariants.{Send, Update}
 use Rattle.ak_driver.specs.declared.world.Refused.{Refused}
 use Rattle.ak_driver.specs.declared.world.Refused as refused
 use Rattle.ak_driver.specs.declared.node.State.{State}
-use Rattle.ak_driver.specs.History.{entries_of}
+use Rattle.ak_history.specs.History.{entries_of}
 use Rattle.ak_driver.specs.Node.{Outcome, started, is_listed, is_for, step}
 
 pub record WorldState : Type 0 where

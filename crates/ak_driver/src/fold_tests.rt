@@ -2,7 +2,8 @@ ghost use Rattle.std.specs.Prelude.{◌≡◌, ◌+◌, ◌<◌, ◌≤◌, leng
 
 use crate::wire::Message;
 use crate::world::World;
-use ak_address::Uniques;
+use ak_gossip::Gossip;
+use ak_history::View;
 use ak_schedule::{Draft, Settings, read_line};
 use std::alloc::{AllocError, Global};
 use std::test::Fail;
@@ -29,23 +30,26 @@ fn settings(alloc: Global) -> Result<Settings, Fail> {
     Err("a header is missing")?
 }
 
-fn same(one: &Uniques, other: &Uniques) -> bool {
-    for place in 0..one.len() {
-        if let Some(who) = one.at(place) {
-            if !other.contains(who) {
+// The members, tombstones and rows of a gossip are those of the view. (Nobody observes yet: there is no row.)
+fn same(view: &View, gossip: &Gossip) -> bool {
+    let one = &view.members;
+    let other = gossip.members();
+    for place in 0..one.uniques() {
+        if let (Some((who, standing)), Some((whose, known))) = (one.row(place), other.row(place)) {
+            if !who.compare(whose).is_eq() || standing != known {
                 return false;
             }
         }
     }
-    one.len() == other.len()
+    one.uniques() == other.uniques() && view.rows.len() == gossip.rows().len()
 }
 
-// Each node's members, and those of each gossip that was sent, are what its version shows of the history.
+// What each node knows, and each gossip that was sent, is what its version shows of the history.
 fn folds(alloc: Global, world: &World) -> Result<bool, AllocError> {
     for number in 0..4 {
         if let Some(node) = world.node(number) {
             let view = world.history().view(alloc, node.gossip().version())?;
-            if !same(&view, node.gossip().members()) {
+            if !same(&view, node.gossip()) {
                 return Ok(false);
             }
         }
@@ -54,7 +58,7 @@ fn folds(alloc: Global, world: &World) -> Result<bool, AllocError> {
         if let Some(envelope) = world.packet(number) {
             if let Message::Welcome(gossip) | Message::Gossip(gossip) = &envelope.message {
                 let view = world.history().view(alloc, gossip.version())?;
-                if !same(&view, gossip.members()) {
+                if !same(&view, gossip) {
                     return Ok(false);
                 }
             }

@@ -1,32 +1,30 @@
 //! The program `akka`: what its words ask for, over any source and sink.
 #![tactic(auto)]
 
-pub mod gossip;
-pub mod history;
 mod input;
 mod laws;
-pub mod member;
 pub mod node;
 mod replay;
+mod replay_laws;
 pub mod report;
 pub mod wire;
 mod worked;
 pub mod world;
 
-ghost use Rattle.std.specs.Prelude.{◌≡◌, ◌≤◌, ◌↔◌, IfSome, IsTrue, codes};
+ghost use Rattle.std.specs.Prelude.{◌≡◌, ◌≤◌, ◌↔◌, ℕ, List, Some, IfSome, IsTrue, codes};
 ghost use Rattle.ak_outside.specs.Outside.{Rose};
-ghost use Rattle.ak_driver.specs.ReplayPromise.{Promises, EndsSource};
+ghost use Rattle.ak_driver.specs.ReplayPromise.{Promises, EndsSource, IsCompleted};
 ghost use Rattle.ak_driver.specs.StatusWords.{AsksReplay, ReplayCause, Written, memory_line, usage_line};
 
 use ak_address::Text;
 pub use ak_outside::Status;
 use ak_outside::{Sink, Source};
 pub use laws::{
-    equal_versions_have_equal_members, nodes_count_their_own_updates, versions_show_a_fold,
-    what_is_known_is_the_fold,
+    equal_versions_have_equal_members, nodes_count_their_own_updates, what_is_known_is_the_fold,
 };
 pub use replay::run_replay;
 use replay::written;
+pub use replay_laws::replays_are_determined;
 use std::alloc::Global;
 pub use worked::worked_schedules;
 
@@ -48,6 +46,9 @@ fn is_name(word: &Text) -> bool
 
 /// Does what the words after the program's name ask for: `replay` alone replays the schedule in the input. Any other
 /// words take no memory, read nothing, and answer `Usage` after one line that says so, or `Write` where the sink failed.
+///
+/// Where neither the input nor the output fails, a schedule whose lines are all accepted gives `Done` and its whole
+/// text, and one with a refused line gives `Schedule` and its whole text, unless memory ends.
 pub fn run<S: Source, W: Sink>(
     alloc: Global,
     words: &[Text],
@@ -59,6 +60,8 @@ pub fn run<S: Source, W: Sink>(
     ensures replay { AsksReplay words.now → ReplayCause result (Rose (S.faults input.old) (S.faults input.new)) (Rose (W.faults output.old) (W.faults output.new)) }
     ensures promise { AsksReplay words.now → Promises (S.remaining input.old) result (W.taken output.old) (W.taken output.new) }
     ensures end { AsksReplay words.now → IfSome (S.remaining input.old) (λ all. EndsSource result (S.remaining input.new)) }
+    ensures complete { AsksReplay words.now → (bytes : List ℕ) → S.remaining input.old ≡ Some bytes → (Rose (S.faults input.old) (S.faults input.new) → ⊥) → (Rose (W.faults output.old) (W.faults output.new) → ⊥)
+        → IsCompleted bytes result (W.taken output.old) (W.taken output.new) }
     ensures usage { (AsksReplay words.now → ⊥) → Written Status.Usage usage_line result (Rose (W.faults output.old) (W.faults output.new)) (W.taken output.old) (W.taken output.new) }
     ensures unread { (AsksReplay words.now → ⊥) → input.new ≡ input.old }
 {
@@ -79,5 +82,7 @@ pub fn run_without_words<W: Sink>(output: &mut W) -> Status
 
 #[cfg(test)]
 mod fold_tests;
+#[cfg(test)]
+mod report_tests;
 #[cfg(test)]
 mod tests;

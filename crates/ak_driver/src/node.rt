@@ -1,20 +1,23 @@
 //! A node of the cluster: a pure machine that is given one event at a time and answers with its actions
 //! (Akka's Cluster Specification, "Membership Lifecycle"; the messages are this project's choice).
 
-ghost use Rattle.std.specs.Prelude.{◌≡◌, ℕ, ◌+◌, ◌<◌, ◌^◌, nat_le, Bool, true, false, [], ◌∷◌, ◌++◌, length, slice_get, IfOk, OnOk, OnErr, IsErr, IsTrue, ◌↔◌, Option, None};
+ghost use Rattle.std.specs.Prelude.{◌≡◌, ℕ, ◌+◌, ◌<◌, ◌^◌, nat_le, Bool, true, false, [], ◌∷◌, ◌++◌, length, slice_get, option_to_list, IfOk, OnOk, OnErr, IsErr, IsTrue, ◌↔◌, Option, None};
+ghost use Rattle.std.specs.List.{list_any};
 ghost use Rattle.std.specs.Option.{option_copied};
 ghost use Rattle.std.specs.Ordering.{is_eq};
 ghost use Rattle.ak_address.specs.Unique.{address_cmp};
-ghost use Rattle.ak_address.specs.Uniques.{has, how_many};
+ghost use Rattle.std.specs.FinMap as map;
 ghost use Rattle.ak_clock.specs.Version.{count};
+ghost use Rattle.ak_member.specs.Standing as standing;
+ghost use Rattle.ak_gossip.specs.Gossip.{MayUpdate, is_known};
 ghost use Rattle.ak_driver.specs.Node as rules;
-ghost use Rattle.ak_driver.specs.NodeWords.{Does};
+ghost use Rattle.ak_driver.specs.NodeWords.{Does, KnowsItself};
 
-use crate::gossip::{Gossip, GossipFault, Received};
-use crate::member::{Effect, Effects};
 use crate::wire::{Envelope, Message};
-use ak_address::{Address, Unique, Uniques};
+use ak_address::{Address, Unique};
 use ak_clock::Relation;
+use ak_gossip::{Gossip, GossipFault, Received};
+use ak_member::{Effect, Effects, Member, Members, Standing, Status};
 use ak_schedule::Settings;
 use std::alloc::{AllocError, Global};
 use std::marker::Model;
@@ -57,11 +60,12 @@ impl Model for Actions {
     ghost use Rattle.ak_driver.specs.declared.node.Action.{Action};
     ghost use Rattle.std.specs.Coded.{codes};
     ghost use Rattle.ak_address.specs.Unique.{coded_address, coded_unique};
-    ghost use Rattle.ak_driver.specs.Gossip.{coded_gossip};
+    ghost use Rattle.ak_gossip.specs.Gossip.{coded_gossip};
+    ghost use Rattle.ak_member.specs.View.{coded_uniques};
 
     ghost Value = { List Action };
 
-    ghost coded = { Prim.hlevel (codes, coded_address, coded_unique, coded_gossip) };
+    ghost coded = { Prim.hlevel (codes, coded_address, coded_unique, coded_uniques, coded_gossip) };
 
     ghost view = { λ a. a.list.items };
 }
@@ -163,46 +167,99 @@ fn is_beside(one: &Unique, other: &Unique) -> bool
     one.address.compare(&other.address).is_eq()
 }
 
+// The row at a place is of a member at the address of this process.
+fn is_member_beside(who: &Unique, members: &Members, place: usize) -> bool
+    ensures { result ≡ list_any (λ m. is_eq (address_cmp m.0.address who.now.address)) (standing.member_rows (option_to_list (slice_get (map.entries members.now) place))) }
+{
+    match members.row(place) {
+        Some((other, Standing::Member(_, _))) => is_beside(other, who),
+        Some((_, Standing::Buried(_))) => false,
+        None => false,
+    }
+}
+
 // Another member is at the address of this process.
-fn is_taken(who: &Unique, members: &Uniques) -> bool
+fn is_taken(who: &Unique, members: &Members) -> bool
     ensures { result ≡ rules.is_taken who.now members.now }
 {
-    'members: for place in 0..members.len() {
-        if let Some(member) = members.at(place) {
-            if is_beside(member, who) {
-                return true;
-            }
+    'rows: for place in 0..members.uniques() {
+        if is_member_beside(who, members, place) {
+            return true;
         }
     }
     false
+}
+
+// The process is a member.
+fn is_member(members: &Members, who: &Unique) -> bool
+    ensures { result ≡ standing.is_member members.now who.now }
+{
+    members.get(who).is_some()
+}
+
+// The process is a member or a tombstone.
+fn is_known(members: &Members, who: &Unique) -> bool
+    ensures { result ≡ is_known members.now who.now }
+{
+    members.get(who).is_some() || members.tombstone(who).is_some()
+}
+
+// The process is Down, or no member.
+fn is_out(members: &Members, who: &Unique) -> bool
+    ensures { result ≡ rules.is_out (standing.member_of (map.get members.now who.now)) }
+{
+    match members.get(who) {
+        Some(
+            Member {
+                unique: _,
+                status,
+                up_number: _,
+            },
+        ) => status == Status::Down,
+        None => true,
+    }
 }
 
 impl State {
     fn is_member(&self) -> bool
         ensures { result ≡ rules.is_member self.now }
     {
-        self.gossip.members().contains(&self.me)
+        is_member(self.gossip.members(), &self.me)
     }
 
     // The process is a member of what the node knows.
-    fn knows(&self, who: &Unique) -> bool
-        ensures { result ≡ has self.now.gossip.members who.now }
+    fn has_member(&self, who: &Unique) -> bool
+        ensures { result ≡ standing.is_member self.now.gossip.view.standings who.now }
     {
-        self.gossip.members().contains(who)
+        is_member(self.gossip.members(), who)
+    }
+
+    // The process is a member or a tombstone of what the node knows.
+    fn knows(&self, who: &Unique) -> bool
+        ensures { result ≡ is_known self.now.gossip.view.standings who.now }
+    {
+        is_known(self.gossip.members(), who)
+    }
+
+    // What the node knows shows it as Down, or no longer as a member.
+    fn is_gone(&self) -> bool
+        ensures { result ≡ rules.is_gone self.now }
+    {
+        is_out(self.gossip.members(), &self.me)
     }
 
     // Another member is at the address of the process.
     fn is_taken(&self, who: &Unique) -> bool
-        ensures { result ≡ rules.is_taken who.now self.now.gossip.members }
+        ensures { result ≡ rules.is_taken who.now self.now.gossip.view.standings }
     {
         is_taken(who, self.gossip.members())
     }
 
-    // What the node knows holds as many uniques as a view may that admits others.
+    // What the node knows holds as many processes as a view may that admits others.
     fn is_full(&self) -> bool
-        ensures { result ≡ nat_le rules.most_at_join (how_many self.now.gossip.members) }
+        ensures { result ≡ nat_le rules.most_at_join (map.len self.now.gossip.view.standings) }
     {
-        self.gossip.members().len() >= MOST_AT_JOIN
+        self.gossip.members().uniques() >= MOST_AT_JOIN
     }
 
     fn to_process(&self, alloc: Global, to: &Unique, message: Message) -> Result<Action, AllocError>
@@ -219,9 +276,9 @@ impl State {
         }))
     }
 
-    // An update by one effect.
+    // An entry with one effect.
     fn update(&mut self, alloc: Global, effect: Effect) -> Result<Actions, AllocError>
-        requires { count self.old.gossip.version self.old.me < 2 ^ 62 }
+        requires { MayUpdate self.old.me (effect ∷ []) self.old.gossip }
         ensures { IfOk result (λ actions. Does (rules.update (effect ∷ []) self.old) self.new actions) }
     {
         let mut effects = Effects::empty(alloc);
@@ -231,12 +288,14 @@ impl State {
     }
 
     fn found(&mut self, alloc: Global) -> Result<Actions, AllocError>
-        requires { count self.old.gossip.version self.old.me < 2 ^ 62 }
+        requires count { count self.old.gossip.version self.old.me < 2 ^ 62 }
+        requires itself { KnowsItself self.old.me self.old.gossip }
         ensures { IfOk result (λ actions. Does (rules.found self.old) self.new actions) }
     {
-        if self.is_member() {
+        if self.knows(&self.me) {
             return Ok(Actions::empty(alloc));
         }
+        self.gossip.invariant();
         self.founder = true;
         let me = self.me.copy(alloc)?;
         self.update(alloc, Effect::Joined(me))
@@ -291,10 +350,13 @@ impl State {
         if !is_listed(&self.settings, from) {
             return one(alloc, Action::Refused(UNLISTED));
         }
-        if self.knows(from) {
+        if self.has_member(from) {
             let mut actions = Actions::empty(alloc);
             self.welcome(alloc, from, &mut actions)?;
             return Ok(actions);
+        }
+        if self.knows(from) {
+            return Ok(Actions::empty(alloc));
         }
         if self.is_taken(from) {
             return Ok(Actions::empty(alloc));
@@ -302,6 +364,7 @@ impl State {
         if self.is_full() {
             return one(alloc, Action::Refused(TOO_MANY_UNIQUES));
         }
+        self.gossip.invariant();
         let joined = from.copy(alloc)?;
         let mut actions = self.update(alloc, Effect::Joined(joined))?;
         self.welcome(alloc, from, &mut actions)?;
@@ -317,7 +380,7 @@ impl State {
     ) -> Result<Actions, AllocError>
         ensures { IfOk result (λ actions. Does (rules.on_gossip from.now incoming.now self.old) self.new actions) }
     {
-        if !incoming.members().contains(&self.me) {
+        if !is_known(incoming.members(), &self.me) {
             return Ok(Actions::empty(alloc));
         }
         let known_there = incoming.seen().contains(&self.me);
@@ -333,7 +396,7 @@ impl State {
             Err(GossipFault::NoMemory) => Err(AllocError),
             Ok(received) => {
                 let mut actions = Actions::empty(alloc);
-                if received == Received::Same && known_there {
+                if self.is_gone() || (received == Received::Same && known_there) {
                     return Ok(actions);
                 }
                 self.answer(alloc, from, &mut actions)?;
@@ -357,7 +420,8 @@ impl State {
     }
 
     fn rule(&mut self, alloc: Global, event: NodeEvent) -> Result<Actions, AllocError>
-        requires { count self.old.gossip.version self.old.me < 2 ^ 62 }
+        requires count { count self.old.gossip.version self.old.me < 2 ^ 62 }
+        requires itself { KnowsItself self.old.me self.old.gossip }
         ensures { IfOk result (λ actions. Does (rules.rule event self.old) self.new actions) }
     {
         match event {
@@ -371,6 +435,7 @@ impl State {
     fn step(&mut self, alloc: Global, event: NodeEvent) -> Result<Actions, AllocError>
         requires count { count self.old.gossip.version self.old.me < 2 ^ 62 }
         requires steps { self.old.steps < 2 ^ 62 }
+        requires itself { KnowsItself self.old.me self.old.gossip }
         ensures { IfOk result (λ actions. Does (rules.step event self.old) self.new actions) }
     {
         let before = self.gossip.version().copy(alloc)?;
@@ -394,7 +459,8 @@ pub fn is_for(me: &Unique, envelope: &Envelope) -> bool
     envelope.uid == 0 || envelope.uid == me.uid
 }
 
-/// A node. After want of memory it is spent: it knows nothing, and each later step answers want of memory.
+/// A node. After want of memory it is spent: it knows nothing, and each later step answers want of memory. It made at
+/// most one update in each of its steps, and where it knows anybody it knows itself: invariants of the type.
 #[derive(Drop)]
 pub struct Node {
     state: State,
@@ -402,20 +468,20 @@ pub struct Node {
 }
 
 impl Model for Node {
-    ghost use Rattle.std.specs.Prelude.{◌≤◌};
-    ghost use Rattle.ak_driver.specs.NodeWords.{Machine, IsOwnCount};
+    ghost use Rattle.ak_driver.specs.NodeWords.{Machine, IsNode};
     ghost use Rattle.std.specs.Coded.{codes};
     ghost use Rattle.ak_address.specs.Unique.{coded_address, coded_unique};
     ghost use Rattle.ak_schedule.specs.Settings.{coded_setup};
-    ghost use Rattle.ak_driver.specs.Gossip.{coded_gossip};
+    ghost use Rattle.ak_gossip.specs.Gossip.{coded_gossip};
+    ghost use Rattle.ak_member.specs.View.{coded_uniques};
 
     ghost Value = { Machine };
 
-    ghost coded = { Prim.hlevel (codes, coded_address, coded_unique, coded_setup, coded_gossip) };
+    ghost coded = { Prim.hlevel (codes, coded_address, coded_unique, coded_uniques, coded_setup, coded_gossip) };
 
     ghost view = { λ n. record { state = n.state; spent = n.spent } };
 
-    ghost invariant = { λ n. IsOwnCount n.state };
+    ghost invariant = { λ n. IsNode n.state };
 }
 
 impl Node {

@@ -1,12 +1,12 @@
 //! The replay of a recorded schedule: reads it whole, applies one line at a time, and prints each step.
 
-ghost use Rattle.std.specs.Prelude.{◌≡◌, ◌⊎◌, ◌+◌, ◌≤◌, ◌<◌, ◌^◌, ◌++◌, OnOk, OnErr, IfSome, length, codes};
+ghost use Rattle.std.specs.Prelude.{◌≡◌, ◌⊎◌, ◌+◌, ◌≤◌, ◌<◌, ◌^◌, ◌++◌, ℕ, List, OnOk, OnErr, Some, IfSome, length, codes};
 ghost use Rattle.ak_outside.specs.Outside.{Rose};
 ghost use Rattle.ak_schedule.specs.Draft.{first_draft};
 ghost use Rattle.ak_schedule.specs.Line.{IsPassedOver};
-ghost use Rattle.ak_driver.specs.ReplayPromise.{Prints, Promises, EndsSource};
+ghost use Rattle.ak_driver.specs.ReplayPromise.{Prints, Promises, EndsSource, IsCompleted};
 ghost use Rattle.ak_driver.specs.ReplayText.{refusal_text, code_text};
-ghost use Rattle.ak_driver.specs.ReplayWords.{IsReady, IsWhole, opened, code_of, progress, progress_of, HeadingAnswers, RunningAnswers, TurnAnswers, FinishAnswers, Ended};
+ghost use Rattle.ak_driver.specs.ReplayWords.{stop_of, IsReady, IsWhole, opened, progress, progress_of, HeadingAnswers, RunningAnswers, TurnAnswers, FinishAnswers, Ended};
 ghost use Rattle.ak_driver.specs.StatusWords.{ReplayCause, Written, memory_line};
 ghost use Rattle.ak_outside.specs.declared.status.Status.TheVariants.{Schedule, Memory};
 
@@ -25,23 +25,41 @@ const MOST_EVENTS: u64 = 50_000;
 // Text is written in pieces of about this many bytes.
 const PIECE: usize = 1 << 16;
 
-// Why a line is refused.
+// Why a line is refused. It shows as its code.
 #[derive(Clone, Copy, Debug, PartialEq, Eq)]
 enum Code {
     // It spells no event.
     Malformed,
+    // It is not the next header, or there is none.
+    BadHeader,
+    // The world refuses its event: the reasons of `Refused`.
+    Unlisted,
+    UniqueUsed,
+    AddressInUse,
+    SecondFound,
+    UnknownNode,
+    NoPacket,
+    TooManyStarts,
     // It is past a limit on lines or events.
     PastLimit,
-    // It is no header where one is wanted, or an event that is not built or that the world refuses.
+    // Its event is not built yet.
     NotBuilt,
 }
 
 impl Code {
     fn text(&self) -> &'static [u8]
-        ensures { result.now ≡ code_text (code_of self.now) }
+        ensures { result.now ≡ code_text self.now }
     {
         match self {
             Code::Malformed => b"S1",
+            Code::BadHeader => b"S2",
+            Code::Unlisted => b"S3",
+            Code::UniqueUsed => b"S4",
+            Code::AddressInUse => b"S5",
+            Code::SecondFound => b"S6",
+            Code::UnknownNode => b"S7",
+            Code::NoPacket => b"S9",
+            Code::TooManyStarts => b"S11",
             Code::PastLimit => b"S12",
             Code::NotBuilt => b"S13",
         }
@@ -62,6 +80,23 @@ impl From<AllocError> for Stop {
 
     fn from(_error: AllocError) -> Stop {
         Stop::NoMemory
+    }
+}
+
+// Why the world takes no event ends a replay so.
+fn stop_of(why: Refused) -> Stop
+    ensures { result ≡ stop_of why }
+{
+    match why {
+        Refused::Unlisted => Stop::Refused(Code::Unlisted),
+        Refused::UniqueUsed => Stop::Refused(Code::UniqueUsed),
+        Refused::AddressInUse => Stop::Refused(Code::AddressInUse),
+        Refused::SecondFound => Stop::Refused(Code::SecondFound),
+        Refused::UnknownNode => Stop::Refused(Code::UnknownNode),
+        Refused::NoPacket { sent: _ } => Stop::Refused(Code::NoPacket),
+        Refused::TooManyStarts => Stop::Refused(Code::TooManyStarts),
+        Refused::NotBuilt => Stop::Refused(Code::NotBuilt),
+        Refused::NoMemory => Stop::NoMemory,
     }
 }
 
@@ -155,7 +190,7 @@ impl Replay {
         ensures { FinishAnswers result (progress_of self.now) out.old.items out.new.items }
     {
         match &self.stage {
-            Stage::Heading(_) => Err(Stop::Refused(Code::NotBuilt)),
+            Stage::Heading(_) => Err(Stop::Refused(Code::BadHeader)),
             Stage::Running(world) => {
                 print_summary(alloc, world, self.steps, out)?;
                 Ok(())
@@ -172,7 +207,7 @@ fn heading(alloc: Global, draft: &mut Draft, line: &[u8]) -> Result<bool, Stop>
     match draft.header(alloc, line) {
         Ok(whole) => Ok(whole),
         Err(LineFault::Malformed) => Err(Stop::Refused(Code::Malformed)),
-        Err(LineFault::NotBuilt) => Err(Stop::Refused(Code::NotBuilt)),
+        Err(LineFault::BadHeader) => Err(Stop::Refused(Code::BadHeader)),
         Err(LineFault::NoMemory) => Err(Stop::NoMemory),
     }
 }
@@ -195,8 +230,7 @@ fn running(
     };
     let step = match world.apply(alloc, &event) {
         Ok(step) => step,
-        Err(Refused::NoMemory) => return Err(Stop::NoMemory),
-        Err(_) => return Err(Stop::Refused(Code::NotBuilt)),
+        Err(why) => return Err(stop_of(why)),
     };
     print_step(alloc, world, number, &event, &step, out)?;
     Ok(())
@@ -204,7 +238,7 @@ fn running(
 
 // The line that says which line is refused, and why.
 fn print_refusal(alloc: Global, code: Code, line: u64, out: &mut Vec<u8>) -> Result<(), AllocError>
-    ensures ok { OnOk result (out.new.items ≡ out.old.items ++ refusal_text (code_of code) line) }
+    ensures ok { OnOk result (out.new.items ≡ out.old.items ++ refusal_text code line) }
     ensures err { OnErr result (out.new.items ≡ out.old.items) }
 {
     let mut text = Vec::new(alloc);
@@ -250,7 +284,7 @@ fn refused<W: Sink>(
 ) -> Status
     ensures count { W.faults output.old ≤ W.faults output.new }
     ensures cause { ReplayCause result ⊥ (Rose (W.faults output.old) (W.faults output.new)) }
-    ensures refused { Written Schedule (out.old.items ++ refusal_text (code_of code) line) result (Rose (W.faults output.old) (W.faults output.new)) (W.taken output.old) (W.taken output.new)
+    ensures refused { Written Schedule (out.old.items ++ refusal_text code line) result (Rose (W.faults output.old) (W.faults output.new)) (W.taken output.old) (W.taken output.new)
         ⊎ Written Memory (out.old.items ++ memory_line) result (Rose (W.faults output.old) (W.faults output.new)) (W.taken output.old) (W.taken output.new) }
 {
     match print_refusal(alloc, code, line, out) {
@@ -311,12 +345,17 @@ fn replay_bytes<W: Sink>(alloc: Global, bytes: &[u8], output: &mut W) -> Status
 ///
 /// Where the source tells its bytes, the sink took what the rules say of all of them, also where reading stopped at a
 /// limit before their end. After `Done` the source is at its end.
+///
+/// Where neither the source nor the sink fails, the replay is complete: a schedule whose lines are all accepted gives
+/// `Done` and its whole text, and one with a refused line gives `Schedule` and its whole text, unless memory ends.
 pub fn run_replay<S: Source, W: Sink>(alloc: Global, input: &mut S, output: &mut W) -> Status
     ensures read { S.faults input.old ≤ S.faults input.new }
     ensures written { W.faults output.old ≤ W.faults output.new }
     ensures cause { ReplayCause result (Rose (S.faults input.old) (S.faults input.new)) (Rose (W.faults output.old) (W.faults output.new)) }
     ensures promise { Promises (S.remaining input.old) result (W.taken output.old) (W.taken output.new) }
     ensures end { IfSome (S.remaining input.old) (λ all. EndsSource result (S.remaining input.new)) }
+    ensures complete { (bytes : List ℕ) → S.remaining input.old ≡ Some bytes → (Rose (S.faults input.old) (S.faults input.new) → ⊥) → (Rose (W.faults output.old) (W.faults output.new) → ⊥)
+        → IsCompleted bytes result (W.taken output.old) (W.taken output.new) }
 {
     match read_all(alloc, input) {
         Ok(bytes) => replay_bytes(alloc, &bytes, output),

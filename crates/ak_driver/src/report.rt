@@ -1,16 +1,18 @@
 //! The text of the actions of a step (this project's format).
 
-ghost use Rattle.std.specs.Prelude.{◌≡◌, ℕ, ◌+◌, ◌<◌, ◌^◌, ◌++◌, ◌∷◌, [], map, length, OnOk, OnErr};
+ghost use Rattle.std.specs.Prelude.{◌≡◌, ℕ, ◌+◌, ◌<◌, ◌^◌, ◌++◌, ◌∷◌, [], map, length, slice_get, option_map, option_to_list, OnOk, OnErr};
+ghost use Rattle.std.specs.FinMap as finmap;
 ghost use Rattle.ak_address.specs.Uniques.{in_order};
+ghost use Rattle.ak_member.specs.Standing.{member_rows, tombstone_rows, members_of, tombstones_of};
 ghost use Rattle.ak_driver.specs.StepText as text;
 ghost use Rattle.ak_driver.specs.World as rules;
 
-use crate::gossip::Gossip;
-use crate::member::Effect;
 use crate::node::{Action, Actions};
 use crate::wire::Envelope;
 use ak_address::{Unique, Uniques, print_number};
 use ak_clock::Version;
+use ak_gossip::Gossip;
+use ak_member::{Effect, Members, Standing, Status};
 use std::alloc::{AllocError, Global};
 
 // Each printer below may leave a part of its text where memory ends. What is public prints into a text of its own first.
@@ -56,25 +58,109 @@ fn print_version(version: &Version, out: &mut Vec<u8>) -> Result<(), AllocError>
     Ok(())
 }
 
-fn print_member(who: &Unique, out: &mut Vec<u8>) -> Result<(), AllocError>
-    ensures { OnOk result (out.new.items ≡ out.old.items ++ text.member_text who.now) }
+fn status_name(status: Status) -> &'static [u8]
+    ensures { result.now ≡ text.status_name status }
 {
-    who.print_into(out)?;
-    print_bytes(b" joining", out)
+    match status {
+        Status::Joining => b"joining",
+        Status::Up => b"up",
+        Status::Leaving => b"leaving",
+        Status::Exiting => b"exiting",
+        Status::Down => b"down",
+    }
 }
 
-fn print_members(members: &Uniques, out: &mut Vec<u8>) -> Result<(), AllocError>
-    ensures { OnOk result (out.new.items ≡ out.old.items ++ text.listed_text (map text.member_text (in_order members.now))) }
+// A number other than 0, behind what it is of.
+fn print_behind(number: u64, out: &mut Vec<u8>) -> Result<(), AllocError>
+    ensures { OnOk result (out.new.items ≡ out.old.items ++ text.number_text number) }
 {
-    let count = members.len();
-    if count == 0 {
-        return print_bytes(b"-", out);
+    if number == 0 {
+        return Ok(());
     }
-    'members: for place in 0..count {
-        if let Some(who) = members.at(place) {
-            print_separator(place, out)?;
-            print_member(who, out)?;
+    print_bytes(b" ", out)?;
+    print_number(number, out)
+}
+
+fn print_member(
+    who: &Unique,
+    status: Status,
+    number: u64,
+    out: &mut Vec<u8>,
+) -> Result<(), AllocError>
+    ensures { OnOk result (out.new.items ≡ out.old.items ++ text.member_text (who.now, (status, number))) }
+{
+    who.print_into(out)?;
+    print_bytes(b" ", out)?;
+    print_bytes(status_name(status), out)?;
+    print_behind(number, out)
+}
+
+fn print_tombstone(who: &Unique, confirmed: bool, out: &mut Vec<u8>) -> Result<(), AllocError>
+    ensures { OnOk result (out.new.items ≡ out.old.items ++ text.tombstone_text (who.now, confirmed)) }
+{
+    who.print_into(out)?;
+    if confirmed {
+        return print_bytes(b" confirmed", out);
+    }
+    Ok(())
+}
+
+// The member at a row, where there is one: a row is a place among all that are known.
+fn member_row(members: &Members, row: usize) -> Option<(&Unique, Status, u64)>
+    ensures { option_to_list (option_map (λ m. (m.0.now, (m.1, m.2))) result) ≡ member_rows (option_to_list (slice_get (finmap.entries members.now) row)) }
+{
+    match members.row(row) {
+        Some((who, Standing::Member(status, number))) => Some((who, status, number)),
+        Some((_, Standing::Buried(_))) => None,
+        None => None,
+    }
+}
+
+// The tombstone at a row, where there is one, and whether it is confirmed.
+fn tombstone_row(members: &Members, row: usize) -> Option<(&Unique, bool)>
+    ensures { option_to_list (option_map (λ t. (t.0.now, t.1)) result) ≡ tombstone_rows (option_to_list (slice_get (finmap.entries members.now) row)) }
+{
+    match members.row(row) {
+        Some((who, Standing::Buried(confirmed))) => Some((who, confirmed)),
+        Some((_, Standing::Member(_, _))) => None,
+        None => None,
+    }
+}
+
+pub(crate) fn print_members(members: &Members, out: &mut Vec<u8>) -> Result<(), AllocError>
+    ensures { OnOk result (out.new.items ≡ out.old.items ++ text.listed_text (map text.member_text (members_of members.now))) }
+{
+    let mut printed = 0;
+    'rows: for row in 0..members.uniques() {
+        if let Some((who, status, number)) = member_row(members, row) {
+            print_separator(printed, out)?;
+            print_member(who, status, number, out)?;
+            printed += 1;
         }
+    }
+    print_none(printed, out)
+}
+
+pub(crate) fn print_tombstones(members: &Members, out: &mut Vec<u8>) -> Result<(), AllocError>
+    ensures { OnOk result (out.new.items ≡ out.old.items ++ text.listed_text (map text.tombstone_text (tombstones_of members.now))) }
+{
+    let mut printed = 0;
+    'rows: for row in 0..members.uniques() {
+        if let Some((who, confirmed)) = tombstone_row(members, row) {
+            print_separator(printed, out)?;
+            print_tombstone(who, confirmed, out)?;
+            printed += 1;
+        }
+    }
+    print_none(printed, out)
+}
+
+// What stands where nothing was printed.
+fn print_none(printed: usize, out: &mut Vec<u8>) -> Result<(), AllocError>
+    ensures { OnOk result (out.new.items ≡ out.old.items ++ text.none_text printed) }
+{
+    if printed == 0 {
+        return print_bytes(b"-", out);
     }
     Ok(())
 }
@@ -86,7 +172,55 @@ fn print_view(gossip: &Gossip, out: &mut Vec<u8>) -> Result<(), AllocError>
     print_version(gossip.version(), out)?;
     print_bytes(b" | ", out)?;
     print_members(gossip.members(), out)?;
-    print_bytes(b" | -", out)
+    print_bytes(b" | ", out)?;
+    print_tombstones(gossip.members(), out)
+}
+
+// Each process after a space.
+fn print_spaced(who: &Uniques, out: &mut Vec<u8>) -> Result<(), AllocError>
+    ensures { OnOk result (out.new.items ≡ out.old.items ++ text.spaced_text (in_order who.now)) }
+{
+    'processes: for place in 0..who.len() {
+        if let Some(one) = who.at(place) {
+            print_bytes(b" ", out)?;
+            one.print_into(out)?;
+        }
+    }
+    Ok(())
+}
+
+fn print_subjects(subjects: &Uniques, out: &mut Vec<u8>) -> Result<(), AllocError>
+    ensures { OnOk result (out.new.items ≡ out.old.items ++ text.subjects_text (in_order subjects.now)) }
+{
+    if subjects.len() == 0 {
+        return print_bytes(b" none", out);
+    }
+    print_spaced(subjects, out)
+}
+
+fn print_rise(
+    who: &Unique,
+    status: Status,
+    number: u64,
+    out: &mut Vec<u8>,
+) -> Result<(), AllocError>
+    ensures { OnOk result (out.new.items ≡ out.old.items ++ text.effect_text (Effect.Rise who.now status number)) }
+{
+    print_bytes(status_name(status), out)?;
+    print_bytes(b" ", out)?;
+    who.print_into(out)?;
+    print_behind(number, out)
+}
+
+fn print_removed(who: &Unique, confirmed: bool, out: &mut Vec<u8>) -> Result<(), AllocError>
+    ensures { OnOk result (out.new.items ≡ out.old.items ++ text.effect_text (Effect.Removed who.now confirmed)) }
+{
+    if confirmed {
+        print_bytes(b"removed-confirmed ", out)?;
+        return who.print_into(out);
+    }
+    print_bytes(b"removed ", out)?;
+    who.print_into(out)
 }
 
 fn print_effect(effect: &Effect, out: &mut Vec<u8>) -> Result<(), AllocError>
@@ -97,10 +231,16 @@ fn print_effect(effect: &Effect, out: &mut Vec<u8>) -> Result<(), AllocError>
             print_bytes(b"joined ", out)?;
             who.print_into(out)
         }
+        Effect::Rise(who, status, number) => print_rise(who, *status, *number, out),
+        Effect::Removed(who, confirmed) => print_removed(who, *confirmed, out),
+        Effect::Observed(subjects) => {
+            print_bytes(b"observed", out)?;
+            print_subjects(subjects, out)
+        }
     }
 }
 
-fn print_effects(effects: &[Effect], out: &mut Vec<u8>) -> Result<(), AllocError>
+pub(crate) fn print_effects(effects: &[Effect], out: &mut Vec<u8>) -> Result<(), AllocError>
     ensures { OnOk result (out.new.items ≡ out.old.items ++ text.listed_text (map text.effect_text effects.now)) }
 {
     if effects.len() == 0 {

@@ -73,3 +73,67 @@ fn replays_end(rt: HostRuntime) -> Result<(), Fail> {
     );
     Ok(())
 }
+
+// These lines behind the headers.
+fn schedule(alloc: Global, events: &[u8]) -> Result<Vec<u8>, AllocError> {
+    let mut text = HEADERS.to_vec(alloc)?;
+    text.extend_from_slice(events)?;
+    Ok(text)
+}
+
+// Each step is printed once and each line is counted, a CR at a line's end is no part of it, and the whole text is read.
+#[test]
+fn replays_print_each_line_once(rt: HostRuntime) -> Result<(), Fail> {
+    let alloc = rt.alloc();
+    let words: [&[u8]; 1] = [b"replay"];
+    let founding: &[u8] =
+        b"1 start a:1#1\n2 found a:1#1\n  update 1 joined a:1#1\n  view a:1#1=1 | a:1#1 joining | -\nsteps 2\npackets 0\nhistory 1\nmargin kept\ndoubles none\n";
+    let table: [(&[u8], Status, &[u8]); 6] = [
+        (b"start a:1#1\nfound a:1#1\n", Status::Done, founding),
+        (b"start a:1#1\r\nfound a:1#1\r\n", Status::Done, founding),
+        (
+            b"\n# A comment.\nstart a:1#1\n   \n  found   a:1#01\r",
+            Status::Done,
+            founding,
+        ),
+        (
+            b"start a:1#1\nfound a:1#1\r\r\n",
+            Status::Schedule,
+            b"1 start a:1#1\nerror 4 S1 line 11\n",
+        ),
+        (
+            b"start a:1#1\n\nstart a:1#1\nfound a:1#1\n",
+            Status::Schedule,
+            b"1 start a:1#1\nerror 4 S4 line 12\n",
+        ),
+        (b"start b:1#1\n", Status::Schedule, b"error 4 S3 line 10\n"),
+    ];
+    'rows: for (events, want, printed) in table {
+        let text = schedule(alloc, events)?;
+        let (status, written, _, _) = outcome(alloc, &words, &text, &[], &[])?;
+        assert_eq!(rt; status, want);
+        assert_eq!(rt; written.as_slice(), printed);
+    }
+    Ok(())
+}
+
+// Where the second write fails, the sink took the first piece, which is a front of the text.
+#[test]
+fn a_failed_write_leaves_a_front(rt: HostRuntime) -> Result<(), Fail> {
+    let alloc = rt.alloc();
+    let words: [&[u8]; 1] = [b"replay"];
+    let mut text = schedule(alloc, b"start a:1#1\n")?;
+    for _ in 0..5000 {
+        text.extend_from_slice(b"join a:1#1 a:1\n")?;
+    }
+    let (status, whole, _, _) = outcome(alloc, &words, &text, &[], &[])?;
+    assert_eq!(rt; status, Status::Done);
+
+    let (status, front, _, writes) = outcome(alloc, &words, &text, &[], &[2])?;
+    assert_eq!(rt; status, Status::Write);
+    assert_eq!(rt; writes, 1);
+    assert!(rt; front.len() >= 65536);
+    assert!(rt; front.len() < whole.len());
+    assert!(rt; whole.starts_with(&front));
+    Ok(())
+}

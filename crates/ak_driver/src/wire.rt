@@ -3,8 +3,8 @@
 ghost use Rattle.std.specs.Prelude.{◌≡◌, IfOk};
 ghost use Rattle.ak_driver.specs.StepText.{kind_text};
 
-use crate::gossip::Gossip;
 use ak_address::{Address, Unique};
+use ak_gossip::Gossip;
 use std::alloc::{AllocError, Global};
 
 /// What one node says to another.

@@ -1,6 +1,6 @@
 //! A recorded world: the nodes that were started, every packet that was ever sent, and the history of the cluster.
 
-ghost use Rattle.std.specs.Prelude.{◌≡◌, ℕ, ◌+◌, ◌-◌, ◌<◌, ◌≤◌, ◌^◌, ◌++◌, ◌∷◌, [], true, false, length, slice_get, codes, IfOk, OnOk, OnErr, Option, None, Some, Result, Ok, Err};
+ghost use Rattle.std.specs.Prelude.{◌≡◌, ℕ, ◌+◌, ◌-◌, ◌<◌, ◌≤◌, ◌^◌, ◌++◌, ◌∷◌, [], true, false, length, take, slice_get, codes, IfOk, OnOk, OnErr, Option, None, Some, Result, Ok, Err};
 ghost use Rattle.std.specs.Fmt.{decimal};
 ghost use Rattle.std.specs.Option.{option_and_then, option_copied, option_map};
 ghost use Rattle.ak_schedule.specs.Schedule.{event_text};
@@ -9,18 +9,18 @@ ghost use Rattle.std.specs.List.{list_any, position};
 ghost use Rattle.std.specs.Ordering.{is_eq};
 ghost use Rattle.ak_address.specs.Unique.{address_cmp};
 ghost use Rattle.ak_driver.specs.Fold.{IsFold, IsIn};
-ghost use Rattle.ak_driver.specs.Gossip.{GossipState};
+ghost use Rattle.ak_gossip.specs.Gossip.{GossipState};
 ghost use Rattle.ak_driver.specs.Node.{is_for};
 ghost use Rattle.ak_driver.specs.WorldWords.{Applies, Scenes, IsReady, state_of};
 ghost use Rattle.ak_driver.specs.NodeWords.{Machine};
 ghost use Rattle.ak_driver.specs.StepText as text;
 
-use crate::gossip::Gossip;
-use crate::history::History;
 use crate::node::{Action, Actions, Node, NodeEvent, is_for};
 use crate::report::{print_bytes, print_items};
 use crate::wire::Envelope;
 use ak_address::{Address, Unique, print_number};
+use ak_gossip::Gossip;
+use ak_history::History;
 use ak_schedule::{Event, Settings, print_event};
 use std::alloc::{AllocError, AllocFailed, Global};
 use std::marker::Model;
@@ -330,12 +330,13 @@ impl Model for World {
     ghost use Rattle.std.specs.Coded.{codes};
     ghost use Rattle.ak_address.specs.Unique.{coded_address, coded_unique};
     ghost use Rattle.ak_schedule.specs.Settings.{coded_setup};
-    ghost use Rattle.ak_driver.specs.Gossip.{coded_gossip};
+    ghost use Rattle.ak_gossip.specs.Gossip.{coded_gossip};
+    ghost use Rattle.ak_member.specs.View.{coded_uniques};
     ghost use Rattle.ak_driver.specs.WorldWords.{Chronicle, state_of, IsChronicle};
 
     ghost Value = { Chronicle };
 
-    ghost coded = { Prim.hlevel (codes, coded_address, coded_unique, coded_setup, coded_gossip) };
+    ghost coded = { Prim.hlevel (codes, coded_address, coded_unique, coded_uniques, coded_setup, coded_gossip) };
 
     ghost view = { λ w. record { setup = w.scene.settings; state = state_of w.scene; events = w.accepted.items; spent = w.is_spent } };
 
@@ -363,12 +364,18 @@ impl World {
 
     /// Applies one event, or says why it is refused: the first reason of `Refused` that applies. A refusal leaves the
     /// world as it was; after want of memory the world is spent.
+    ///
+    /// What a node knows and what a packet carries is the fold of the history: its members with their statuses, its
+    /// tombstones and its rows are those that its version shows. So equal versions have equal members, statuses,
+    /// tombstones and rows, whenever and wherever they are held: behind any two numbers of accepted events, in any two
+    /// nodes or packets.
     pub fn apply(&mut self, alloc: Global, event: &Event) -> Result<Step, Refused>
         requires { length self.old.events < 2 ^ 62 }
         ensures applied { Applies event.now self.old result self.new }
         ensures numbered { IfOk result (λ step. step.first_packet + length (rules.sent step.actions) < 2 ^ 64) }
         ensures run { self.new.spent ≡ false → self.new.state ≡ rules.run self.new.setup self.new.events }
         ensures folded { self.new.spent ≡ false → (g : GossipState) → IsIn g self.new.state → IsFold self.new.state.history g }
+        ensures equal { self.new.spent ≡ false → (i j : ℕ) (g f : GossipState) → IsIn g (rules.run self.new.setup (take i self.new.events)) → IsIn f (rules.run self.new.setup (take j self.new.events)) → g.version ≡ f.version → g.view ≡ f.view }
     {
         if self.is_spent {
             return Err(Refused::NoMemory);

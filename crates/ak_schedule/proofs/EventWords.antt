@@ -7,7 +7,7 @@ use Rattle.ak_schedule.specs.declared.event.Event.{Event}
 use Rattle.ak_schedule.specs.declared.event.Event.TheVariants.{Start, Found, Join, Tick, Deliver, Leave, Down, Offer, Stop}
 use Rattle.ak_schedule.specs.declared.kind.Kind as kind
 use Rattle.ak_schedule.specs.declared.fault.LineFault.{LineFault}
-use Rattle.ak_schedule.specs.declared.fault.LineFault.TheVariants.{Malformed, NotBuilt, NoMemory}
+use Rattle.ak_schedule.specs.declared.fault.LineFault.TheVariants.{Malformed, BadHeader, NoMemory}
 use Rattle.ak_schedule.specs.Kind.{kind_name}
 use Rattle.ak_schedule.specs.Reading.{Reads, SpellsOne, SpellsTwo}
 use Rattle.ak_schedule.specs.Schedule.{SpellsWords}
@@ -69,7 +69,7 @@ kind_is k ws e h = same_kind (event_kind e) k (named (kind_name k ∷ ws) ws (ki
 -- a fault of a part is the fault of the whole
 pub refused : {T U : Type 0} (P : T → Type 0) (Q : U → Type 0) (fault : LineFault) → Reads P (Err fault) → ((u : U) → Q u → (t : T) × P t) → Reads Q (Err fault)
 refused P Q Malformed none part = λ u whole. none (part u whole).0 (part u whole).1
-refused P Q NotBuilt none part = none
+refused P Q BadHeader none part = none
 refused P Q NoMemory none part = tt
 
 start_of : (ws : List (List ℕ)) (e : Event) → event_kind e ≡ kind.TheVariants.Start → SpellsWords (codes "start" ∷ ws) e → (u : Process) × SpellsOne ws u

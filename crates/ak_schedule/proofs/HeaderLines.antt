@@ -3,7 +3,7 @@ use Rattle.std.proofs.Common.{◌≡◌, ℕ, List, Err, subst, refl}
 use Rattle.std.specs.Prelude.{Some, slice_get}
 use Rattle.ak_schedule.specs.declared.settings.Header.{Header}
 use Rattle.ak_schedule.specs.declared.fault.LineFault.{LineFault}
-use Rattle.ak_schedule.specs.declared.fault.LineFault.TheVariants.{Malformed, NotBuilt, NoMemory}
+use Rattle.ak_schedule.specs.declared.fault.LineFault.TheVariants.{Malformed, BadHeader, NoMemory}
 use Rattle.ak_schedule.specs.Line.{words}
 use Rattle.ak_schedule.specs.Settings.{Setup}
 use Rattle.ak_schedule.specs.Schedule.{headers, Sets}
@@ -18,5 +18,5 @@ header_refused which line old is none next read =
 pub header_fault : {T : Type 0} (P : T → Type 0) (which : Header) (line : List ℕ) (old : Drafted) (fault : LineFault) → slice_get headers old.read ≡ Some which
     → RefusesValue P fault → ((new : Setup) → Sets which (words line) old.setup new → (t : T) × P t) → HeaderAnswers (Err fault) line old old
 header_fault P which line old Malformed is none part = none
-header_fault P which line old NotBuilt is none part = (refl, header_refused which line old is (λ new sets. none (part new sets).0 (part new sets).1))
+header_fault P which line old BadHeader is none part = (refl, header_refused which line old is (λ new sets. none (part new sets).0 (part new sets).1))
 header_fault P which line old NoMemory is none part = refl

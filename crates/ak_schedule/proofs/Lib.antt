@@ -1,5 +1,6 @@
 pub mod Canonical
 pub mod Cutting
+pub mod Deciding
 pub mod EventWords
 pub mod HeaderLines
 pub mod LineParts

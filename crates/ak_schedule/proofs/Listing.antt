@@ -9,7 +9,7 @@ use Rattle.ak_address.specs.Unique.{Endpoint, IsAddress}
 use Rattle.ak_address.specs.Spelling.{SpellsAddress}
 use Rattle.ak_address.proofs.Spelled.{address_same}
 use Rattle.ak_schedule.specs.declared.fault.LineFault.{LineFault}
-use Rattle.ak_schedule.specs.declared.fault.LineFault.TheVariants.{Malformed, NotBuilt, NoMemory}
+use Rattle.ak_schedule.specs.declared.fault.LineFault.TheVariants.{Malformed, BadHeader, NoMemory}
 use Rattle.ak_schedule.specs.declared.settings.Strategy.{Strategy}
 use Rattle.ak_schedule.specs.Settings.{IsListing}
 use Rattle.ak_schedule.specs.Draft.{RefusesValue, SpellsAddresses, SpellsNext}
@@ -99,13 +99,13 @@ spelled_no_further names rest after name listed cut so_far none all spelt =
 pub listing_refused : (names rest after : List (List ℕ)) (name : List ℕ) (listed : List Endpoint) (fault : LineFault) → rest ≡ name ∷ after → SpelledSoFar names rest listed
     → RefusesValue (SpellsNext name listed) fault → RefusesValue (SpellsAddresses names) fault
 listing_refused names rest after name listed Malformed cut so_far h = h
-listing_refused names rest after name listed NotBuilt cut so_far h = spelled_no_further names rest after name listed cut so_far h
+listing_refused names rest after name listed BadHeader cut so_far h = spelled_no_further names rest after name listed cut so_far h
 listing_refused names rest after name listed NoMemory cut so_far h = tt
 
 -- a fault of a part is the fault of the whole
 pub value_refused : {T U : Type 0} (P : T → Type 0) (Q : U → Type 0) (fault : LineFault) → RefusesValue P fault → ((u : U) → Q u → (t : T) × P t) → RefusesValue Q fault
 value_refused P Q Malformed none part = none
-value_refused P Q NotBuilt none part = λ u whole. none (part u whole).0 (part u whole).1
+value_refused P Q BadHeader none part = λ u whole. none (part u whole).0 (part u whole).1
 value_refused P Q NoMemory none part = tt
 
 -- an address that is among the others does not follow

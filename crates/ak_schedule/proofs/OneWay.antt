@@ -76,7 +76,7 @@ same_words (name ∷ ws) e f h g =
 pub one_event : (line : List ℕ) (e f : Event) → SpellsEvent line e → SpellsEvent line f → e ≡ f
 one_event line e f one other = same_words (words line) e f one.words other.words
 
-same_addresses : (ws : List (List ℕ)) (one other : List Endpoint) → AllZip SpellsAddress ws one → AllZip SpellsAddress ws other → one ≡ other
+pub same_addresses : (ws : List (List ℕ)) (one other : List Endpoint) → AllZip SpellsAddress ws one → AllZip SpellsAddress ws other → one ≡ other
 same_addresses [] [] [] h g = refl
 same_addresses [] [] (b ∷ bs) h g = absurd g
 same_addresses [] (a ∷ as') bs h g = absurd h

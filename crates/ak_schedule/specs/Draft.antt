@@ -7,7 +7,7 @@ use Rattle.ak_address.specs.Spelling.{SpellsAddress}
 use Rattle.ak_schedule.specs.declared.settings.Strategy.TheVariants.{DownAll}
 use Rattle.ak_schedule.specs.declared.settings.Header.{Header}
 use Rattle.ak_schedule.specs.declared.fault.LineFault.{LineFault}
-use Rattle.ak_schedule.specs.declared.fault.LineFault.TheVariants.{Malformed, NotBuilt, NoMemory}
+use Rattle.ak_schedule.specs.declared.fault.LineFault.TheVariants.{Malformed, BadHeader, NoMemory}
 use Rattle.ak_schedule.specs.Settings.{Setup, IsListing, IsStrategy, IsWithin, coded_setup}
 use Rattle.ak_schedule.specs.Schedule.{headers, SetsHeader}
 
@@ -60,13 +60,13 @@ pub record ReadsHeader (line : List ℕ) (old new : Drafted) : Type 0 where
 abbrev pub HeaderAnswers : Result Bool LineFault → List ℕ → Drafted → Drafted → Type 0
 HeaderAnswers (Ok done) line old new = ReadsHeader line old new × (IsTrue done ↔ (new.read ≡ 9))
 HeaderAnswers (Err Malformed) line old new = ⊥
-HeaderAnswers (Err NotBuilt) line old new = (new ≡ old) × ((next : Drafted) → ReadsHeader line old next → ⊥)
+HeaderAnswers (Err BadHeader) line old new = (new ≡ old) × ((next : Drafted) → ReadsHeader line old next → ⊥)
 HeaderAnswers (Err NoMemory) line old new = new ≡ old
 
 -- a header's value is refused exactly where none is spelled
 abbrev pub RefusesValue : {T : Type 0} → (T → Type 0) → LineFault → Type 0
 RefusesValue Spells Malformed = ⊥
-RefusesValue {T} Spells NotBuilt = (value : T) → Spells value → ⊥
+RefusesValue {T} Spells BadHeader = (value : T) → Spells value → ⊥
 RefusesValue Spells NoMemory = Unit {0}
 
 -- the words spell these addresses, of which there are 1 to 32 different ones

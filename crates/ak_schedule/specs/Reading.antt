@@ -3,13 +3,13 @@ use Rattle.std.specs.Prelude.{◌≡◌, ℕ, Result, Ok, Err, List, [], ◌∷�
 use Rattle.ak_address.specs.Unique.{Process}
 use Rattle.ak_address.specs.Spelling.{SpellsUnique}
 use Rattle.ak_schedule.specs.declared.fault.LineFault.{LineFault}
-use Rattle.ak_schedule.specs.declared.fault.LineFault.TheVariants.{Malformed, NotBuilt, NoMemory}
+use Rattle.ak_schedule.specs.declared.fault.LineFault.TheVariants.{Malformed, BadHeader, NoMemory}
 
 -- a value that is spelled; malformed exactly where none is; want of memory may come for any line
 abbrev pub Reads : {T : Type 0} → (T → Type 0) → Result T LineFault → Type 0
 Reads Spells (Ok value) = Spells value
 Reads {T} Spells (Err Malformed) = (value : T) → Spells value → ⊥
-Reads Spells (Err NotBuilt) = ⊥
+Reads Spells (Err BadHeader) = ⊥
 Reads Spells (Err NoMemory) = Unit {0}
 
 -- one word, which spells the unique

@@ -58,7 +58,7 @@ impl Draft {
         }
     }
 
-    /// Reads the next header line. True exactly where it is the ninth. Refused as `NotBuilt` exactly
+    /// Reads the next header line. True exactly where it is the ninth. Refused as `BadHeader` exactly
     /// where no value makes the line the next header; only memory can fail besides. At every error the
     /// draft is as it was. The headers, their order and their ranges are this project's choice.
     pub fn header(&mut self, alloc: Global, line: &[u8]) -> Result<bool, LineFault>
@@ -66,7 +66,7 @@ impl Draft {
         ensures { HeaderAnswers result line.now self.old self.new }
     {
         if line.len() > MOST_BYTES {
-            return Err(LineFault::NotBuilt);
+            return Err(LineFault::BadHeader);
         }
         self.set_next(alloc, line)
     }
@@ -147,7 +147,7 @@ impl Draft {
         ensures { HeaderAnswers result line.now self.old self.new }
     {
         let Some(strategy) = read_strategy(line) else {
-            return Err(LineFault::NotBuilt);
+            return Err(LineFault::BadHeader);
         };
         self.strategy = strategy;
         self.read = 2;
@@ -160,7 +160,7 @@ impl Draft {
         ensures { HeaderAnswers result line.now self.old self.new }
     {
         let Some(margin) = read_setting(line, b"margin", 1_000_000) else {
-            return Err(LineFault::NotBuilt);
+            return Err(LineFault::BadHeader);
         };
         self.margin = margin;
         self.read = 3;
@@ -173,7 +173,7 @@ impl Draft {
         ensures { HeaderAnswers result line.now self.old self.new }
     {
         let Some(deadline) = read_setting(line, b"deadline", 1_000_000) else {
-            return Err(LineFault::NotBuilt);
+            return Err(LineFault::BadHeader);
         };
         self.deadline = deadline;
         self.read = 4;
@@ -186,7 +186,7 @@ impl Draft {
         ensures { HeaderAnswers result line.now self.old self.new }
     {
         let Some(stable) = read_setting(line, b"stable", 1_000_000) else {
-            return Err(LineFault::NotBuilt);
+            return Err(LineFault::BadHeader);
         };
         self.stable = stable;
         self.read = 5;
@@ -199,7 +199,7 @@ impl Draft {
         ensures { HeaderAnswers result line.now self.old self.new }
     {
         let Some(shards) = read_setting(line, b"shards", 1_000) else {
-            return Err(LineFault::NotBuilt);
+            return Err(LineFault::BadHeader);
         };
         self.shards = shards;
         self.read = 6;
@@ -212,7 +212,7 @@ impl Draft {
         ensures { HeaderAnswers result line.now self.old self.new }
     {
         let Some(buffer) = read_setting(line, b"buffer", 100_000) else {
-            return Err(LineFault::NotBuilt);
+            return Err(LineFault::BadHeader);
         };
         self.buffer = buffer;
         self.read = 7;
@@ -225,7 +225,7 @@ impl Draft {
         ensures { HeaderAnswers result line.now self.old self.new }
     {
         let Some(threshold) = read_setting(line, b"threshold", 1_000) else {
-            return Err(LineFault::NotBuilt);
+            return Err(LineFault::BadHeader);
         };
         self.threshold = threshold;
         self.read = 8;
@@ -238,7 +238,7 @@ impl Draft {
         ensures { HeaderAnswers result line.now self.old self.new }
     {
         let Some(limit) = read_setting(line, b"limit", 1_000) else {
-            return Err(LineFault::NotBuilt);
+            return Err(LineFault::BadHeader);
         };
         self.limit = limit;
         self.read = 9;

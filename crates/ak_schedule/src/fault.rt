@@ -7,8 +7,8 @@ pub enum LineFault {
     #[error("S1")]
     Malformed,
     /// The line is not the next header, or its value is out of range.
-    #[error("S13")]
-    NotBuilt,
+    #[error("S2")]
+    BadHeader,
     /// Memory ran out.
     #[error("memory")]
     NoMemory,

@@ -88,17 +88,17 @@ fn bare_strategy(name: &[u8]) -> Option<Strategy>
     None
 }
 
-/// The addresses of a header line. Refused as `NotBuilt` exactly where the line is no such header.
+/// The addresses of a header line. Refused as `BadHeader` exactly where the line is no such header.
 pub(crate) fn read_listing(alloc: Global, line: &[u8]) -> Result<Vec<Address>, LineFault>
     ensures { MatchResult result
         (λ listed. SpellsListing (words line.now) listed.items)
         (RefusesValue (SpellsListing (words line.now))) }
 {
     let Some((name, rest)) = next_word(line) else {
-        return Err(LineFault::NotBuilt);
+        return Err(LineFault::BadHeader);
     };
     if !is_text(name, b"listed") {
-        return Err(LineFault::NotBuilt);
+        return Err(LineFault::BadHeader);
     }
     match read_addresses(alloc, rest) {
         Ok(listed) => return Ok(listed),
@@ -121,7 +121,7 @@ fn read_addresses(alloc: Global, names: &[u8]) -> Result<Vec<Address>, LineFault
         rest = behind;
     }
     if listed.is_empty() {
-        return Err(LineFault::NotBuilt);
+        return Err(LineFault::BadHeader);
     }
     Ok(listed)
 }
@@ -133,13 +133,13 @@ fn next_address(alloc: Global, name: &[u8], listed: &[Address]) -> Result<Addres
         (RefusesValue (SpellsNext name.now listed.now)) }
 {
     if listed.len() >= MOST_LISTED {
-        return Err(LineFault::NotBuilt);
+        return Err(LineFault::BadHeader);
     }
     match listed_address(alloc, name) {
         Err(fault) => return Err(fault),
         Ok(address) => {
             if contains_address(listed, &address) {
-                return Err(LineFault::NotBuilt);
+                return Err(LineFault::BadHeader);
             }
             return Ok(address);
         }
@@ -151,9 +151,9 @@ fn listed_address(alloc: Global, name: &[u8]) -> Result<Address, LineFault>
 {
     match parse_address(alloc, name) {
         Ok(address) => return Ok(address),
-        Err(AddressFault::BadHost) => return Err(LineFault::NotBuilt),
-        Err(AddressFault::BadPort) => return Err(LineFault::NotBuilt),
-        Err(AddressFault::BadUid) => return Err(LineFault::NotBuilt),
+        Err(AddressFault::BadHost) => return Err(LineFault::BadHeader),
+        Err(AddressFault::BadPort) => return Err(LineFault::BadHeader),
+        Err(AddressFault::BadUid) => return Err(LineFault::BadHeader),
         Err(AddressFault::NoMemory) => return Err(LineFault::NoMemory),
     }
 }

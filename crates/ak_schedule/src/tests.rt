@@ -181,7 +181,7 @@ fn settings_are_those_of_the_lines(rt: HostRuntime) -> Result<(), Fail> {
 fn a_fault_shows_as_its_code(rt: HostRuntime) -> Result<(), Fail> {
     let faults = [
         (LineFault::Malformed, "S1"),
-        (LineFault::NotBuilt, "S13"),
+        (LineFault::BadHeader, "S2"),
         (LineFault::NoMemory, "memory"),
     ];
     for (fault, code) in &faults {

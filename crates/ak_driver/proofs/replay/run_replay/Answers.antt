@@ -1,5 +1,7 @@
 use Rattle.std.proofs.Common.{List, ℕ, subst}
+use Rattle.ak_outside.specs.Outside.{Rose}
 use Rattle.ak_driver.specs.ReplayPromise.{Prints}
+use Rattle.ak_driver.proofs.Completeness.{completed, starved}
 use Rattle.ak_driver.proofs.PromiseLemmas.{promised, ended_source, no_input, no_memory}
 use Rattle.ak_driver.proofs.replay.run_replay.Goals as goal
 
@@ -24,3 +26,25 @@ returns-in-Err-Failed-clause-promise g c =
 pub returns-in-Err-NoMemory-clause-promise : goal.returns-in-Err-NoMemory-clause-promise
 returns-in-Err-NoMemory-clause-promise g c =
     no_memory (g.S.Source.remaining c.args.input.now) c.written-in-Err-NoMemory.result _ (g.W.Sink.taken c.args.output.now) (g.W.Sink.taken c.written-in-Err-NoMemory.new.output) c.written-in-Err-NoMemory.ensures.written
+
+pub returns-in-Ok-clause-complete : goal.returns-in-Ok-clause-complete
+returns-in-Ok-clause-complete g c =
+    let old = g.W.Sink.taken c.args.output.now in
+    let new = g.W.Sink.taken c.replay_bytes.new.output in
+    λ bytes is reads writes.
+    completed (g.S.Source.remaining c.args.input.now) c.replay_bytes.result ⊥ (Rose (g.W.Sink.faults c.args.output.now) (g.W.Sink.faults c.replay_bytes.new.output)) old new
+    c.replay_bytes.ensures.cause
+    (promised (g.S.Source.remaining c.args.input.now) (g.S.Source.remaining c.read_all.new.input) c.in-Ok.bytes.items c.replay_bytes.result old new c.in-Ok.ensures.reads
+    (subst (λ (l : List ℕ). Prints l c.replay_bytes.result old new) c.deref.ensures.value c.replay_bytes.ensures.prints))
+    bytes is (λ none. none) writes
+
+pub returns-in-Err-Failed-clause-complete : goal.returns-in-Err-Failed-clause-complete
+returns-in-Err-Failed-clause-complete g c =
+    let rose : Rose (g.S.Source.faults c.args.input.now) (g.S.Source.faults c.read_all.new.input) = rw c.in-Err-Failed.field-0-is at c.in-Err-Failed.ensures.cause in
+    λ bytes is reads writes. absurd (reads rose)
+
+pub returns-in-Err-NoMemory-clause-complete : goal.returns-in-Err-NoMemory-clause-complete
+returns-in-Err-NoMemory-clause-complete g c =
+    λ bytes is reads writes.
+    starved c.written-in-Err-NoMemory.result _ _ (g.W.Sink.taken c.args.output.now) (g.W.Sink.taken c.written-in-Err-NoMemory.new.output)
+    c.written-in-Err-NoMemory.ensures.written bytes writes

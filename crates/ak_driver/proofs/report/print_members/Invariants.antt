@@ -1,8 +1,13 @@
-use Rattle.std.proofs.Common.{◌≡◌, ◌++◌, map, take}
-use Rattle.ak_address.specs.Uniques.{in_order}
-use Rattle.ak_driver.specs.StepText.{member_text}
-use Rattle.ak_driver.proofs.TextLemmas.{front}
+use Rattle.std.proofs.Common.{◌≡◌, ◌≤◌, ◌++◌, map, drop}
+use Rattle.std.specs.FinMap as finmap
+use Rattle.ak_member.specs.Standing.{member_rows, members_of}
+use Rattle.ak_driver.specs.StepText.{listed_text, member_text}
+use Rattle.ak_driver.proofs.TextLemmas.{rest_text}
 use Rattle.ak_driver.proofs.report.print_members.Given as goal
 
-abbrev pub invariant-members : goal.invariant-members
-invariant-members l = l.out.items ≡ l.initial.out.items ++ front (map member_text (take l.place (in_order l.members)))
+-- what is printed so far, and the members of the rows that are left
+abbrev pub invariant-rows : goal.invariant-rows
+invariant-rows l = record {
+  few : l.printed ≤ l.row;
+  so_far : l.out.items ++ rest_text l.printed (map member_text (member_rows (drop l.row (finmap.entries l.members)))) ≡ l.initial.out.items ++ listed_text (map member_text (members_of l.members));
+}

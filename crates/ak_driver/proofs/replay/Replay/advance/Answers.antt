@@ -1,8 +1,8 @@
 use Rattle.std.proofs.Common.{◌≡◌, ◌+◌, ◌++◌, ℕ, List, Ok, Err, refl, sym, subst, arith}
 use Rattle.std.proofs.lemmas.Result.{err_from_is_err_and}
 use Rattle.ak_driver.specs.declared.replay.Replay.{Replay}
-use Rattle.ak_driver.specs.ReplayWords.{progress, progress_of, HeadingAnswers, Turns}
-use Rattle.ak_driver.proofs.ReplayLemmas.{advance_header, advance_refused, advance_event}
+use Rattle.ak_driver.specs.ReplayWords.{progress, progress_of, HeadingAnswers, RunningAnswers, Turns}
+use Rattle.ak_driver.proofs.ReplayLemmas.{advance_header, advance_refused, advance_event, advance_declined}
 use Rattle.ak_driver.proofs.replay.Replay.advance.Goals as goal
 
 pub returns-in_err-heading-in-Heading-clause-turn :
@@ -29,3 +29,11 @@ pub returns-in_ok-running-in-Running-clause-turn :
     goal.returns-in_ok-running-in-Running-clause-turn
 returns-in_ok-running-in-Running-clause-turn c =
     advance_event c.args.self.now.stage (Ok c.in_ok-running-in-Running.field-0) _ _ _ c.in-Running.world c.running.new.world _ _ c.in-Running.is c.in_ok-running-in-Running.ensures c.requires.few c.requires.open (omega arith)
+
+pub returns-in_err-running-in-Running-clause-turn :
+    goal.returns-in_err-running-in-Running-clause-turn
+returns-in_err-running-in-Running-clause-turn c =
+    let p = err_from_is_err_and c.from_residual-in_err-running-in-Running.result c.from_residual-in_err-running-in-Running.ensures.1 in
+    advance_declined c.args.self.now.stage _ _ _ _ _ c.in-Running.world c.running.new.world _ _ p.1 c.in-Running.is
+    (subst (λ e. RunningAnswers (Err e) c.args.line.now (c.args.self.now.steps + 1) c.in-Running.world c.running.new.world c.args.out.now.items c.running.new.out.items) (sym p.2) c.in_err-running-in-Running.ensures)
+    c.requires.few c.requires.open (omega arith) _

@@ -3,7 +3,7 @@ use Rattle.std.proofs.lemmas.Grind.{common_steps}
 use Rattle.ak_schedule.specs.declared.event.Event.{Event}
 use Rattle.ak_driver.specs.World.{run}
 use Rattle.ak_driver.specs.WorldWords.{Chronicle, IsReady, state_of}
-use Rattle.ak_driver.proofs.FoldRuns.{folds-of_run}
+use Rattle.ak_driver.proofs.FoldRuns.{folds-of_run, views_at_times}
 use Rattle.ak_driver.proofs.WorldLemmas.{ready_run, run-went, at-ok}
 use Rattle.ak_driver.proofs.world.World.apply.Goals as goal
 
@@ -37,3 +37,11 @@ pub returns-in-Err-clause-folded : goal.returns-in-Err-clause-folded
 returns-in-Err-clause-folded c =
     let is_run : c.self.inside.is_spent ≡ false → state_of c.happens.new.self ≡ run c.happens.new.self.settings c.self.inside.accepted.items = grind (arith, common_steps) in
     λ alive g is_in. folds-of_run c.happens.new.self.settings c.self.inside.accepted.items (state_of c.happens.new.self) (is_run alive) g is_in
+
+pub returns-then-is_ok-clause-equal : goal.returns-then-is_ok-clause-equal
+returns-then-is_ok-clause-equal c =
+    λ alive. views_at_times c.happens.new.self.settings c.keep_event.new.accepted.items
+
+pub returns-in-Err-clause-equal : goal.returns-in-Err-clause-equal
+returns-in-Err-clause-equal c =
+    λ alive. views_at_times c.happens.new.self.settings c.self.inside.accepted.items

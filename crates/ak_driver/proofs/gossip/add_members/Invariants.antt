@@ -1,8 +1,0 @@
-use Rattle.std.proofs.Common.{take}
-use Rattle.ak_address.specs.Uniques.{in_order}
-use Rattle.ak_driver.proofs.GossipLemmas.{HasAdded}
-use Rattle.ak_driver.proofs.gossip.add_members.Given as goal
-
--- those so far are added that are members
-abbrev pub invariant-others : goal.invariant-others
-invariant-others l = HasAdded l.initial.seen (take l.place (in_order l.others)) l.members l.seen
