@@ -17,7 +17,7 @@ pub use parse::{
     AddressFault, parse_address, parse_number, parse_unique, spellings_are_words,
     spellings_have_one_value,
 };
-pub use print::{print_number, texts_are_spellings};
+pub use print::{print_number, print_wide_number, texts_are_spellings};
 pub use table::{Duplicate, Join, Table, joins_are_pointwise};
 pub use text::Text;
 pub use uniques::Uniques;

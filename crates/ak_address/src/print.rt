@@ -14,6 +14,16 @@ pub fn print_number(number: u64, out: &mut Vec<u8>) -> Result<(), AllocError>
     out.extend_from_slice(buffer.format(number).as_bytes())
 }
 
+/// Appends the decimal digits of a number of up to 128 bits, with no leading zero. Where memory runs out `out` is as it
+/// was.
+pub fn print_wide_number(number: u128, out: &mut Vec<u8>) -> Result<(), AllocError>
+    ensures ok { OnOk result (out.new.items ≡ out.old.items ++ decimal number) }
+    ensures err { OnErr result (out.new.items ≡ out.old.items) }
+{
+    let mut buffer = Buffer::new();
+    out.extend_from_slice(buffer.format(number).as_bytes())
+}
+
 /// Appends `host:port`. Where memory runs out `out` is as it was.
 pub fn print_address(host: &[u8], port: u16, out: &mut Vec<u8>) -> Result<(), AllocError>
     ensures ok { OnOk result (out.new.items ≡ out.old.items ++ address_text (record { host = host.now; port = port })) }

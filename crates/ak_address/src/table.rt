@@ -126,7 +126,7 @@ impl<V: Duplicate + Drop> Table<V> {
     pub fn copy(&self, alloc: Global) -> Result<Table<V>, AllocError>
         ensures { IfOk result (λ copy. copy ≡ self.now) }
     {
-        let mut entries = Vec::new(alloc);
+        let mut entries = Vec::with_capacity(alloc, self.entries.len())?;
         push_copies(alloc, &mut entries, &self.entries)?;
         Ok(Table { entries })
     }
@@ -225,7 +225,7 @@ fn weave<V: Join + Drop>(
 ) -> Result<Vec<(Unique, V)>, AllocError>
     ensures { IfOk result (λ rows. rows.items ≡ woven unique_cmp V.join left.now right.now) }
 {
-    let mut rows = Vec::new(alloc);
+    let mut rows = Vec::with_capacity(alloc, left.len().max(right.len()))?;
     let mut i = 0;
     let mut j = 0;
     'rows: while i < left.len() && j < right.len() {

@@ -1,12 +1,14 @@
 ghost use Rattle.std.specs.Prelude.{◌≡◌, ℕ, List, IfOk};
 
+use smallvec::SmallVec;
 use std::alloc::{AllocError, Global};
 use std::marker::Model;
 
-/// A list of bytes: a host, an entity's id, the content of a file.
-#[derive(Debug, Drop)]
+/// A list of bytes: a host, an entity's id, the content of a file. Up to 16 bytes, as most hosts have, stand in the value
+/// itself, so that a copy of them takes no memory.
+#[derive(Debug)]
 pub struct Text {
-    letters: Vec<u8>,
+    letters: SmallVec<u8, 16>,
 }
 
 impl Model for Text {
@@ -20,7 +22,7 @@ impl Text {
     pub fn from_bytes(alloc: Global, bytes: &[u8]) -> Result<Text, AllocError>
         ensures { IfOk result (λ text. text ≡ bytes.now) }
     {
-        let letters = bytes.to_vec(alloc)?;
+        let letters = SmallVec::from_slice(alloc, bytes)?;
         Ok(Text { letters })
     }
 
@@ -28,7 +30,7 @@ impl Text {
     pub fn bytes(&self) -> &[u8]
         ensures { result.now ≡ self.now }
     {
-        &self.letters
+        self.letters.as_slice()
     }
 
     /// An equal text. Only memory can fail.
@@ -36,5 +38,13 @@ impl Text {
         ensures { IfOk result (λ text. text ≡ self.now) }
     {
         Text::from_bytes(alloc, self.bytes())
+    }
+}
+
+// By hand, so that for a proof a drop is one step, wherever the bytes stand.
+impl Drop for Text {
+    fn drop(self) {
+        let Text { letters } = self;
+        drop(letters);
     }
 }
