@@ -151,6 +151,12 @@ inserted_is_version v a n p lt le = record { no_zero = none; bounded = within }
           omega (arith, is, p.bounded u)
     ]
 
+pub reaching_is_version : (v : Counts) (a : Process) (n : ℕ) → IsVersion v → n ≤ BOUND → IsVersion (reaching v a n)
+reaching_is_version v a n p le = elim (reaching-cases v a n) [
+  | inl stays ↦ subst IsVersion (sym stays.0) p
+  | inr rises ↦ subst IsVersion (sym rises.0) (inserted_is_version v a n p rises.1 le)
+]
+
 -- ---- covering is an order
 pub covers_itself : (v : Counts) → Covers v v
 covers_itself v u = omega arith

@@ -1,5 +1,5 @@
 -- Who has seen a gossip after one with the same version came, and that joins may be admitted.
-use Rattle.std.proofs.Common.{◌≡◌, ◌≢◌, ◌⊎◌, inl, inr, ◌↔◌, ◌+◌, ◌<◌, ◌≤◌, Bool, true, false, ◌||◌, ◌&&◌, if◌then◌else◌, IsTrue, [], ◌∷◌, Option, Some, None, is_some, refl, sym, ap, ◌∙◌, subst, arith, true≢false}
+use Rattle.std.proofs.Common.{◌≡◌, ◌≢◌, ◌⊎◌, inl, inr, ◌↔◌, ◌<◌, Bool, true, false, ◌||◌, ◌&&◌, if◌then◌else◌, IsTrue, [], ◌∷◌, Option, Some, None, is_some, refl, sym, ap, ◌∙◌, subst, arith, true≢false}
 use Rattle.std.proofs.lemmas.Option.{same_Some}
 use Rattle.std.specs.FinMap as map
 use Rattle.std.specs.Ordering.{eq_by_cmp}
@@ -14,7 +14,7 @@ use Rattle.ak_member.specs.declared.effect.Effect.TheVariants.{Joined}
 use Rattle.ak_member.specs.declared.standing.Standing.{Standing}
 use Rattle.ak_member.specs.declared.standing.Standing.TheVariants.{Member, Buried}
 use Rattle.ak_member.specs.declared.status.Status.TheVariants.{Joining}
-use Rattle.ak_member.specs.Standing.{Standings, joined_standing, known, raised, member_of, is_member}
+use Rattle.ak_member.specs.Standing.{Standings, joined_standing, member_of, is_member}
 use Rattle.ak_gossip.specs.Gossip.{GossipState, most_uniques, IsStanding, IsGossip, MayUpdate, seen_by, same}
 use Rattle.ak_gossip.proofs.Kept.{or_case, and_first, and_second, standing_with}
 use Rattle.ak_gossip.proofs.SeenLemmas.{len-insert-most}

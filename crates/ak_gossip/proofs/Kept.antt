@@ -1,6 +1,6 @@
 -- What holds of every gossip holds after each call: of nothing known, of a join, of an entry more, and of those that
 -- have seen it.
-use Rattle.std.proofs.Common.{◌≡◌, ◌≢◌, ◌⊎◌, inl, inr, ℕ, zero, suc, ◌+◌, ◌<◌, ◌≤◌, max, Bool, true, false, ◌||◌, ◌&&◌, if◌then◌else◌, cond, IsTrue, List, [], ◌∷◌, Option, Some, None, is_some, refl, sym, ap, ◌∙◌, subst, arith, true≢false}
+use Rattle.std.proofs.Common.{◌≡◌, ◌⊎◌, inl, inr, ℕ, zero, suc, ◌+◌, ◌≤◌, max, Bool, true, false, ◌||◌, ◌&&◌, if◌then◌else◌, cond, IsTrue, List, [], ◌∷◌, Option, Some, None, is_some, refl, sym, ap, ◌∙◌, subst, arith, true≢false}
 use Rattle.std.proofs.lemmas.Bool.Decides.{nat_tests}
 use Rattle.std.proofs.lemmas.Option.{same_Some}
 use Rattle.std.specs.FinMap as map
@@ -12,7 +12,7 @@ use Rattle.ak_address.proofs.TableLaws.{same_key, same_or_apart, get-empty, get-
 use Rattle.ak_address.proofs.UniquesLaws.{has-no_one, has-with_one, has-those, has-union}
 use Rattle.ak_clock.specs.declared.version.TheConstants.{BOUND}
 use Rattle.ak_clock.specs.Version.{Counts, count, merged, bumped}
-use Rattle.ak_clock.proofs.VersionLaws.{count-empty, count-merged, merged_covers_first, merged_covers_second, bumped_covers, count-bumped_author, count-bumped_others}
+use Rattle.ak_clock.proofs.VersionLaws.{count-empty, count-merged, empty_is_version, merged_is_version, bumped_is_version, merged_covers_first, merged_covers_second, bumped_covers, count-bumped_author, count-bumped_others}
 use Rattle.ak_member.specs.declared.effect.Effect.{Effect}
 use Rattle.ak_member.specs.declared.effect.Effect.TheVariants.{Joined, Rise, Removed, Observed}
 use Rattle.ak_member.specs.declared.standing.Standing.{Standing}
@@ -170,6 +170,7 @@ none_there x is = true≢false (sym (ap is_some is))
 
 pub nothing_kept : IsGossip nothing_known
 nothing_kept = record {
+  version = empty_is_version;
   counted = λ who least. absurd (omega (arith, count-empty who));
   standings = λ who x is. absurd (none_there x (sym (get-empty who) ∙ is));
   rows = λ observer row is. absurd (none_there row (sym (get-empty observer) ∙ is));
@@ -181,6 +182,7 @@ nothing_kept = record {
 -- other processes, all of them members, have seen it
 pub seen_kept : (g : GossipState) (seen : UniqueSet) → IsGossip g → ((who : Process) → IsTrue (has seen who) → IsTrue (is_member g.view.standings who)) → IsGossip (record g { seen = seen })
 seen_kept g seen p members = record {
+  version = p.version;
   counted = p.counted;
   standings = p.standings;
   rows = λ observer row is. row_grown g (record g { seen = seen }) observer row (record { known = λ _ h. h; counts = λ who. omega arith }) (p.rows observer row is);
@@ -232,6 +234,7 @@ same_kept own incoming p = seen_kept own (union own.seen others) p (λ who h. el
 -- ---- the join
 pub both_kept : (own incoming : GossipState) → IsGossip own → IsGossip incoming → map.len (joined_standings own.view.standings incoming.view.standings) ≤ most_uniques → IsGossip (both own incoming)
 both_kept own incoming p q few = record {
+  version = merged_is_version own.version incoming.version p.version q.version;
   counted = λ who least. elim (one_is (count own.version who) (count incoming.version who) (omega (arith, least, count-merged own.version incoming.version who))) [
     | inl is ↦ known_first own.view.standings incoming.view.standings who (p.counted who is)
     | inr is ↦ known_second own.view.standings incoming.view.standings who (q.counted who is)
@@ -290,6 +293,7 @@ same_parts_kept me own incoming p seen joined before is are now =
 -- ---- an entry
 pub updated_kept : (author : Process) (effects : List Effect) (g : GossipState) → IsGossip g → MayUpdate author effects g → IsGossip (updated author effects g)
 updated_kept author effects g p may = record {
+  version = bumped_is_version g.version author p.version may.below_bound;
   counted = λ who least. elim (same_or_apart who author) [
     | inl same ↦ subst (λ k. IsTrue (is_known (after_effects effects g.view.standings) k)) (sym same) author_known
     | inr apart ↦ known_after_effects effects g.view.standings who (p.counted who (omega (arith, least, count-bumped_others g.version author who apart)))

@@ -1,7 +1,6 @@
 pub mod GossipLaws
 pub mod Kept
 pub mod MayUpdates
-pub mod Observing
 pub mod PartsBack
 pub mod PartsLaws
 pub mod PartsOrder

@@ -13,6 +13,9 @@ use Rattle.ak_address.specs.Uniques.{no_one, has}
 use Rattle.ak_address.proofs.Order.{unique_total}
 use Rattle.ak_address.proofs.Rows.{find_at, both}
 use Rattle.ak_address.proofs.TableLaws.{same_table, same_or_apart, other_key, rows_of, true_is}
+use Rattle.ak_clock.specs.declared.version.TheConstants.{BOUND}
+use Rattle.ak_clock.specs.Version.{Counts, IsVersion}
+use Rattle.ak_clock.proofs.VersionLaws.{empty_is_version, reaching_is_version}
 use Rattle.ak_member.specs.declared.standing.Standing.{Standing}
 use Rattle.ak_member.specs.declared.standing.Standing.TheVariants.{Member, Buried}
 use Rattle.ak_member.specs.declared.status.Status.TheVariants.{Joining, Up, Leaving, Exiting, Down}
@@ -73,6 +76,12 @@ made_of parts =
       seen = with_seen no_one parts;
     }
 
+-- counts in their range make a version
+counts_are_version : (parts : List Part) (v : Counts) → IsVersion v → ((i : ℕ) (part : Part) → slice_get parts i ≡ Some part → part.count ≤ BOUND) → IsVersion (with_counts v parts)
+counts_are_version [] v p each = p
+counts_are_version (part ∷ parts) v p each =
+    counts_are_version parts _ (reaching_is_version v part.unique part.count p (each 0 part refl)) (λ i other at. each (suc i) other at)
+
 -- a row that a part has
 row_cases : (b : Bool) (row other : Row) → (if b then None else Some row) ≡ Some other → (b ≡ false) × (row ≡ other)
 row_cases true row other is = absurd (not_there other is)
@@ -119,6 +128,7 @@ module _ (parts : List Part) (valid : AreParts parts) where
 
   pub made_is_gossip : IsGossip (made_of parts)
   made_is_gossip = record {
+    version = counts_are_version parts map.empty empty_is_version (λ i part at. (valid.each i part at).count);
     counted = λ who some. elim (among_or_none parts who) [
       | inl a ↦ known_among who a
       | inr none ↦ absurd (omega (arith, count_of_other parts who none))

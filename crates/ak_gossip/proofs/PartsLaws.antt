@@ -9,8 +9,7 @@ use Rattle.ak_address.specs.Unique.{Process, unique_cmp}
 use Rattle.ak_address.specs.Uniques.{UniqueSet, has}
 use Rattle.ak_address.proofs.TableLaws.{same_table, get_at, place_of_get, keys_rise}
 use Rattle.ak_address.proofs.UniquesLaws.{same_uniques}
-use Rattle.ak_clock.specs.declared.version.TheConstants.{BOUND}
-use Rattle.ak_clock.specs.Version.{count, IsVersion}
+use Rattle.ak_clock.specs.Version.{count}
 use Rattle.ak_clock.proofs.VersionLaws.{same_version}
 use Rattle.ak_member.specs.declared.standing.Standing.{Standing}
 use Rattle.ak_member.specs.Standing.{Standings, as_member, member_of}
@@ -58,12 +57,12 @@ module _ (g : GossipState) (p : IsGossip g) where
   member_here : (who : Process) (x : Standing) → map.get g.view.standings who ≡ Some x → IsTrue (has g.seen who) → IsSome (as_member x)
   member_here who x is h = sym (ap (λ o. is_some (member_of o)) is) ∙ p.seen who h
 
-  part_fits : (i : ℕ) (row : Process × Standing) → slice_get (map.entries g.view.standings) i ≡ Some row → count g.version row.0 ≤ BOUND → IsPart many (part_of g row)
-  part_fits i row at bounded =
+  part_fits : (i : ℕ) (row : Process × Standing) → slice_get (map.entries g.view.standings) i ≡ Some row → IsPart many (part_of g row)
+  part_fits i row at =
       let here : map.get g.view.standings row.0 ≡ Some row.1 = get_at g.view.standings i row at in
       let o : Option Row = map.get g.view.rows row.0 in
       record {
-        count = bounded;
+        count = p.version.bounded row.0;
         state = record { standing = row.1; state_is = refl; number_is = refl; may_be = p.standings row.0 row.1 here; by_member = member_here row.0 row.1 here };
         row_number = row_fits row.0 (map.get g.view.rows row.0) refl;
         no_row = no_subjects row.0 (map.get g.view.rows row.0) refl;
@@ -71,24 +70,18 @@ module _ (g : GossipState) (p : IsGossip g) where
         below = all_below 0 many (subjects_of (map.get g.view.rows row.0) everybody) (subjects_test (map.get g.view.rows row.0));
       }
 
-  pub valid_where_counted : ((i : ℕ) (part : Part) → slice_get (parts_of g) i ≡ Some part → part.count ≤ BOUND) → AreParts (parts_of g)
-  valid_where_counted counted = record {
+  pub valid_parts : AreParts (parts_of g)
+  valid_parts = record {
     few = omega (arith, many_is, p.few);
     each = λ i part at.
         let row = mapped_at (part_of g) (map.entries g.view.standings) i part at in
-        let bounded : (part_of g row.0).count ≤ BOUND = subst (λ (a : Part). a.count ≤ BOUND) (sym row.2) (counted i part at) in
-        subst (IsPart many) row.2 (part_fits i row.0 row.1 bounded);
+        subst (IsPart many) row.2 (part_fits i row.0 row.1);
     ascending = λ i j one other lt is js.
         let d = mapped_at (part_of g) (map.entries g.view.standings) i one is in
         let e = mapped_at (part_of g) (map.entries g.view.standings) j other js in
         subst (λ (b : Part). unique_cmp one.unique b.unique ≡ Less) e.2
         (subst (λ (a : Part). unique_cmp a.unique (part_of g e.0).unique ≡ Less) d.2 (keys_rise g.view.standings i j d.0 e.0 lt d.1 e.1));
   }
-
-  pub valid_parts : IsVersion g.version → AreParts (parts_of g)
-  valid_parts v = valid_where_counted (λ i part at.
-      let row = mapped_at (part_of g) (map.entries g.view.standings) i part at in
-      subst (λ (a : Part). a.count ≤ BOUND) row.2 (v.bounded row.0.0))
 
 -- ---- one gossip
 -- a standing by its state and its number
@@ -131,7 +124,7 @@ same_places s t first (x ∷ es) same zero who at =
 same_places s t first (x ∷ es) same (suc i) who at =
     same_places s t (first + 1) es (at_first s t first x es (has s x) (has t x) refl refl same).1 i who at
 
-module _ (g h : GossipState) (p : IsGossip g) (q : IsGossip h) (v : IsVersion g.version) (w : IsVersion h.version) (is : parts_of g ≡ parts_of h) where
+module _ (g h : GossipState) (p : IsGossip g) (q : IsGossip h) (is : parts_of g ≡ parts_of h) where
   same_entry : (x y : Process × Standing) → part_of g x ≡ part_of h y → x ≡ y
   same_entry x y same =
       let keys : x.0 ≡ y.0 = ap (λ (a : Part). a.unique) same in
@@ -176,7 +169,7 @@ module _ (g h : GossipState) (p : IsGossip g) (q : IsGossip h) (v : IsVersion g.
       by_standing (Some x) at = ap (λ (a : Part). a.count) (part_same who x at)
 
   versions_same : g.version ≡ h.version
-  versions_same = same_version g.version h.version v w count_same
+  versions_same = same_version g.version h.version p.version q.version count_same
 
   not_seen : (f : GossipState) → IsGossip f → (who : Process) → map.get f.view.standings who ≡ None → has f.seen who ≡ false
   not_seen f r who none = by_test (has f.seen who) refl

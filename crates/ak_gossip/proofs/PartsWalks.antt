@@ -1,10 +1,8 @@
 -- Walks along the processes of a gossip, and along the places of a part.
-use Rattle.std.proofs.Common.{◌≡◌, ℕ, zero, suc, ◌+◌, ◌<◌, ◌≤◌, true, false, if◌then◌else◌, List, [], ◌∷◌, ◌++◌, length, drop, get_or, slice_get, option_to_list, Option, Some, None, is_some, refl, sym, ap, ◌∙◌, subst, true≢false, append_assoc, append-nil, drop_of_length-le, add-one, drop-cons}
+use Rattle.std.proofs.Common.{◌≡◌, ℕ, ◌+◌, ◌<◌, ◌≤◌, true, false, if◌then◌else◌, List, [], ◌∷◌, ◌++◌, length, drop, get_or, slice_get, option_to_list, Option, Some, None, refl, sym, ap, ◌∙◌, true≢false, append_assoc, append-nil, drop_of_length-le, add-one, drop-cons}
 use Rattle.std.specs.Prelude as list
 use Rattle.std.specs.FinMap as table
 use Rattle.std.proofs.lemmas.List.{length-map}
-use Rattle.std.proofs.lemmas.Option.{same_Some}
-use Rattle.ak_clock.specs.declared.version.TheConstants.{BOUND}
 use Rattle.ak_address.specs.Unique.{Process, unique_cmp}
 use Rattle.ak_address.specs.Uniques.{UniqueSet}
 use Rattle.ak_member.proofs.Walks.{drop_from}
@@ -62,10 +60,3 @@ module _ {X Y : Type 0} (f : X → Y) (xs : List X) (i : ℕ) (done all : List Y
 -- as many processes as places
 pub length-keys : {X : Type 0} (m : table.FinMap unique_cmp X) → length (table.keys m) ≡ table.len m
 length-keys m = length-map (table.entries m) (λ row. row.0) ∙ sym (table.len-entries m)
-
--- ---- counts of parts
-pub counted_more : (parts : List Part) (part : Part) → ((i : ℕ) (one : Part) → slice_get parts i ≡ Some one → one.count ≤ BOUND) → part.count ≤ BOUND → (i : ℕ) (one : Part) → slice_get (parts ++ part ∷ []) i ≡ Some one → one.count ≤ BOUND
-counted_more [] part before here zero one is = subst (λ (a : Part). a.count ≤ BOUND) (same_Some part one is) here
-counted_more [] part before here (suc i) one is = absurd (true≢false (sym (ap is_some is)))
-counted_more (x ∷ parts) part before here zero one is = before 0 one is
-counted_more (x ∷ parts) part before here (suc i) one is = counted_more parts part (λ j other at. before (suc j) other at) here i one is

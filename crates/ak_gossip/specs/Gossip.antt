@@ -1,13 +1,13 @@
 -- What a node knows of its cluster, and what it makes of a gossip that comes (Akka's Cluster Specification, "Gossip" and
 -- "Gossip Convergence").
-use Rattle.std.specs.Prelude.{◌≡◌, ℕ, ◌+◌, ◌<◌, ◌≤◌, nat_lt, min, ◌^◌, ◌-◌, IsTrue, Bool, is_some, List, Some, Result, Ok, Err, if◌then◌else◌, refl, ⊤}
+use Rattle.std.specs.Prelude.{◌≡◌, ℕ, ◌+◌, ◌<◌, ◌≤◌, nat_lt, IsTrue, Bool, is_some, List, Some, Result, Ok, Err, if◌then◌else◌, refl, ⊤}
 use Rattle.std.specs.FinMap as map
 use Rattle.std.specs.Coded.{Coded, code_by, coded×, coded_ℕ}
-use Rattle.ak_address.specs.Unique.{Process, unique_cmp, coded_unique}
+use Rattle.ak_address.specs.Unique.{Process, coded_unique}
 use Rattle.ak_address.specs.Uniques.{UniqueSet, no_one, has, with_one, those, union}
 use Rattle.ak_clock.specs.declared.version.TheConstants.{BOUND}
 use Rattle.ak_clock.specs.declared.version.Relation as clock
-use Rattle.ak_clock.specs.Version.{Counts, count, merged, bumped, relation}
+use Rattle.ak_clock.specs.Version.{Counts, count, IsVersion, merged, bumped, relation}
 use Rattle.ak_member.specs.declared.effect.Effect.{Effect}
 use Rattle.ak_member.specs.declared.standing.Standing.{Standing}
 use Rattle.ak_member.specs.declared.standing.Standing.TheVariants.{Member, Buried}
@@ -64,8 +64,10 @@ pub record IsRow (g : GossipState) (observer : Process) (row : Row) : Type 0 whe
   pub counted : row.number ≤ count g.version observer
   pub subjects_known : (subject : Process) → IsTrue (has row.subjects subject) → IsTrue (is_known g.view.standings subject)
 
--- Every process in a gossip is a member or a tombstone, those that have seen it are members, and there are not too many.
+-- The counts of a gossip are those of a version; every process in it is a member or a tombstone, those that have seen it
+-- are members, and there are not too many.
 pub record IsGossip (g : GossipState) : Type 0 where
+  pub version : IsVersion g.version
   pub counted : (who : Process) → 1 ≤ count g.version who → IsTrue (is_known g.view.standings who)
   pub standings : (who : Process) (standing : Standing) → map.get g.view.standings who ≡ Some standing → IsStanding standing
   pub rows : (observer : Process) (row : Row) → map.get g.view.rows observer ≡ Some row → IsRow g observer row

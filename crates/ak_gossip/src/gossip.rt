@@ -1,4 +1,4 @@
-ghost use Rattle.std.specs.Prelude.{◌≡◌, ◌+◌, ◌≤◌, if◌then◌else◌, IfOk, OnOk, OnErr, IsFalse, option_copied};
+ghost use Rattle.std.specs.Prelude.{◌≡◌, ◌+◌, ◌≤◌, if◌then◌else◌, IfOk, OnOk, OnErr, IsFalse};
 ghost use Rattle.std.specs.FinMap as map;
 ghost use Rattle.ak_address.specs.Uniques.{has, with_one, those, union};
 ghost use Rattle.ak_clock.specs.Version.{count};
@@ -10,12 +10,13 @@ ghost use Rattle.ak_gossip.specs.GossipWords.{Receives, excess_of};
 
 use ak_address::{Unique, Uniques};
 use ak_clock::{Relation, Version};
-use ak_member::{Effect, Effects, Members};
+use ak_member::{Effects, Members};
 use ak_reach::Rows;
 use std::alloc::{AllocError, Global};
 use std::marker::Model;
 
-/// How a gossip that was taken was related to what the node knew.
+/// How a gossip that was taken was related to what the node knew (Akka's Cluster Specification, "Gossip": by their
+/// vector clocks).
 #[derive(Clone, Copy, Debug, PartialEq, Eq)]
 pub enum Received {
     /// Both knew the same.
@@ -28,7 +29,7 @@ pub enum Received {
     Merged,
 }
 
-/// Why a gossip is refused.
+/// Why a gossip is refused (this project's choice).
 #[derive(Clone, Copy, Debug, PartialEq, Eq)]
 pub enum GossipFault {
     /// It counts more updates of the receiving node than the node made.
@@ -38,10 +39,10 @@ pub enum GossipFault {
     NoMemory,
 }
 
-/// What a node knows: the version of the entries that it has seen, the members, tombstones and rows that they show, and
-/// which members are known to know exactly the same. Every process in it is a member or a tombstone, at most 128 of them,
-/// those that have seen it are members, and a row's number is at most what is counted of its observer: invariants of the
-/// type.
+/// What a node knows (Akka's Cluster Specification, "Gossip" and "Gossip Convergence"): the version of the entries that
+/// it has seen, the members, tombstones and rows that they show, and which members are known to know exactly the same.
+/// Every process in it is a member or a tombstone, at most 128 of them, those that have seen it are members, and a
+/// row's number is at most what is counted of its observer: invariants of the type.
 #[derive(Drop)]
 pub struct Gossip {
     pub(crate) version: Version,
@@ -96,18 +97,17 @@ impl Gossip {
         &self.rows
     }
 
-    /// Which members are known to know exactly this.
+    /// Which members are known to know exactly this (Akka's Cluster Specification, "Gossip Convergence": the seen set).
     pub fn seen(&self) -> &Uniques
         ensures { result.now ≡ self.now.seen }
     {
         &self.seen
     }
 
-    /// How many processes are in it, members and tombstones together, at most 128. So a caller that asks before an update
-    /// knows what holds of every gossip.
+    /// How many processes are in it, members and tombstones together, at most 128. Takes no memory.
     pub fn uniques(&self) -> u32
         ensures value { result ≡ map.len self.now.view.standings }
-        ensures whole { IsGossip self.now }
+        ensures few { result ≤ most_uniques }
     {
         self.members.uniques() as u32
     }
@@ -135,7 +135,8 @@ impl Gossip {
         })
     }
 
-    /// The author makes an entry with these effects and answers its number; only the author has seen what is known then.
+    /// The author makes an entry with these effects and answers its number; only the author has seen what is known then
+    /// (Akka's Cluster Specification, "Gossip": each change of the state raises the own count and clears the seen set).
     /// Of several Observed the last one counts. After an error the gossip is as it was; only memory can fail.
     pub fn update(
         &mut self,
@@ -164,9 +165,10 @@ impl Gossip {
         Ok(number)
     }
 
-    /// Takes in a gossip that came to the node `me`, or refuses it: `ForeignCount` exactly where it counts more entries
-    /// of `me` than are known here, and else `TooManyUniques` exactly where both together hold more than 128 processes.
-    /// After an error the gossip is as it was.
+    /// Takes in a gossip that came to the node `me` (Akka's Cluster Specification, "Gossip": the same, the newer one,
+    /// the own one, or both merged), or refuses it: `ForeignCount` exactly where it counts more entries of `me` than
+    /// are known here, and else `TooManyUniques` exactly where both together hold more than 128 processes. After an
+    /// error the gossip is as it was.
     pub fn receive(
         &mut self,
         alloc: Global,
@@ -292,19 +294,6 @@ fn size_of_both(alloc: Global, one: &Members, other: &Members) -> Result<usize, 
     Ok(both.uniques())
 }
 
-// Whom the last of the effects that observes found unreachable.
-fn last_observed(effects: &[Effect]) -> Option<&Uniques>
-    ensures { option_copied result ≡ observed effects.now }
-{
-    let mut found = None;
-    'effects: for effect in effects {
-        if let Effect::Observed(subjects) = effect {
-            found = Some(subjects);
-        }
-    }
-    found
-}
-
 // The author's row after its entry of this number, where that observes.
 fn observe(
     alloc: Global,
@@ -316,7 +305,7 @@ fn observe(
     requires { IsFalse (is_as_new (map.get rows.old author.now) number) }
     ensures { OnOk result (rows.new ≡ after_observed author.now number (observed effects.now) rows.old) }
 {
-    match last_observed(effects.as_slice()) {
+    match effects.observed() {
         Some(subjects) => rows.set_row(alloc, author, number, subjects),
         None => Ok(()),
     }

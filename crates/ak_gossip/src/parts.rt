@@ -3,7 +3,6 @@ ghost use Rattle.std.specs.FinMap as map;
 ghost use Rattle.ak_address.specs.Uniques.{no_one, with_one};
 ghost use Rattle.ak_member.specs.Standing.{nobody};
 ghost use Rattle.ak_clock.specs.declared.version.TheConstants.{BOUND};
-ghost use Rattle.ak_clock.specs.Version.{IsVersion};
 ghost use Rattle.ak_gossip.specs.Gossip.{GossipState, IsGossip, IsNumber, most_uniques};
 ghost use Rattle.ak_gossip.specs.Parts.{state_of, number_of, row_number_of, places_of, subjects_of, part_of, parts_of, IsState, IsPart, AreParts};
 ghost use Rattle.ak_gossip.specs.PartsWalk.{standing_of, ascend_from, is_above, ascend_after, has_there, with_counts, with_known, with_standings, with_seen, with_process, with_places, with_part_row, with_part_rows};
@@ -35,8 +34,7 @@ impl Gossip {
 
     // The part of a process that has this standing.
     fn part_of(&self, alloc: Global, who: &Unique, standing: Standing) -> Result<Part, AllocError>
-        ensures part { IfOk result (λ part. part ≡ part_of self.now (who.now, standing)) }
-        ensures counted { IfOk result (λ part. part.count ≤ BOUND) }
+        ensures { IfOk result (λ part. part ≡ part_of self.now (who.now, standing)) }
     {
         let unique = who.copy(alloc)?;
         let row = self.rows.row(who);
@@ -56,7 +54,7 @@ impl Gossip {
     pub fn from_parts(alloc: Global, parts: &[Part]) -> Result<Gossip, AllocError>
         requires { AreParts parts.now }
         ensures parts { IfOk result (λ gossip. parts_of gossip ≡ parts.now) }
-        ensures back { IfOk result (λ gossip. (g : GossipState) → IsGossip g → IsVersion g.version → parts_of g ≡ parts.now → gossip ≡ g) }
+        ensures back { IfOk result (λ gossip. (g : GossipState) → IsGossip g → parts_of g ≡ parts.now → gossip ≡ g) }
     {
         let version = version_of(alloc, parts)?;
         let members = members_of(alloc, parts)?;

@@ -1,5 +1,3 @@
-ghost use Rattle.std.specs.Prelude.{◌≤◌};
-
 use crate::gossip::Gossip;
 use crate::part::{Part, Parts, Places};
 use crate::parts::parts_valid;
@@ -8,24 +6,23 @@ use ak_member::Status;
 use std::alloc::{AllocError, Global};
 use std::test::Fail;
 
-// A part of the process with this uid.
+// A part of the process with this uid, from 1 on.
 #[derive(Clone, Copy)]
-struct Line {
-    uid: u32,
-    count: u64,
-    state: u8,
-    up_number: u64,
-    seen: bool,
-    row_number: u64,
-    subjects: &'static [u8],
+pub(crate) struct Line {
+    pub(crate) uid: u32,
+    pub(crate) count: u64,
+    pub(crate) state: u8,
+    pub(crate) up_number: u64,
+    pub(crate) seen: bool,
+    pub(crate) row_number: u64,
+    pub(crate) subjects: &'static [u8],
 }
 
-fn process(alloc: Global, uid: u32) -> Result<Unique, AllocError>
-    requires { 1 ≤ uid }
-{
+// The process of this uid; 0 counts as 1.
+pub(crate) fn process(alloc: Global, uid: u32) -> Result<Unique, AllocError> {
     let host = Text::from_bytes(alloc, b"a")?;
     let address = Address { host, port: 1 };
-    let uid = u64::from(uid);
+    let uid = u64::from(uid.max(1));
     Ok(Unique { address, uid })
 }
 
@@ -38,9 +35,6 @@ fn places(alloc: Global, list: &[u8]) -> Result<Places, AllocError> {
 }
 
 fn push_line(alloc: Global, line: Line, parts: &mut Parts) -> Result<(), AllocError> {
-    if line.uid == 0 {
-        return Ok(());
-    }
     let unique = process(alloc, line.uid)?;
     let subjects = places(alloc, line.subjects)?;
     parts.push(Part {
@@ -89,15 +83,19 @@ fn valid(alloc: Global, lines: &[Line]) -> Result<bool, AllocError> {
 }
 
 // The gossip of these lines, where they are valid, and else the empty one.
-fn gossip(alloc: Global, lines: &[Line]) -> Result<Gossip, AllocError> {
+pub(crate) fn gossip(alloc: Global, lines: &[Line]) -> Result<Gossip, AllocError> {
     let parts = parts(alloc, lines)?;
+    gossip_of(alloc, &parts)
+}
+
+fn gossip_of(alloc: Global, parts: &Parts) -> Result<Gossip, AllocError> {
     if parts_valid(parts.as_slice()) {
         return Gossip::from_parts(alloc, parts.as_slice());
     }
     Ok(Gossip::empty(alloc))
 }
 
-fn plain(uid: u32, state: u8, up_number: u64) -> Line {
+pub(crate) fn plain(uid: u32, state: u8, up_number: u64) -> Line {
     Line {
         uid,
         count: 3,
@@ -121,7 +119,7 @@ fn observer(uid: u32, row_number: u64, subjects: &'static [u8]) -> Line {
     }
 }
 
-fn counted(uid: u32, count: u64) -> Line {
+pub(crate) fn counted(uid: u32, count: u64) -> Line {
     Line {
         uid,
         count,
@@ -133,7 +131,7 @@ fn counted(uid: u32, count: u64) -> Line {
     }
 }
 
-fn seen(uid: u32, state: u8) -> Line {
+pub(crate) fn seen(uid: u32, state: u8) -> Line {
     Line {
         uid,
         count: 3,
@@ -264,13 +262,24 @@ fn other_parts_are_refused(rt: HostRuntime) -> Result<(), Fail> {
     Ok(())
 }
 
-// So many Joining processes are valid parts.
-fn many_valid(alloc: Global, many: u32) -> Result<bool, AllocError> {
+// So many Joining processes, with uids from the first on.
+fn many_parts(alloc: Global, first: u32, many: u32) -> Result<Parts, AllocError> {
     let mut parts = Parts::empty(alloc);
-    for uid in 0..many {
-        push_line(alloc, plain(uid + 1, 1, 0), &mut parts)?;
+    for more in 0..many {
+        push_line(alloc, plain(first.saturating_add(more), 1, 0), &mut parts)?;
     }
+    Ok(parts)
+}
+
+fn many_valid(alloc: Global, many: u32) -> Result<bool, AllocError> {
+    let parts = many_parts(alloc, 1, many)?;
     Ok(parts_valid(parts.as_slice()))
+}
+
+// The gossip of so many, where they are not too many, and else the empty one.
+pub(crate) fn crowd(alloc: Global, first: u32, many: u32) -> Result<Gossip, AllocError> {
+    let parts = many_parts(alloc, first, many)?;
+    gossip_of(alloc, &parts)
 }
 
 #[test]

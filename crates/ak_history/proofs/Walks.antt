@@ -12,10 +12,6 @@ use Rattle.ak_history.specs.History.{IsNumbered, is_covered, view}
 use Rattle.ak_history.specs.Walk.{with_observed, with_entry, with_covered, with_all_covered}
 use Rattle.ak_history.proofs.ViewsJoined.{IsBelow, rows_below}
 
-abbrev pub later_or : {X : Type 0} → Option X → Option X → Option X
-later_or None first = first
-later_or (Some later) first = Some later
-
 -- ---- a newer row is set
 newer_value : (row : Row) (o : Option Row) → ((own : Row) → o ≡ Some own → own.number < row.number) → value_with later_row o row ≡ row
 newer_value row None below = refl

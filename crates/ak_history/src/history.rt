@@ -6,9 +6,9 @@ ghost use Rattle.ak_history.specs.Walk.{with_observed, with_entry, with_covered,
 
 use crate::entry::Entry;
 use crate::view::View;
-use ak_address::{Unique, Uniques};
+use ak_address::Unique;
 use ak_clock::Version;
-use ak_member::{Effect, Effects, Members};
+use ak_member::{Effects, Members};
 use ak_reach::Rows;
 use std::alloc::{AllocError, Global};
 use std::marker::Model;
@@ -104,24 +104,11 @@ fn count_of(entries: &[Entry], author: &Unique) -> u64
     count
 }
 
-// Whom the last of the effects that observes found unreachable.
-fn last_observed(effects: &[Effect]) -> Option<&Uniques>
-    ensures { option_copied result ≡ observed effects.now }
-{
-    let mut last = None;
-    'effects: for effect in effects {
-        if let Effect::Observed(subjects) = effect {
-            last = Some(subjects);
-        }
-    }
-    last
-}
-
 // Sets the author's row where its entry observes.
 fn set_observed(alloc: Global, rows: &mut Rows, entry: &Entry) -> Result<(), AllocError>
     ensures { OnOk result (rows.new ≡ with_observed entry.now.author entry.now.number (observed entry.now.effects) rows.old) }
 {
-    match last_observed(entry.effects.as_slice()) {
+    match entry.effects.observed() {
         Some(subjects) => rows.set_row(alloc, &entry.author, entry.number, subjects),
         None => Ok(()),
     }

@@ -1,96 +1,66 @@
 use crate::history::History;
 use crate::view::View;
-use ak_address::{Address, Text, Unique, Uniques};
+use ak_address::{Unique, Uniques, parse_unique};
 use ak_clock::{BOUND, Version};
 use ak_member::{Effect, Effects, Status};
-use std::alloc::{AllocError, Global};
+use std::alloc::Global;
 use std::test::Fail;
 
-fn first(alloc: Global) -> Result<Unique, AllocError> {
-    let host = Text::from_bytes(alloc, b"a")?;
-    let address = Address { host, port: 1 };
-    Ok(Unique { address, uid: 1 })
+fn joined(alloc: Global, who: &str) -> Result<Effect, Fail> {
+    Ok(Effect::Joined(parse_unique(alloc, who.as_bytes())?))
 }
 
-fn second(alloc: Global) -> Result<Unique, AllocError> {
-    let host = Text::from_bytes(alloc, b"b")?;
-    let address = Address { host, port: 1 };
-    Ok(Unique { address, uid: 1 })
+fn down(alloc: Global, who: &str) -> Result<Effect, Fail> {
+    let who = parse_unique(alloc, who.as_bytes())?;
+    Ok(Effect::Rise(who, Status::Down, 0))
 }
 
-fn joined(alloc: Global, who: &Unique) -> Result<Effects, AllocError> {
-    let mut effects = Effects::empty(alloc);
-    let who = who.copy(alloc)?;
-    effects.push(Effect::Joined(who))?;
-    Ok(effects)
+fn removed(alloc: Global, who: &str) -> Result<Effect, Fail> {
+    Ok(Effect::Removed(parse_unique(alloc, who.as_bytes())?, false))
 }
 
-fn down(alloc: Global, who: &Unique) -> Result<Effects, AllocError> {
-    let mut effects = Effects::empty(alloc);
-    let who = who.copy(alloc)?;
-    effects.push(Effect::Rise(who, Status::Down, 0))?;
-    Ok(effects)
-}
-
-fn observed(alloc: Global, subject: &Unique) -> Result<Effect, AllocError> {
+fn observed(alloc: Global, subject: &str) -> Result<Effect, Fail> {
     let mut subjects = Uniques::empty(alloc);
-    subjects.insert(alloc, subject)?;
+    subjects.insert(alloc, &parse_unique(alloc, subject.as_bytes())?)?;
     Ok(Effect::Observed(subjects))
 }
 
-// The other one is removed, and two rows are observed: this one, then the other one.
-fn removed(alloc: Global, this: &Unique, other: &Unique) -> Result<Effects, AllocError> {
+// An entry with one effect.
+fn push(alloc: Global, history: &mut History, author: &str, effect: Effect) -> Result<(), Fail> {
     let mut effects = Effects::empty(alloc);
-    let who = other.copy(alloc)?;
-    effects.push(Effect::Removed(who, false))?;
-    effects.push(observed(alloc, this)?)?;
-    effects.push(observed(alloc, other)?)?;
-    Ok(effects)
-}
-
-// `a` joins itself and then `b`, and `b` takes `a` down.
-fn three_entries(alloc: Global) -> Result<History, AllocError> {
-    let a = first(alloc)?;
-    let b = second(alloc)?;
-    let mut history = History::empty(alloc);
-    history.push(alloc, &a, joined(alloc, &a)?)?;
-    history.push(alloc, &a, joined(alloc, &b)?)?;
-    history.push(alloc, &b, down(alloc, &a)?)?;
-    Ok(history)
-}
-
-// `a` joins itself, and its second entry removes `b` and observes twice.
-fn two_entries(alloc: Global) -> Result<History, AllocError> {
-    let a = first(alloc)?;
-    let b = second(alloc)?;
-    let mut history = History::empty(alloc);
-    history.push(alloc, &a, joined(alloc, &a)?)?;
-    history.push(alloc, &a, removed(alloc, &a, &b)?)?;
-    Ok(history)
-}
-
-fn bump_by(
-    alloc: Global,
-    version: &mut Version,
-    who: &Unique,
-    times: u64,
-) -> Result<(), AllocError> {
-    for _ in 0..times {
-        if version.count(who) < BOUND {
-            version.bump(alloc, who)?;
-        }
-    }
+    effects.push(effect)?;
+    let author = parse_unique(alloc, author.as_bytes())?;
+    history.push(alloc, &author, effects)?;
     Ok(())
 }
 
+// `a` joins itself and then `b`, and `b` takes `a` down.
+fn three_entries(alloc: Global) -> Result<History, Fail> {
+    let mut history = History::empty(alloc);
+    push(alloc, &mut history, "a:1#1", joined(alloc, "a:1#1")?)?;
+    push(alloc, &mut history, "a:1#1", joined(alloc, "b:1#1")?)?;
+    push(alloc, &mut history, "b:1#1", down(alloc, "a:1#1")?)?;
+    Ok(history)
+}
+
+// `a` joins itself, and its second entry removes `b` and observes twice: itself, and then `b`.
+fn two_entries(alloc: Global) -> Result<History, Fail> {
+    let mut history = History::empty(alloc);
+    push(alloc, &mut history, "a:1#1", joined(alloc, "a:1#1")?)?;
+    let mut effects = Effects::empty(alloc);
+    effects.push(removed(alloc, "b:1#1")?)?;
+    effects.push(observed(alloc, "a:1#1")?)?;
+    effects.push(observed(alloc, "b:1#1")?)?;
+    history.push(alloc, &parse_unique(alloc, b"a:1#1")?, effects)?;
+    Ok(history)
+}
+
 // What is shown by the version that counts this many entries of `a` and of `b`.
-fn shown(alloc: Global, history: &History, counts: (u64, u64)) -> Result<View, AllocError> {
-    let a = first(alloc)?;
-    let b = second(alloc)?;
+fn shown(alloc: Global, history: &History, counts: (u64, u64)) -> Result<View, Fail> {
     let mut version = Version::empty(alloc);
-    bump_by(alloc, &mut version, &a, counts.0)?;
-    bump_by(alloc, &mut version, &b, counts.1)?;
-    history.view(alloc, &version)
+    version.reach(alloc, &parse_unique(alloc, b"a:1#1")?, counts.0.min(BOUND))?;
+    version.reach(alloc, &parse_unique(alloc, b"b:1#1")?, counts.1.min(BOUND))?;
+    Ok(history.view(alloc, &version)?)
 }
 
 // The letter of the author's host and the number of the entry at a place; zeros past the end.

@@ -1,4 +1,5 @@
--- Walks along the rows of a table that count, or look for, the rows of one kind: `rows_of` gives those of a list.
+-- Walks along the rows of a table that count, or look for, the rows of one kind: `rows_of` gives those of a list. And
+-- a walk that keeps the last that it finds.
 use Rattle.std.proofs.Common.{◌≡◌, ℕ, zero, suc, ◌+◌, ◌-◌, ◌≤◌, List, [], ◌∷◌, ◌++◌, length, drop, slice_get, Option, Some, None, ◌≢◌, is_some, option_map, option_to_list, true, false, refl, sym, ap, ◌∙◌, arith, true≢false}
 use Rattle.std.proofs.lemmas.List.{drop_all}
 use Rattle.ak_address.specs.Unique.{Process}
@@ -18,6 +19,11 @@ next_of i = omega arith
 
 pub drop_from : {X : Type 0} (xs : List X) (i : ℕ) → drop i xs ≡ option_to_list (slice_get xs i) ++ drop (i + 1) xs
 drop_from xs i = drop_front xs i ∙ ap (λ n. option_to_list (slice_get xs i) ++ drop n xs) (next_of i)
+
+-- what was found so far counts only where something later is found
+abbrev pub last_of : {X : Type 0} → Option X → Option X → Option X
+last_of found None = found
+last_of found (Some later) = Some later
 
 pub one_there : {X : Type 0} (o : Option X) → true ≡ is_some o → length (option_to_list o) ≡ 1
 one_there None e = absurd (true≢false e)

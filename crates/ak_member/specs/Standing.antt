@@ -73,9 +73,6 @@ tombstone_of (Some standing) = as_tombstone standing
 abbrev pub is_member : Standings → Process → Bool
 is_member s who = is_some (member_of (map.get s who))
 
-abbrev pub is_tombstone : Standings → Process → Bool
-is_tombstone s who = is_some (tombstone_of (map.get s who))
-
 -- the rows that have one, in their order
 abbrev pub row_of : {X : Type 0} → Process → Option X → List (Process × X) → List (Process × X)
 row_of who None rows = rows

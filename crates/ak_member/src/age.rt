@@ -14,8 +14,8 @@ use std::alloc::{AllocError, Global};
 
 impl Members {
     /// The oldest member: of the Up and Leaving ones that with the least up number, at equal numbers the first in the
-    /// order of processes; none exactly where no member is Up or Leaving (Akka's Cluster Singleton runs on it). Takes no
-    /// memory.
+    /// order of processes; none exactly where no member is Up or Leaving (Akka's "Cluster Singleton" runs on it; that
+    /// Leaving members count is this project's choice). Takes no memory.
     pub fn oldest(&self) -> Option<&Unique>
         ensures value { option_copied result ≡ oldest self.now }
         ensures meaning { IsOldest self.now (option_copied result) }
@@ -26,7 +26,8 @@ impl Members {
         }
     }
 
-    /// The places among the members of the Up and Leaving ones, the oldest first, each once. Only memory can fail.
+    /// The places among the members of the Up and Leaving ones, the oldest first, each once (Akka's "Cluster Singleton"
+    /// orders members by age). Only memory can fail.
     pub fn by_age(&self, alloc: Global) -> Result<Vec<u32>, AllocError>
         requires { map.len self.now < 2 ^ 32 }
         ensures { IfOk result (λ places. IsByAge self.now places.items) }
@@ -36,7 +37,9 @@ impl Members {
         places_of(alloc, &counted)
     }
 
-    /// How many different addresses the Up and Leaving members have. Takes no memory.
+    /// How many different addresses the Up and Leaving members have: what the resolver counts against a quorum (Akka's
+    /// "Split Brain Resolver", "Static Quorum"; that addresses are counted and not processes is this project's choice).
+    /// Takes no memory.
     pub fn counted(&self) -> u32
         requires { map.len self.now < 2 ^ 32 }
         ensures { result ≡ distinct (counted_addresses self.now) }

@@ -1,5 +1,6 @@
 ghost use Rattle.std.specs.Prelude.{◌≡◌, [], ◌∷◌, ◌++◌, length, slice_get, IfOk, OnOk, OnErr};
 ghost use Rattle.std.specs.Option.{option_copied};
+ghost use Rattle.ak_member.specs.View.{observed};
 
 use crate::status::Status;
 use ak_address::{Unique, Uniques};
@@ -96,6 +97,13 @@ impl Effects {
         &self.list
     }
 
+    /// Whom the last of the effects that observes found unreachable; none where none observes. Takes no memory.
+    pub fn observed(&self) -> Option<&Uniques>
+        ensures { option_copied result ≡ observed self.now }
+    {
+        last_observed(&self.list)
+    }
+
     /// An equal list. Only memory can fail.
     pub fn copy(&self, alloc: Global) -> Result<Effects, AllocError>
         ensures { IfOk result (λ copy. copy ≡ self.now) }
@@ -103,6 +111,19 @@ impl Effects {
         let list = copied(alloc, &self.list)?;
         Ok(Effects { list })
     }
+}
+
+// Whom the last of the effects that observes found unreachable.
+fn last_observed(effects: &[Effect]) -> Option<&Uniques>
+    ensures { option_copied result ≡ observed effects.now }
+{
+    let mut last = None;
+    'effects: for effect in effects {
+        if let Effect::Observed(subjects) = effect {
+            last = Some(subjects);
+        }
+    }
+    last
 }
 
 fn copied(alloc: Global, effects: &[Effect]) -> Result<Vec<Effect>, AllocError>

@@ -11,7 +11,8 @@ use ak_address::{Table, Unique};
 use std::alloc::{AllocError, Global};
 use std::marker::Model;
 
-/// A member: its status, and the number with which it became Up, 0 where it was never Up.
+/// A member: its status, and the number with which it became Up, from 1 on, or 0 where it was never Up (Akka's Cluster
+/// Specification, "Membership Lifecycle"; the number is what Akka calls a member's up number).
 #[derive(Clone, Copy)]
 pub struct Member<'a> {
     pub unique: &'a Unique,
@@ -19,15 +20,17 @@ pub struct Member<'a> {
     pub up_number: u64,
 }
 
-/// A process that was removed for good; whether it is confirmed that it has stopped.
+/// A process that was removed for good (Akka's Cluster Specification, "Membership Lifecycle"); whether it is confirmed
+/// that it has stopped (this project's choice).
 #[derive(Clone, Copy)]
 pub struct Tombstone<'a> {
     pub unique: &'a Unique,
     pub confirmed: bool,
 }
 
-/// The members and the tombstones that a node knows, in the order of processes; nobody is both. A status only rises,
-/// and a tombstone stays one.
+/// The members and the tombstones that a node knows, in the order of processes; nobody is both. A status only rises
+/// (Akka's Cluster Specification, "Membership Lifecycle"), and a tombstone stays one (in Akka it is pruned after a time;
+/// that it never is is this project's choice, since an old gossip could bring the process back).
 #[derive(Drop)]
 pub struct Members {
     table: Table<Standing>,
@@ -135,8 +138,9 @@ impl Members {
         tombstone_in(&self.table, place)
     }
 
-    /// The process becomes a member, or its status rises to at least this one and its number to the least that is not 0.
-    /// A tombstone stays one. After an error the members are as they were; a process that is known takes no memory.
+    /// The process becomes a member, or its status rises to at least this one and its number to the least that is not 0
+    /// (Akka's Cluster Specification, "Membership Lifecycle"). A tombstone stays one. After an error the members are as
+    /// they were; a process that is known takes no memory.
     pub fn raise(
         &mut self,
         alloc: Global,
@@ -151,7 +155,8 @@ impl Members {
         self.note(alloc, who, Standing::Member(status, up_number))
     }
 
-    /// The process becomes a tombstone, confirmed where it was confirmed before or is now. After an error the members
+    /// The process becomes a tombstone, confirmed where it was confirmed before or is now (Akka's Cluster Specification,
+    /// "Membership Lifecycle": a removed member does not come back). After an error the members
     /// are as they were; a process that is known takes no memory.
     pub fn bury(&mut self, alloc: Global, who: &Unique, confirmed: bool) -> Result<(), AllocError>
         ensures ok { OnOk result (self.new ≡ buried self.old who.now confirmed) }
@@ -172,8 +177,8 @@ impl Members {
         Ok(members)
     }
 
-    /// Takes in what another view knows: of each process what both know of it. After an error the members are as they
-    /// were.
+    /// Takes in what another view knows: of each process what both know of it (Akka's Cluster Specification, "Gossip":
+    /// gossips that conflict are merged). After an error the members are as they were.
     pub fn merge(&mut self, alloc: Global, other: &Members) -> Result<(), AllocError>
         ensures ok { OnOk result (self.new ≡ joined_standings self.old other.now) }
         ensures err { OnErr result (self.new ≡ self.old) }

@@ -5,7 +5,7 @@ use crate::status::Status;
 use ak_address::{Duplicate, Join};
 use std::alloc::{AllocError, Global};
 
-/// What is known of one process.
+/// What is known of one process (Akka's Cluster Specification, "Membership Lifecycle").
 #[derive(Clone, Copy, Debug, PartialEq, Eq)]
 pub enum Standing {
     /// It is a member: its status, and the number with which it became Up, 0 where it was never Up.

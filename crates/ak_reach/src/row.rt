@@ -5,7 +5,8 @@ use ak_address::{Duplicate, Join, Uniques};
 use std::alloc::{AllocError, Global};
 use std::marker::Model;
 
-/// Whom an observer found unreachable, and the number of the observer's entry in the history that said so.
+/// Whom an observer found unreachable, and the number of the observer's entry in the history that said so (Akka's
+/// Cluster Specification, "Failure Detector": the reachability of a member is told by its observers).
 #[derive(Drop)]
 pub struct Row {
     pub number: u64,

@@ -9,7 +9,8 @@ use ak_address::{Table, Unique, Uniques};
 use std::alloc::{AllocError, Global};
 use std::marker::Model;
 
-/// The last row of each observer that has one, in the order of processes.
+/// The last row of each observer that has one, in the order of processes (Akka's Cluster Specification, "Failure
+/// Detector").
 #[derive(Drop)]
 pub struct Rows {
     table: Table<Row>,
@@ -78,8 +79,9 @@ impl Rows {
         self.table.insert(who, Row { number, subjects })
     }
 
-    /// Takes in other rows: of each observer the row with the greater number, at equal numbers the own one. After an
-    /// error the rows are as they were; only memory can fail.
+    /// Takes in other rows: of each observer the row with the greater number, at equal numbers the own one (Akka's
+    /// Cluster Specification, "Gossip": an observer's later record counts). After an error the rows are as they were;
+    /// only memory can fail.
     pub fn merge(&mut self, alloc: Global, other: &Rows) -> Result<(), AllocError>
         ensures ok { OnOk result (self.new ≡ joined_rows self.old other.now) }
         ensures err { OnErr result (self.new ≡ self.old) }
@@ -95,7 +97,8 @@ impl Rows {
         Ok(Rows { table })
     }
 
-    /// Whether one of these observers has the subject in its row. Takes no memory.
+    /// Whether one of these observers has the subject in its row (Akka's Cluster Specification, "Failure Detector": one
+    /// observer is enough for a member to be unreachable). Takes no memory.
     pub fn reported(&self, observers: &Uniques, subject: &Unique) -> bool
         ensures value { result ≡ reported self.now observers.now subject.now }
         ensures meaning { IsTrue result ↔ IsReported self.now observers.now subject.now }

@@ -1,109 +1,81 @@
-ghost use Rattle.std.specs.Prelude.{◌≤◌};
-
 use crate::rows::Rows;
-use ak_address::{Address, Text, Unique, Uniques};
-use std::alloc::{AllocError, Global};
+use ak_address::{Unique, Uniques, parse_unique};
+use std::alloc::Global;
 use std::test::Fail;
 
-fn process(alloc: Global, uid: u32) -> Result<Unique, AllocError>
-    requires { 1 ≤ uid }
-{
-    let host = Text::from_bytes(alloc, b"a")?;
-    let address = Address { host, port: 1 };
-    let uid = u64::from(uid);
-    Ok(Unique { address, uid })
-}
+// The row of an observer: its number, and its one subject.
+type Line = (&'static str, u64, &'static str);
 
-fn set_of(alloc: Global, uids: &[u32]) -> Result<Uniques, AllocError> {
+fn set_of(alloc: Global, texts: &[&str]) -> Result<Uniques, Fail> {
     let mut set = Uniques::empty(alloc);
-    for &uid in uids {
-        if uid >= 1 {
-            let who = process(alloc, uid)?;
-            set.insert(alloc, &who)?;
-        }
+    for text in texts {
+        set.insert(alloc, &parse_unique(alloc, text.as_bytes())?)?;
     }
     Ok(set)
 }
 
-// The row of the observer with this uid, of this number and this one subject.
-fn set_row(
-    alloc: Global,
-    rows: &mut Rows,
-    observer: u32,
-    number: u64,
-    subject: u32,
-) -> Result<(), AllocError> {
-    if observer >= 1 {
-        let who = process(alloc, observer)?;
-        let subjects = set_of(alloc, &[subject])?;
-        rows.set_row(alloc, &who, number, &subjects)?;
-    }
-    Ok(())
-}
-
-// Rows of an observer, a number and one subject each, set from the left.
-fn rows_of(alloc: Global, list: &[(u32, u64, u32)]) -> Result<Rows, AllocError> {
+// The rows of these lines, set from the left.
+fn rows_of(alloc: Global, lines: &[Line]) -> Result<Rows, Fail> {
     let mut rows = Rows::empty(alloc);
-    for &(observer, number, subject) in list {
-        set_row(alloc, &mut rows, observer, number, subject)?;
+    for &(observer, number, subject) in lines {
+        let observer = parse_unique(alloc, observer.as_bytes())?;
+        rows.set_row(alloc, &observer, number, &set_of(alloc, &[subject])?)?;
     }
     Ok(rows)
 }
 
-fn uid(set: &Uniques, place: usize) -> u64 {
-    match set.at(place) {
-        Some(who) => who.uid,
+// The first letter of a process.
+fn letter(who: Option<&Unique>) -> u8 {
+    match who {
+        Some(who) => who.address.host.bytes().first().copied().unwrap_or(0),
         None => 0,
     }
 }
 
 // The observer, the number and the first subject at a place, zeros past the end.
-fn row(rows: &Rows, place: usize) -> (u64, u64, u64) {
+fn row(rows: &Rows, place: usize) -> (u8, u64, u8) {
     match rows.at(place) {
-        Some((observer, row)) => (observer.uid, row.number, uid(&row.subjects, 0)),
+        Some((observer, row)) => (
+            letter(Some(observer)),
+            row.number,
+            letter(row.subjects.at(0)),
+        ),
         None => (0, 0, 0),
     }
 }
 
-fn merged(
-    alloc: Global,
-    left: &[(u32, u64, u32)],
-    right: &[(u32, u64, u32)],
-) -> Result<Rows, AllocError> {
-    let left = rows_of(alloc, left)?;
-    let right = rows_of(alloc, right)?;
-    let mut both = left.copy(alloc)?;
-    both.merge(alloc, &right)?;
+fn merged(alloc: Global, left: &[Line], right: &[Line]) -> Result<Rows, Fail> {
+    let mut both = rows_of(alloc, left)?.copy(alloc)?;
+    both.merge(alloc, &rows_of(alloc, right)?)?;
     Ok(both)
 }
 
-// Whether one of the observers has the subject in its row: 1 has 3 in it, and 2 has 4.
-fn reported(alloc: Global, observers: &[u32], subject: u32) -> Result<bool, AllocError> {
-    let rows = rows_of(alloc, &[(1, 1, 3), (2, 1, 4)])?;
+// Whether one of the observers has the subject in its row: a has c in it, and b has d.
+fn reported(alloc: Global, observers: &[&str], subject: &str) -> Result<bool, Fail> {
+    let rows = rows_of(alloc, &[("a:1#1", 1, "c:1#1"), ("b:1#1", 1, "d:1#1")])?;
     let observers = set_of(alloc, observers)?;
-    if subject >= 1 {
-        let subject = process(alloc, subject)?;
-        return Ok(rows.reported(&observers, &subject));
-    }
-    Ok(false)
+    let subject = parse_unique(alloc, subject.as_bytes())?;
+    Ok(rows.reported(&observers, &subject))
 }
 
-fn unreachable(alloc: Global, observers: &[u32], subjects: &[u32]) -> Result<Uniques, AllocError> {
-    let rows = rows_of(alloc, &[(1, 1, 3), (2, 1, 4)])?;
+fn unreachable(alloc: Global, observers: &[&str], subjects: &[&str]) -> Result<Uniques, Fail> {
+    let rows = rows_of(alloc, &[("a:1#1", 1, "c:1#1"), ("b:1#1", 1, "d:1#1")])?;
     let observers = set_of(alloc, observers)?;
     let subjects = set_of(alloc, subjects)?;
-    rows.unreachable(alloc, &observers, &subjects)
+    Ok(rows.unreachable(alloc, &observers, &subjects)?)
 }
 
 #[test]
 fn the_greater_number_stays(rt: HostRuntime) -> Result<(), Fail> {
-    let cases = [
-        ((1, 2, 3), (1, 1, 4), (1, 2, 3)),
-        ((1, 2, 3), (1, 2, 4), (1, 2, 3)),
-        ((1, 2, 3), (1, 5, 4), (1, 5, 4)),
-    ];
-    for (first, second, wanted) in cases {
-        let rows = rows_of(rt.alloc(), &[first, second])?;
+    for (number, wanted) in [
+        (1, (b'a', 2, b'c')),
+        (2, (b'a', 2, b'c')),
+        (5, (b'a', 5, b'd')),
+    ] {
+        let rows = rows_of(
+            rt.alloc(),
+            &[("a:1#1", 2, "c:1#1"), ("a:1#1", number, "d:1#1")],
+        )?;
         assert_eq!(rt; [row(&rows, 0), row(&rows, 1)], [wanted, (0, 0, 0)]);
     }
     Ok(())
@@ -111,25 +83,28 @@ fn the_greater_number_stays(rt: HostRuntime) -> Result<(), Fail> {
 
 #[test]
 fn rows_are_merged(rt: HostRuntime) -> Result<(), Fail> {
-    let left = [(1, 2, 3), (2, 4, 9)];
-    let right = [(1, 3, 4)];
-    let both = merged(rt.alloc(), &left, &right)?;
-    assert_eq!(rt; [row(&both, 0), row(&both, 1)], [(1, 3, 4), (2, 4, 9)]);
-    let swapped = merged(rt.alloc(), &right, &left)?;
-    assert_eq!(rt;
-        [row(&swapped, 0), row(&swapped, 1)],
-        [(1, 3, 4), (2, 4, 9)]
-    );
+    let left = [("a:1#1", 2, "c:1#1"), ("b:1#1", 4, "e:1#1")];
+    let right = [("a:1#1", 3, "d:1#1")];
+    for both in [
+        merged(rt.alloc(), &left, &right)?,
+        merged(rt.alloc(), &right, &left)?,
+    ] {
+        assert_eq!(rt;
+            [row(&both, 0), row(&both, 1)],
+            [(b'a', 3, b'd'), (b'b', 4, b'e')]
+        );
+    }
     Ok(())
 }
 
 #[test]
 fn one_observer_is_enough(rt: HostRuntime) -> Result<(), Fail> {
-    assert!(rt; reported(rt.alloc(), &[1, 2, 5], 3)?);
-    assert!(rt; reported(rt.alloc(), &[1, 2, 5], 4)?);
-    assert!(rt; !reported(rt.alloc(), &[1, 5], 4)?);
-    assert!(rt; !reported(rt.alloc(), &[1, 2, 5], 6)?);
-    let them = unreachable(rt.alloc(), &[1], &[3, 4, 5])?;
-    assert_eq!(rt; [uid(&them, 0), uid(&them, 1)], [3, 0]);
+    let observers = ["a:1#1", "b:1#1", "e:1#1"];
+    for (subject, wanted) in [("c:1#1", true), ("d:1#1", true), ("f:1#1", false)] {
+        assert_eq!(rt; reported(rt.alloc(), &observers, subject)?, wanted);
+    }
+    assert!(rt; !reported(rt.alloc(), &["a:1#1", "e:1#1"], "d:1#1")?);
+    let them = unreachable(rt.alloc(), &["a:1#1"], &["c:1#1", "d:1#1", "e:1#1"])?;
+    assert_eq!(rt; [letter(them.at(0)), letter(them.at(1))], [b'c', 0]);
     Ok(())
 }

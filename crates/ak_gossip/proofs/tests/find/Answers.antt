@@ -13,6 +13,6 @@ update-requires c =
     found_may c.args.author.now c.args.who.now c.insert.new.self c.push.new.self c.args.gossip.now
     (c.in_ok-push.ensures.ok ∙ ap (λ l. l ++ Observed c.insert.new.self ∷ []) c.empty-effects.ensures)
     (c.in_ok-insert.ensures.ok ∙ ap (λ s. with_one s c.args.who.now) c.empty-subjects.ensures)
-    c.uniques.ensures.whole (omega (arith, counted, c.if-count-lt-BOUND.true))
+    c.invariant.ensures (omega (arith, counted, c.if-count-lt-BOUND.true))
     (found_there _ c.get.result _ (c.get.ensures ∙ ap (λ s. member_of (map.get s c.args.author.now)) c.members.ensures) c.if-is_none.ensures)
     (found_there _ c.get-else-is_none.result _ (c.get-else-is_none.ensures ∙ ap (λ s. member_of (map.get s c.args.who.now)) c.members-else-is_none.ensures) c.if-is_none-2.ensures)

@@ -1,5 +1,4 @@
 use Rattle.std.proofs.Common.{◌≡◌, sym, ap, ◌∙◌, subst}
-use Rattle.ak_clock.specs.Version.{IsVersion}
 use Rattle.ak_gossip.specs.Gossip.{GossipState, IsGossip}
 use Rattle.ak_gossip.specs.Parts.{parts_of}
 use Rattle.ak_gossip.proofs.Kept.{parts_kept}
@@ -20,7 +19,5 @@ returns c =
     let parts : parts_of made ≡ c.args.parts.now = ap parts_of is ∙ parts_back c.args.parts.now c.requires in
     record {
       parts = parts;
-      back = λ g p v same.
-          one_gossip made g (subst IsGossip (sym is) (made_is_gossip c.args.parts.now c.requires)) p
-          (subst IsVersion c.version.view_is c.version.invariant) v (parts ∙ sym same);
+      back = λ g p same. one_gossip made g (subst IsGossip (sym is) (made_is_gossip c.args.parts.now c.requires)) p (parts ∙ sym same);
     }
