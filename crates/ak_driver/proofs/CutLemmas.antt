@@ -11,10 +11,10 @@ use Rattle.ak_schedule.proofs.Cutting.{begun_more}
 use Rattle.ak_driver.specs.InputWords.{IsPast}
 use Rattle.ak_driver.specs.declared.replay.Code.{Code}
 use Rattle.ak_driver.specs.declared.replay.Code.TheVariants.{Malformed, BadHeader, Unlisted, UniqueUsed, AddressInUse, SecondFound, UnknownNode, NoPacket, TooManyStarts, PastLimit, NotBuilt}
-use Rattle.ak_driver.specs.declared.world.Refused.{Refused}
+use Rattle.ak_world.specs.declared.world.Refused.{Refused}
 use Rattle.ak_driver.specs.ReplayText.{Progress, Judgement, Judged, GoesOn, Replays, GoesOnPrinting, FirstSteps, IsReplay, IsFirstSteps, WantsHeader, WantsEvent, SetsNext, IsInvalid, most_lines, header_count, at_start}
 use Rattle.ak_driver.specs.ReplayText.Judgement.{Passes, Sets, Steps, Refuses}
-use Rattle.ak_driver.proofs.NodeLemmas.{not_none}
+use Rattle.ak_node.proofs.NodeLemmas.{not_none}
 
 -- ---- the parts of two texts, one behind the other
 abbrev pub parts_of : List ℕ → List (List ℕ)

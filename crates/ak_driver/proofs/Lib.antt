@@ -1,15 +1,10 @@
 pub mod Completeness
 pub mod CutLemmas
-pub mod FoldLemmas
-pub mod FoldRuns
 pub mod InputLemmas
-pub mod NodeLemmas
 pub mod OneReplay
 pub mod PromiseLemmas
 pub mod ReplayLemmas
 pub mod ReplayLoop
 pub mod SomeReplay
 pub mod StatusLemmas
-pub mod TextLemmas
 pub mod WorkedTexts
-pub mod WorldLemmas

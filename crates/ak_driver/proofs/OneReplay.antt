@@ -8,11 +8,11 @@ use Rattle.ak_schedule.specs.Schedule.{headers, SetsHeader, SpellsEvent}
 use Rattle.ak_schedule.proofs.OneWay.{one_event, one_setup}
 use Rattle.ak_driver.specs.declared.replay.Code.{Code}
 use Rattle.ak_driver.specs.declared.replay.Code.TheVariants.{Malformed, BadHeader, Unlisted, UniqueUsed, AddressInUse, SecondFound, UnknownNode, NoPacket, TooManyStarts, PastLimit, NotBuilt}
-use Rattle.ak_driver.specs.declared.world.Refused.{Refused}
-use Rattle.ak_driver.specs.declared.world.Refused as world
-use Rattle.ak_driver.specs.StepText.{step_text}
-use Rattle.ak_driver.specs.World.{Done, happens}
-use Rattle.ak_driver.proofs.NodeLemmas.{not_none}
+use Rattle.ak_world.specs.declared.world.Refused.{Refused}
+use Rattle.ak_world.specs.declared.world.Refused as world
+use Rattle.ak_world.specs.StepText.{step_text}
+use Rattle.ak_world.specs.World.{Done, happens}
+use Rattle.ak_node.proofs.NodeLemmas.{not_none}
 use Rattle.ak_driver.specs.ReplayText.{Progress, Judgement, Passes, Sets, Steps, Refuses, Judged, WantsHeader, WantsEvent, SetsNext, IsNoHeader, IsInvalid, IsNoEvent, IsPastEvents, GoesOn, Ends, Replays, IsReplay, at_start, most_lines, most_events}
 
 -- ---- what a line is, of which a judgement is told

@@ -6,17 +6,17 @@ use Rattle.ak_schedule.specs.Draft.{Drafted, ReadsHeader}
 use Rattle.ak_schedule.specs.Line.{IsPassedOver}
 use Rattle.ak_schedule.specs.Settings.{Setup}
 use Rattle.ak_schedule.specs.Schedule.{headers, SetsHeader}
-use Rattle.ak_driver.specs.declared.world.Refused.{Refused as Reason}
-use Rattle.ak_driver.specs.declared.world.Refused as refused
+use Rattle.ak_world.specs.declared.world.Refused.{Refused as Reason}
+use Rattle.ak_world.specs.declared.world.Refused as refused
 use Rattle.ak_driver.specs.declared.replay.Code.{Code}
 use Rattle.ak_driver.specs.declared.replay.Code.TheVariants.{Malformed, BadHeader, Unlisted, UniqueUsed, AddressInUse, SecondFound, UnknownNode, NoPacket, TooManyStarts, PastLimit, NotBuilt}
 use Rattle.ak_driver.specs.declared.replay.Stop.{Stop}
 use Rattle.ak_driver.specs.declared.replay.Stop.TheVariants.{Refused, NoMemory}
 use Rattle.ak_driver.specs.declared.replay.Stage.{Stage}
 use Rattle.ak_driver.specs.declared.replay.Stage.TheVariants.{Heading, Running}
-use Rattle.ak_driver.specs.StepText.{step_text}
-use Rattle.ak_driver.specs.World.{empty_world}
-use Rattle.ak_driver.specs.WorldWords.{Chronicle}
+use Rattle.ak_world.specs.StepText.{step_text}
+use Rattle.ak_world.specs.World.{empty_world}
+use Rattle.ak_world.specs.WorldWords.{Chronicle}
 use Rattle.ak_driver.specs.ReplayText.{Progress, Judged, Sets, Steps, Refuses, WantsEvent, IsInvalid, IsRefused}
 use Rattle.ak_driver.specs.ReplayWords.{stop_of, progress, IsReady, Turns, TurnAnswers, HeadingAnswers, Declines, RunningAnswers}
 

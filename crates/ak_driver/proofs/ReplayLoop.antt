@@ -16,7 +16,7 @@ use Rattle.ak_driver.specs.declared.replay.Stage.TheVariants.{Heading, Running}
 use Rattle.ak_driver.specs.declared.replay.Stop.{Stop}
 use Rattle.ak_driver.specs.declared.replay.Stop.TheVariants.{Refused, NoMemory}
 use Rattle.ak_driver.specs.StatusWords.{Written, memory_line}
-use Rattle.ak_driver.specs.StepText.{summary_text}
+use Rattle.ak_world.specs.StepText.{summary_text}
 use Rattle.ak_driver.specs.ReplayText.{Progress, Judgement, Passes, Sets, Steps, Refuses, GoesOn, GoesOnPrinting, Replays, IsReplay, FirstSteps, IsFirstSteps, at_start, refusal_text}
 use Rattle.ak_driver.specs.ReplayPromise.{Prints}
 use Rattle.ak_driver.specs.ReplayWords.{progress, progress_of, Brings, Turns, TurnAnswers, FinishAnswers, Ended}

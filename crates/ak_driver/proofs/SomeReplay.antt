@@ -7,15 +7,15 @@ use Rattle.ak_schedule.specs.Line.{lines, IsPassedOver}
 use Rattle.ak_schedule.specs.Settings.{Setup}
 use Rattle.ak_schedule.specs.Schedule.{headers, SetsHeader, SpellsEvent}
 use Rattle.ak_driver.specs.declared.replay.Code.TheVariants.{Malformed, BadHeader, Unlisted, UniqueUsed, AddressInUse, SecondFound, UnknownNode, NoPacket, TooManyStarts, PastLimit, NotBuilt}
-use Rattle.ak_driver.specs.declared.node.NodeEvent.{NodeEvent}
-use Rattle.ak_driver.specs.declared.node.NodeEvent as event
-use Rattle.ak_driver.specs.declared.wire.Envelope.{Envelope}
-use Rattle.ak_driver.specs.declared.node.State.{State}
-use Rattle.ak_driver.specs.declared.world.Refused.{Refused}
-use Rattle.ak_driver.specs.declared.world.Refused as world
-use Rattle.ak_driver.specs.StepText.{step_text, summary_text}
-use Rattle.ak_driver.specs.Node.{is_listed}
-use Rattle.ak_driver.specs.World.{WorldState, Done, node_of, gives, acts, arrives, delivers, happens}
+use Rattle.ak_node.specs.declared.node.NodeEvent.{NodeEvent}
+use Rattle.ak_node.specs.declared.node.NodeEvent as event
+use Rattle.ak_wire.specs.declared.envelope.Envelope.{Envelope}
+use Rattle.ak_node.specs.declared.node.State.{State}
+use Rattle.ak_world.specs.declared.world.Refused.{Refused}
+use Rattle.ak_world.specs.declared.world.Refused as world
+use Rattle.ak_world.specs.StepText.{step_text, summary_text}
+use Rattle.ak_node.specs.Node.{is_listed}
+use Rattle.ak_world.specs.World.{WorldState, Done, node_of, gives, acts, arrives, delivers, happens}
 use Rattle.ak_driver.specs.ReplayText.{Progress, Judgement, Passes, Sets, Steps, Refuses, Judged, WantsHeader, WantsEvent, SetsNext, GoesOn, Ends, Replays, IsReplay, at_start, refusal_text, most_lines, most_events, header_count}
 use Rattle.ak_schedule.proofs.Deciding.{Tells, Finds, at_most, below, passed_over, set_header, spelled_event}
 

@@ -28,14 +28,15 @@ use Rattle.ak_member.specs.declared.standing.Standing.TheVariants.{Member}
 use Rattle.ak_member.specs.declared.status.Status.TheVariants.{Joining}
 use Rattle.ak_member.specs.Standing.{nobody, joined_standing, member_rows, tombstone_rows}
 use Rattle.ak_member.specs.View.{View}
-use Rattle.ak_driver.specs.declared.node.State.{State}
-use Rattle.ak_driver.specs.declared.node.Action.{Action}
-use Rattle.ak_driver.specs.declared.node.Action as action
-use Rattle.ak_driver.specs.declared.node.NodeEvent as event
+use Rattle.ak_node.specs.declared.node.State.{State}
+use Rattle.ak_wire.specs.declared.action.Action.{Action}
+use Rattle.ak_wire.specs.declared.action.Action as action
+use Rattle.ak_node.specs.declared.node.NodeEvent as event
 use Rattle.ak_gossip.specs.Gossip.{GossipState}
-use Rattle.ak_driver.specs.Node.{Outcome, started, nothing, update, closed, step, is_same, is_other}
-use Rattle.ak_driver.specs.StepText.{step_text, listed_text, count_text, member_text, tombstone_text, view_text, item}
-use Rattle.ak_driver.specs.World.{WorldState, Done, empty_world, happens, stepped}
+use Rattle.ak_node.specs.Node.{Outcome, started, nothing, update, closed, step, is_same, is_other}
+use Rattle.ak_world.specs.StepText.{step_text}
+use Rattle.ak_report.specs.ActionText.{listed_text, count_text, member_text, tombstone_text, view_text, item}
+use Rattle.ak_world.specs.World.{WorldState, Done, empty_world, happens, stepped}
 use Rattle.ak_driver.specs.ReplayText.{Progress, Judgement, Judged, GoesOn, Replays, at_start, IsReplay, most_lines, most_events}
 use Rattle.ak_driver.specs.ReplayText as replay
 use Rattle.ak_driver.specs.Worked.{text_of, and_limits, empty_schedule, empty_text, founding_schedule, founding_text}

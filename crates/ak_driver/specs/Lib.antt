@@ -1,12 +1,6 @@
-pub mod Fold
 pub mod InputWords
-pub mod Node
-pub mod NodeWords
 pub mod ReplayPromise
 pub mod ReplayText
 pub mod ReplayWords
 pub mod StatusWords
-pub mod StepText
 pub mod Worked
-pub mod World
-pub mod WorldWords

@@ -7,12 +7,12 @@ use Rattle.ak_schedule.specs.Settings.{Setup}
 use Rattle.ak_schedule.specs.Schedule.{headers, SetsHeader, SpellsEvent}
 use Rattle.ak_schedule.specs.Draft.{first_draft}
 use Rattle.ak_schedule.specs.declared.event.Event.{Event}
-use Rattle.ak_driver.specs.declared.world.Refused.{Refused}
-use Rattle.ak_driver.specs.declared.world.Refused as world
+use Rattle.ak_world.specs.declared.world.Refused.{Refused}
+use Rattle.ak_world.specs.declared.world.Refused as world
 use Rattle.ak_driver.specs.declared.replay.Code.{Code}
 use Rattle.ak_driver.specs.declared.replay.Code.TheVariants.{Malformed, BadHeader, Unlisted, UniqueUsed, AddressInUse, SecondFound, UnknownNode, NoPacket, TooManyStarts, PastLimit, NotBuilt}
-use Rattle.ak_driver.specs.World.{WorldState, Done, empty_world, happens}
-use Rattle.ak_driver.specs.StepText.{step_text, summary_text}
+use Rattle.ak_world.specs.World.{WorldState, Done, empty_world, happens}
+use Rattle.ak_world.specs.StepText.{step_text, summary_text}
 
 -- a schedule may have this many lines, and events
 abbrev pub most_lines : ℕ

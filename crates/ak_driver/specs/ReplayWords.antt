@@ -3,21 +3,21 @@ use Rattle.std.specs.Prelude.{◌≡◌, ℕ, ◌+◌, ◌<◌, ◌≤◌, ◌�
 use Rattle.ak_schedule.specs.Draft.{Drafted, ReadsHeader}
 use Rattle.ak_schedule.specs.Schedule.{SpellsEvent}
 use Rattle.ak_schedule.specs.declared.event.Event.{Event}
-use Rattle.ak_driver.specs.declared.world.Refused as refused
+use Rattle.ak_world.specs.declared.world.Refused as refused
 use Rattle.ak_driver.specs.declared.replay.Code.{Code}
 use Rattle.ak_driver.specs.declared.replay.Code.TheVariants.{Malformed, BadHeader, Unlisted, UniqueUsed, AddressInUse, SecondFound, UnknownNode, NoPacket, TooManyStarts, PastLimit, NotBuilt}
 use Rattle.ak_driver.specs.declared.replay.Stop.{Stop}
 use Rattle.ak_driver.specs.declared.replay.Stop.TheVariants.{Refused, NoMemory}
 use Rattle.ak_driver.specs.declared.replay.Stage.{Stage}
 use Rattle.ak_driver.specs.declared.replay.Stage.TheVariants.{Heading, Running}
-use Rattle.ak_driver.specs.World.{Done, empty_world, happens}
-use Rattle.ak_driver.specs.WorldWords.{Chronicle}
+use Rattle.ak_world.specs.World.{Done, empty_world, happens}
+use Rattle.ak_world.specs.WorldWords.{Chronicle}
 use Rattle.ak_driver.specs.declared.replay.Replay.{Replay}
 use Rattle.ak_outside.specs.declared.status.Status.{Status}
 use Rattle.ak_outside.specs.declared.status.Status as status
 use Rattle.ak_driver.specs.ReplayText.{Progress, Judgement, Passes, Sets, Steps, Refuses, Judged, header_count, refusal_text}
 use Rattle.ak_driver.specs.StatusWords.{Written, memory_line}
-use Rattle.ak_driver.specs.StepText.{step_text, summary_text}
+use Rattle.ak_world.specs.StepText.{step_text, summary_text}
 
 -- why the world takes no event ends a replay so
 abbrev pub stop_of : refused.Refused → Stop

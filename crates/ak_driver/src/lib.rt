@@ -2,14 +2,9 @@
 #![tactic(auto)]
 
 mod input;
-mod laws;
-pub mod node;
 mod replay;
 mod replay_laws;
-pub mod report;
-pub mod wire;
 mod worked;
-pub mod world;
 
 ghost use Rattle.std.specs.Prelude.{◌≡◌, ◌≤◌, ◌↔◌, ℕ, List, Some, IfSome, IsTrue, codes};
 ghost use Rattle.ak_outside.specs.Outside.{Rose};
@@ -19,9 +14,6 @@ ghost use Rattle.ak_driver.specs.StatusWords.{AsksReplay, ReplayCause, Written, 
 use ak_address::Text;
 pub use ak_outside::Status;
 use ak_outside::{Sink, Source};
-pub use laws::{
-    equal_versions_have_equal_members, nodes_count_their_own_updates, what_is_known_is_the_fold,
-};
 pub use replay::run_replay;
 use replay::written;
 pub use replay_laws::replays_are_determined;
@@ -80,9 +72,5 @@ pub fn run_without_words<W: Sink>(output: &mut W) -> Status
     written(output, b"error 7 memory\n", Status::Memory)
 }
 
-#[cfg(test)]
-mod fold_tests;
-#[cfg(test)]
-mod report_tests;
 #[cfg(test)]
 mod tests;

@@ -11,11 +11,11 @@ ghost use Rattle.ak_driver.specs.StatusWords.{ReplayCause, Written, memory_line}
 ghost use Rattle.ak_outside.specs.declared.status.Status.TheVariants.{Schedule, Memory};
 
 use crate::input::{MOST_LINES, Unread, read_all};
-use crate::report::print_bytes;
-use crate::world::{Refused, World, print_step, print_summary};
 use ak_address::print_number;
 use ak_outside::{Sink, Source, Status, write_all};
+use ak_report::print_bytes;
 use ak_schedule::{Draft, Event, LineFault, is_passed_over, next_line, read_line};
+use ak_world::{Refused, World, print_step, print_summary};
 use std::alloc::{AllocError, Global};
 use std::mem;
 

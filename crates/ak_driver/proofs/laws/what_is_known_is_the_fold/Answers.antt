@@ -1,5 +1,0 @@
-use Rattle.ak_driver.proofs.FoldRuns.{run_folds}
-use Rattle.ak_driver.proofs.laws.what_is_known_is_the_fold.Goals as goal
-
-pub returns : goal.returns
-returns c = run_folds

@@ -1,5 +1,0 @@
-use Rattle.ak_driver.proofs.NodeLemmas.{nothing_known_is_node}
-use Rattle.ak_driver.proofs.node.Node.start.Goals as goal
-
-pub invariant_of-result : goal.invariant_of-result
-invariant_of-result c = nothing_known_is_node _ c.empty.ensures

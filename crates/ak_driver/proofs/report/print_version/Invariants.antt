@@ -1,8 +1,0 @@
-use Rattle.std.proofs.Common.{◌≡◌, ◌++◌, map, take}
-use Rattle.std.specs.FinMap as finmap
-use Rattle.ak_driver.specs.StepText.{count_text}
-use Rattle.ak_driver.proofs.TextLemmas.{front}
-use Rattle.ak_driver.proofs.report.print_version.Given as goal
-
-abbrev pub invariant-counts : goal.invariant-counts
-invariant-counts l = l.out.items ≡ l.initial.out.items ++ front (map count_text (take l.place (finmap.entries l.version)))

@@ -1,6 +1,0 @@
-use Rattle.std.proofs.Common.{◌≡◌, ◌++◌, take}
-use Rattle.ak_driver.specs.World.{sent}
-use Rattle.ak_driver.proofs.world.keep_packets.Given as goal
-
-abbrev pub invariant-actions : goal.invariant-actions
-invariant-actions l = l.packets.items ≡ l.fn.packets.items ++ sent (take l.action-index l.actions)

@@ -1,0 +1,8 @@
+//! A node of the cluster: a pure machine that is given one event at a time and answers with its actions
+//! (Akka's Cluster Specification, "Membership Lifecycle"; the messages are this project's choice).
+#![tactic(auto)]
+
+mod node;
+
+pub use ak_wire::{Action, Actions};
+pub use node::{Node, NodeEvent, State, is_for};

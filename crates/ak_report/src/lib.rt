@@ -1,0 +1,8 @@
+//! The text of the actions of a step (this project's format).
+#![tactic(auto)]
+
+mod report;
+#[cfg(test)]
+mod report_tests;
+
+pub use report::{print_actions, print_bytes};

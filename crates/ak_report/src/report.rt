@@ -1,0 +1,353 @@
+ghost use Rattle.std.specs.Prelude.{◌≡◌, ℕ, ◌+◌, ◌<◌, ◌^◌, ◌++◌, ◌∷◌, [], map, length, slice_get, option_map, option_to_list, OnOk, OnErr};
+ghost use Rattle.std.specs.FinMap as finmap;
+ghost use Rattle.ak_address.specs.Uniques.{in_order};
+ghost use Rattle.ak_member.specs.Standing.{member_rows, tombstone_rows, members_of, tombstones_of};
+ghost use Rattle.ak_report.specs.ActionText as text;
+ghost use Rattle.ak_wire.specs.Wire.{sent};
+
+use ak_address::{Unique, Uniques, print_number, print_wide_number};
+use ak_clock::Version;
+use ak_gossip::Gossip;
+use ak_member::{Effect, Members, Standing, Status};
+use ak_wire::{Action, Actions, Envelope};
+use std::alloc::{AllocError, Global};
+
+// Each printer below may leave a part of its text where memory ends. What is public prints into a text of its own first.
+
+/// Appends these bytes. An error leaves the text as it was; only memory can fail.
+pub fn print_bytes(bytes: &[u8], out: &mut Vec<u8>) -> Result<(), AllocError>
+    ensures ok { OnOk result (out.new.items ≡ out.old.items ++ bytes.now) }
+    ensures err { OnErr result (out.new.items ≡ out.old.items) }
+{
+    out.extend_from_slice(bytes)
+}
+
+fn print_separator(place: usize, out: &mut Vec<u8>) -> Result<(), AllocError>
+    ensures { OnOk result (out.new.items ≡ out.old.items ++ text.separator place) }
+{
+    if place == 0 {
+        return Ok(());
+    }
+    print_bytes(b", ", out)
+}
+
+// A process and how many of its updates are seen.
+fn print_seen(who: &Unique, count: u64, out: &mut Vec<u8>) -> Result<(), AllocError>
+    ensures { OnOk result (out.new.items ≡ out.old.items ++ text.count_text (who.now, count)) }
+{
+    who.print_into(out)?;
+    print_bytes(b"=", out)?;
+    print_number(count, out)
+}
+
+fn print_version(version: &Version, out: &mut Vec<u8>) -> Result<(), AllocError>
+    ensures { OnOk result (out.new.items ≡ out.old.items ++ text.version_text version.now) }
+{
+    let count = version.len();
+    if count == 0 {
+        return print_bytes(b"-", out);
+    }
+    'counts: for place in 0..count {
+        if let Some((who, count)) = version.at(place) {
+            print_separator(place, out)?;
+            print_seen(who, count, out)?;
+        }
+    }
+    Ok(())
+}
+
+fn status_name(status: Status) -> &'static [u8]
+    ensures { result.now ≡ text.status_name status }
+{
+    match status {
+        Status::Joining => b"joining",
+        Status::Up => b"up",
+        Status::Leaving => b"leaving",
+        Status::Exiting => b"exiting",
+        Status::Down => b"down",
+    }
+}
+
+// A number other than 0, behind what it is of.
+fn print_behind(number: u64, out: &mut Vec<u8>) -> Result<(), AllocError>
+    ensures { OnOk result (out.new.items ≡ out.old.items ++ text.number_text number) }
+{
+    if number == 0 {
+        return Ok(());
+    }
+    print_bytes(b" ", out)?;
+    print_number(number, out)
+}
+
+fn print_member(
+    who: &Unique,
+    status: Status,
+    number: u64,
+    out: &mut Vec<u8>,
+) -> Result<(), AllocError>
+    ensures { OnOk result (out.new.items ≡ out.old.items ++ text.member_text (who.now, (status, number))) }
+{
+    who.print_into(out)?;
+    print_bytes(b" ", out)?;
+    print_bytes(status_name(status), out)?;
+    print_behind(number, out)
+}
+
+fn print_tombstone(who: &Unique, confirmed: bool, out: &mut Vec<u8>) -> Result<(), AllocError>
+    ensures { OnOk result (out.new.items ≡ out.old.items ++ text.tombstone_text (who.now, confirmed)) }
+{
+    who.print_into(out)?;
+    if confirmed {
+        return print_bytes(b" confirmed", out);
+    }
+    Ok(())
+}
+
+// The member at a row, where there is one: a row is a place among all that are known.
+fn member_row(members: &Members, row: usize) -> Option<(&Unique, Status, u64)>
+    ensures { option_to_list (option_map (λ m. (m.0.now, (m.1, m.2))) result) ≡ member_rows (option_to_list (slice_get (finmap.entries members.now) row)) }
+{
+    match members.row(row) {
+        Some((who, Standing::Member(status, number))) => Some((who, status, number)),
+        Some((_, Standing::Buried(_))) => None,
+        None => None,
+    }
+}
+
+// The tombstone at a row, where there is one, and whether it is confirmed.
+fn tombstone_row(members: &Members, row: usize) -> Option<(&Unique, bool)>
+    ensures { option_to_list (option_map (λ t. (t.0.now, t.1)) result) ≡ tombstone_rows (option_to_list (slice_get (finmap.entries members.now) row)) }
+{
+    match members.row(row) {
+        Some((who, Standing::Buried(confirmed))) => Some((who, confirmed)),
+        Some((_, Standing::Member(_, _))) => None,
+        None => None,
+    }
+}
+
+pub(crate) fn print_members(members: &Members, out: &mut Vec<u8>) -> Result<(), AllocError>
+    ensures { OnOk result (out.new.items ≡ out.old.items ++ text.listed_text (map text.member_text (members_of members.now))) }
+{
+    let mut printed = 0;
+    'rows: for row in 0..members.uniques() {
+        if let Some((who, status, number)) = member_row(members, row) {
+            print_separator(printed, out)?;
+            print_member(who, status, number, out)?;
+            printed += 1;
+        }
+    }
+    print_none(printed, out)
+}
+
+pub(crate) fn print_tombstones(members: &Members, out: &mut Vec<u8>) -> Result<(), AllocError>
+    ensures { OnOk result (out.new.items ≡ out.old.items ++ text.listed_text (map text.tombstone_text (tombstones_of members.now))) }
+{
+    let mut printed = 0;
+    'rows: for row in 0..members.uniques() {
+        if let Some((who, confirmed)) = tombstone_row(members, row) {
+            print_separator(printed, out)?;
+            print_tombstone(who, confirmed, out)?;
+            printed += 1;
+        }
+    }
+    print_none(printed, out)
+}
+
+// What stands where nothing was printed.
+fn print_none(printed: usize, out: &mut Vec<u8>) -> Result<(), AllocError>
+    ensures { OnOk result (out.new.items ≡ out.old.items ++ text.none_text printed) }
+{
+    if printed == 0 {
+        return print_bytes(b"-", out);
+    }
+    Ok(())
+}
+
+fn print_view(gossip: &Gossip, out: &mut Vec<u8>) -> Result<(), AllocError>
+    ensures { OnOk result (out.new.items ≡ out.old.items ++ text.view_text gossip.now) }
+{
+    print_bytes(b"view ", out)?;
+    print_version(gossip.version(), out)?;
+    print_bytes(b" | ", out)?;
+    print_members(gossip.members(), out)?;
+    print_bytes(b" | ", out)?;
+    print_tombstones(gossip.members(), out)
+}
+
+// Each process after a space.
+fn print_spaced(who: &Uniques, out: &mut Vec<u8>) -> Result<(), AllocError>
+    ensures { OnOk result (out.new.items ≡ out.old.items ++ text.spaced_text (in_order who.now)) }
+{
+    'processes: for place in 0..who.len() {
+        if let Some(one) = who.at(place) {
+            print_bytes(b" ", out)?;
+            one.print_into(out)?;
+        }
+    }
+    Ok(())
+}
+
+fn print_subjects(subjects: &Uniques, out: &mut Vec<u8>) -> Result<(), AllocError>
+    ensures { OnOk result (out.new.items ≡ out.old.items ++ text.subjects_text (in_order subjects.now)) }
+{
+    if subjects.len() == 0 {
+        return print_bytes(b" none", out);
+    }
+    print_spaced(subjects, out)
+}
+
+fn print_rise(
+    who: &Unique,
+    status: Status,
+    number: u64,
+    out: &mut Vec<u8>,
+) -> Result<(), AllocError>
+    ensures { OnOk result (out.new.items ≡ out.old.items ++ text.effect_text (Effect.Rise who.now status number)) }
+{
+    print_bytes(status_name(status), out)?;
+    print_bytes(b" ", out)?;
+    who.print_into(out)?;
+    print_behind(number, out)
+}
+
+fn print_removed(who: &Unique, confirmed: bool, out: &mut Vec<u8>) -> Result<(), AllocError>
+    ensures { OnOk result (out.new.items ≡ out.old.items ++ text.effect_text (Effect.Removed who.now confirmed)) }
+{
+    if confirmed {
+        print_bytes(b"removed-confirmed ", out)?;
+        return who.print_into(out);
+    }
+    print_bytes(b"removed ", out)?;
+    who.print_into(out)
+}
+
+fn print_effect(effect: &Effect, out: &mut Vec<u8>) -> Result<(), AllocError>
+    ensures { OnOk result (out.new.items ≡ out.old.items ++ text.effect_text effect.now) }
+{
+    match effect {
+        Effect::Joined(who) => {
+            print_bytes(b"joined ", out)?;
+            who.print_into(out)
+        }
+        Effect::Rise(who, status, number) => print_rise(who, *status, *number, out),
+        Effect::Removed(who, confirmed) => print_removed(who, *confirmed, out),
+        Effect::Observed(subjects) => {
+            print_bytes(b"observed", out)?;
+            print_subjects(subjects, out)
+        }
+    }
+}
+
+pub(crate) fn print_effects(effects: &[Effect], out: &mut Vec<u8>) -> Result<(), AllocError>
+    ensures { OnOk result (out.new.items ≡ out.old.items ++ text.listed_text (map text.effect_text effects.now)) }
+{
+    if effects.len() == 0 {
+        return print_bytes(b"-", out);
+    }
+    'effects: for (place, effect) in effects.iter().enumerate() {
+        print_separator(place, out)?;
+        print_effect(effect, out)?;
+    }
+    Ok(())
+}
+
+fn print_receiver(envelope: &Envelope, out: &mut Vec<u8>) -> Result<(), AllocError>
+    ensures { OnOk result (out.new.items ≡ out.old.items ++ text.receiver_text envelope.now) }
+{
+    envelope.to.print_into(out)?;
+    if envelope.uid == 0 {
+        return Ok(());
+    }
+    print_bytes(b"#", out)?;
+    print_number(envelope.uid, out)
+}
+
+fn print_send(number: u128, envelope: &Envelope, out: &mut Vec<u8>) -> Result<(), AllocError>
+    ensures { OnOk result (out.new.items ≡ out.old.items ++ text.send_text number envelope.now) }
+{
+    print_bytes(b"send ", out)?;
+    print_wide_number(number, out)?;
+    print_bytes(b" ", out)?;
+    print_bytes(envelope.message.kind(), out)?;
+    print_bytes(b" to ", out)?;
+    print_receiver(envelope, out)
+}
+
+// What an action prints, with the number of the packet that it may send.
+fn print_action(
+    gossip: &Gossip,
+    number: u128,
+    action: &Action,
+    out: &mut Vec<u8>,
+) -> Result<(), AllocError>
+    ensures { OnOk result (out.new.items ≡ out.old.items ++ text.action_text gossip.now number action.now) }
+{
+    match action {
+        Action::Send(envelope) => print_send(number, envelope, out),
+        Action::Update(update, effects) => {
+            print_bytes(b"update ", out)?;
+            print_number(*update, out)?;
+            print_bytes(b" ", out)?;
+            print_effects(effects.as_slice(), out)
+        }
+        Action::View => print_view(gossip, out),
+        Action::Refused(why) => {
+            print_bytes(b"refused N", out)?;
+            print_number(u64::from(*why), out)
+        }
+        Action::Dead => print_bytes(b"dead", out),
+    }
+}
+
+// The number of the packet after an action.
+fn next_packet(action: &Action, number: u128) -> u128
+    requires { number + length (sent (action.now ∷ [])) < 2 ^ 128 }
+    ensures { result ≡ text.next_packet action.now number }
+{
+    match action {
+        Action::Send(_) => number + 1,
+        _ => number,
+    }
+}
+
+// An item for each action, each on a line after two spaces.
+fn print_items(
+    gossip: &Gossip,
+    first_packet: u128,
+    actions: &[Action],
+    out: &mut Vec<u8>,
+) -> Result<(), AllocError>
+    requires { first_packet + length (sent actions.now) < 2 ^ 128 }
+    ensures { OnOk result (out.new.items ≡ out.old.items ++ text.actions_text gossip.now first_packet actions.now) }
+{
+    let mut number = first_packet;
+    'actions: for action in actions {
+        print_bytes(b"  ", out)?;
+        print_action(gossip, number, action, out)?;
+        print_bytes(b"\n", out)?;
+        number = next_packet(action, number);
+    }
+    Ok(())
+}
+
+// So many bytes are set aside for an item; most have fewer.
+const ITEM_BYTES: usize = 64;
+
+/// Appends the items of actions, each on a line after two spaces. The gossip is the acting node's after the step, and
+/// the packets that are sent are numbered from `first_packet` on. An error leaves the text as it was; only memory can
+/// fail.
+pub fn print_actions(
+    alloc: Global,
+    gossip: &Gossip,
+    first_packet: u128,
+    actions: &Actions,
+    out: &mut Vec<u8>,
+) -> Result<(), AllocError>
+    requires { first_packet < 2 ^ 127 }
+    ensures ok { OnOk result (out.new.items ≡ out.old.items ++ text.actions_text gossip.now first_packet actions.now) }
+    ensures err { OnErr result (out.new.items ≡ out.old.items) }
+{
+    let mut items = Vec::with_capacity(alloc, actions.len().saturating_mul(ITEM_BYTES))?;
+    print_items(gossip, first_packet, actions.as_slice(), &mut items)?;
+    print_bytes(&items, out)
+}

@@ -1,0 +1,85 @@
+ghost use Rattle.std.specs.Prelude.{◌≡◌, [], ◌∷◌, ◌++◌, length, slice_get, OnOk, OnErr};
+ghost use Rattle.std.specs.Option.{option_copied};
+
+use crate::envelope::Envelope;
+use ak_member::Effects;
+use std::alloc::{AllocError, Global};
+use std::marker::Model;
+
+/// What a node does in a step.
+#[derive(Drop)]
+pub enum Action {
+    /// It sends a packet.
+    Send(Envelope),
+    /// It makes an update: the number of it among the node's own, and its effects.
+    Update(u64, Effects),
+    /// What it knows has another version than before the step.
+    View,
+    /// It refuses what it was asked, by the number of the reason: 3 it is no member, 4 the address is not
+    /// listed, 5 a gossip counts more of its updates than it made, 6 there would be too many uniques.
+    Refused(u8),
+    /// The packet is not for it.
+    Dead,
+}
+
+/// The actions of a step, in order.
+#[derive(Drop)]
+pub struct Actions {
+    list: Vec<Action>,
+}
+
+impl Model for Actions {
+    ghost use Rattle.std.specs.Prelude.{List};
+    ghost use Rattle.ak_wire.specs.declared.action.Action.{Action};
+    ghost use Rattle.std.specs.Coded.{codes};
+    ghost use Rattle.ak_address.specs.Unique.{coded_address, coded_unique};
+    ghost use Rattle.ak_gossip.specs.Gossip.{coded_gossip};
+    ghost use Rattle.ak_member.specs.View.{coded_uniques};
+
+    ghost Value = { List Action };
+
+    ghost coded = { Prim.hlevel (codes, coded_address, coded_unique, coded_uniques, coded_gossip) };
+
+    ghost view = { λ a. a.list.items };
+}
+
+impl Actions {
+    /// No action. Takes no memory.
+    pub fn empty(alloc: Global) -> Actions
+        ensures { result ≡ [] }
+    {
+        Actions {
+            list: Vec::new(alloc),
+        }
+    }
+
+    /// Adds an action at the end. An error leaves the list as it was; only memory can fail.
+    pub fn push(&mut self, action: Action) -> Result<(), AllocError>
+        ensures ok { OnOk result (self.new ≡ self.old ++ action ∷ []) }
+        ensures err { OnErr result (self.new ≡ self.old) }
+    {
+        self.list.push(action)?;
+        Ok(())
+    }
+
+    /// How many actions there are.
+    pub fn len(&self) -> usize
+        ensures { result ≡ length self.now }
+    {
+        self.list.len()
+    }
+
+    /// The action at a place from 0 on, and None past the end.
+    pub fn at(&self, place: usize) -> Option<&Action>
+        ensures { option_copied result ≡ slice_get self.now place }
+    {
+        self.list.get(place)
+    }
+
+    /// The actions, in order.
+    pub fn as_slice(&self) -> &[Action]
+        ensures { result.now ≡ self.now }
+    {
+        &self.list
+    }
+}

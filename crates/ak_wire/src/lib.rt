@@ -1,0 +1,8 @@
+//! What the nodes of a cluster say to each other, and what a node does in a step.
+#![tactic(auto)]
+
+mod action;
+mod envelope;
+
+pub use action::{Action, Actions};
+pub use envelope::{Envelope, Message};

@@ -1,0 +1,4 @@
+pub mod FoldLemmas
+pub mod FoldRuns
+pub mod StepLemmas
+pub mod WorldLemmas

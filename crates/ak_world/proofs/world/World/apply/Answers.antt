@@ -1,0 +1,47 @@
+use Rattle.std.proofs.Common.{◌≡◌, false, ◌<◌, ◌^◌, ◌++◌, ◌∷◌, [], List, length, sym, subst, ap, ◌∙◌, arith}
+use Rattle.std.proofs.lemmas.Grind.{common_steps}
+use Rattle.ak_schedule.specs.declared.event.Event.{Event}
+use Rattle.ak_world.specs.World.{run}
+use Rattle.ak_world.specs.WorldWords.{Chronicle, IsReady, state_of}
+use Rattle.ak_world.proofs.FoldRuns.{folds-of_run, views_at_times}
+use Rattle.ak_world.proofs.WorldLemmas.{ready_run, run-went, at-ok}
+use Rattle.ak_world.proofs.world.World.apply.Goals as goal
+
+pub happens-requires : goal.happens-requires
+happens-requires c =
+    let few : length c.self.inside.accepted.items < 2 ^ 62 =
+    subst (λ (events : List Event). length events < 2 ^ 62) (sym (ap (λ (w : Chronicle). w.events) c.self.view_is)) c.requires in
+    record { ready = subst IsReady (sym (c.self.invariant.is_run c.if-self.false)) (ready_run c.self.inside.scene.settings c.self.inside.accepted.items few) }
+
+pub invariant_of-self : goal.invariant_of-self
+invariant_of-self c =
+    let kept : c.keep_event.new.accepted.items ≡ c.self.inside.accepted.items ++ c.args.event.now ∷ [] =
+    at-ok c.keep_event.result _ (sym c.is_ok.ensures.value ∙ c.if-is_ok.true) c.keep_event.ensures in
+    record {
+      is_run = λ alive.
+          run-went c.self.inside.scene.settings _ _ _ c.self.inside.accepted.items _ c.args.event.now _ (c.self.invariant.is_run c.if-self.false) c.happens.ensures.settings kept c.in-Ok.ensures.scenes;
+    }
+
+pub returns-then-is_ok-clause-run : goal.returns-then-is_ok-clause-run
+returns-then-is_ok-clause-run c =
+    let kept : c.keep_event.new.accepted.items ≡ c.self.inside.accepted.items ++ c.args.event.now ∷ [] =
+    at-ok c.keep_event.result _ (sym c.is_ok.ensures.value ∙ c.if-is_ok.true) c.keep_event.ensures in
+    λ alive.
+    run-went c.self.inside.scene.settings _ _ _ c.self.inside.accepted.items _ c.args.event.now _ (c.self.invariant.is_run c.if-self.false) c.happens.ensures.settings kept c.in-Ok.ensures.scenes
+
+pub returns-then-is_ok-clause-folded : goal.returns-then-is_ok-clause-folded
+returns-then-is_ok-clause-folded c =
+    λ alive g is_in. folds-of_run c.happens.new.self.settings c.keep_event.new.accepted.items (state_of c.happens.new.self) (returns-then-is_ok-clause-run c alive) g is_in
+
+pub returns-in-Err-clause-folded : goal.returns-in-Err-clause-folded
+returns-in-Err-clause-folded c =
+    let is_run : c.self.inside.is_spent ≡ false → state_of c.happens.new.self ≡ run c.happens.new.self.settings c.self.inside.accepted.items = grind (arith, common_steps) in
+    λ alive g is_in. folds-of_run c.happens.new.self.settings c.self.inside.accepted.items (state_of c.happens.new.self) (is_run alive) g is_in
+
+pub returns-then-is_ok-clause-equal : goal.returns-then-is_ok-clause-equal
+returns-then-is_ok-clause-equal c =
+    λ alive. views_at_times c.happens.new.self.settings c.keep_event.new.accepted.items
+
+pub returns-in-Err-clause-equal : goal.returns-in-Err-clause-equal
+returns-in-Err-clause-equal c =
+    λ alive. views_at_times c.happens.new.self.settings c.self.inside.accepted.items

@@ -1,0 +1,4 @@
+pub mod Fold
+pub mod StepText
+pub mod World
+pub mod WorldWords

@@ -1,0 +1,55 @@
+-- What a replay prints of a step, and at its end (this project's format).
+use Rattle.std.specs.Prelude.{ℕ, List, [], ◌∷◌, ◌++◌, length, codes, slice_get, Option, Some, None, option_and_then}
+use Rattle.std.specs.Fmt.{decimal}
+use Rattle.ak_address.specs.Spelling.{unique_text}
+use Rattle.ak_schedule.specs.Schedule.{event_text}
+use Rattle.ak_schedule.specs.declared.event.Event.{Event}
+use Rattle.ak_schedule.specs.declared.event.Event as event
+use Rattle.ak_gossip.specs.Gossip.{GossipState, nothing_known}
+use Rattle.ak_wire.specs.declared.envelope.Envelope.{Envelope}
+use Rattle.ak_wire.specs.Wire.{kind_text}
+use Rattle.ak_report.specs.ActionText.{item, actions_text}
+use Rattle.ak_node.specs.declared.node.State.{State}
+use Rattle.ak_world.specs.World.{WorldState, Done, packet_at}
+
+-- what a delivered packet was, or that it reached nobody
+abbrev pub arrival_text : Option State → Option Envelope → List ℕ
+arrival_text (Some n) (Some e) = item (codes "at " ++ unique_text n.me ++ codes " " ++ kind_text e.message ++ codes " from " ++ unique_text e.from)
+arrival_text (Some n) None = item (codes "dead")
+arrival_text None e = item (codes "dead")
+
+-- a delivery begins with what arrived
+abbrev pub delivery_text : Event → WorldState → Option State → List ℕ
+delivery_text (event.TheVariants.Deliver number) w n = arrival_text n (packet_at w number)
+delivery_text (event.TheVariants.Start u) w n = []
+delivery_text (event.TheVariants.Found u) w n = []
+delivery_text (event.TheVariants.Join u target) w n = []
+delivery_text (event.TheVariants.Tick u word) w n = []
+delivery_text (event.TheVariants.Leave u who) w n = []
+delivery_text (event.TheVariants.Down u who) w n = []
+delivery_text (event.TheVariants.Offer u entity payload) w n = []
+delivery_text (event.TheVariants.Stop u) w n = []
+
+-- what the node knows after the step; a dead delivery shows none
+abbrev pub shown : Option State → GossipState
+shown (Some n) = n.gossip
+shown None = nothing_known
+
+abbrev pub acting : Done → Option State
+acting done = option_and_then (slice_get done.world.nodes) done.node
+
+-- The text of a step: its number and event, what arrived, and an item for each action. The first packet that it may have sent has the number `first`.
+abbrev pub step_text : ℕ → ℕ → Event → Done → List ℕ
+step_text first number event done =
+    decimal number ++ codes " " ++ event_text event ++ 10 ∷ []
+    ++ delivery_text event done.world (acting done)
+    ++ actions_text (shown (acting done)) first done.actions
+
+-- The summary. (A margin that ends and an entity that is active on two nodes come with later rules.)
+abbrev pub summary_text : ℕ → WorldState → List ℕ
+summary_text steps w =
+    codes "steps " ++ decimal steps ++ 10 ∷ []
+    ++ codes "packets " ++ decimal (length w.packets) ++ 10 ∷ []
+    ++ codes "history " ++ decimal (length w.history) ++ 10 ∷ []
+    ++ codes "margin kept" ++ 10 ∷ []
+    ++ codes "doubles none" ++ 10 ∷ []

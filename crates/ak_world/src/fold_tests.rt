@@ -1,0 +1,128 @@
+ghost use Rattle.std.specs.Prelude.{◌≡◌, ◌+◌, ◌<◌, ◌≤◌, length, OnOk, IfOk};
+
+use crate::world::World;
+use ak_gossip::Gossip;
+use ak_history::View;
+use ak_schedule::{Draft, Settings, read_line};
+use ak_wire::Message;
+use std::alloc::{AllocError, Global};
+use std::test::Fail;
+
+const HEADERS: [&str; 9] = [
+    "listed a:1 b:1 c:1 d:1",
+    "strategy static-quorum 3",
+    "margin 2",
+    "deadline 9",
+    "stable 9",
+    "shards 10",
+    "buffer 2",
+    "threshold 1",
+    "limit 1",
+];
+
+fn settings(alloc: Global) -> Result<Settings, Fail> {
+    let mut draft = Draft::new(alloc);
+    'headers: for line in HEADERS {
+        if draft.header(alloc, line.as_bytes())? {
+            return Ok(draft.finish().map_err(|_| "a header is missing")?);
+        }
+    }
+    Err("a header is missing")?
+}
+
+// The members, tombstones and rows of a gossip are those of the view. (Nobody observes yet: there is no row.)
+fn same(view: &View, gossip: &Gossip) -> bool {
+    let one = &view.members;
+    let other = gossip.members();
+    for place in 0..one.uniques() {
+        if let (Some((who, standing)), Some((whose, known))) = (one.row(place), other.row(place)) {
+            if !who.compare(whose).is_eq() || standing != known {
+                return false;
+            }
+        }
+    }
+    one.uniques() == other.uniques() && view.rows.len() == gossip.rows().len()
+}
+
+// What each node knows, and each gossip that was sent, is what its version shows of the history.
+fn folds(alloc: Global, world: &World) -> Result<bool, AllocError> {
+    for number in 0..4 {
+        if let Some(node) = world.node(number) {
+            let view = world.history().view(alloc, node.gossip().version())?;
+            if !same(&view, node.gossip()) {
+                return Ok(false);
+            }
+        }
+    }
+    for number in 1..20 {
+        if let Some(envelope) = world.packet(number) {
+            if let Message::Welcome(gossip) | Message::Gossip(gossip) = &envelope.message {
+                let view = world.history().view(alloc, gossip.version())?;
+                if !same(&view, gossip) {
+                    return Ok(false);
+                }
+            }
+        }
+    }
+    Ok(true)
+}
+
+fn apply_line(alloc: Global, world: &mut World, line: &str) -> Result<(), Fail>
+    requires { length world.old.events < 1000 }
+    ensures { OnOk result (length world.new.events ≡ length world.old.events + 1) }
+{
+    let event = read_line(alloc, line.as_bytes())?;
+    match world.apply(alloc, &event) {
+        Ok(_) => Ok(()),
+        Err(_) => Err("an event was refused")?,
+    }
+}
+
+// How many updates there are after these events, each of which leaves every node with the fold of the history.
+fn updates_after(alloc: Global, lines: &[&str]) -> Result<usize, Fail>
+    requires { length lines.now < 1000 }
+{
+    let mut world = World::new(alloc, settings(alloc)?);
+    'lines: for line in lines {
+        apply_line(alloc, &mut world, *line)?;
+        if !folds(alloc, &world)? {
+            return Err("a node is not at the fold of the history")?;
+        }
+    }
+    Ok(world.history().len())
+}
+
+#[test]
+fn nodes_know_the_fold_of_the_history(rt: HostRuntime) -> Result<(), Fail> {
+    let alloc = rt.alloc();
+    let first_join = [
+        "start a:1#1",
+        "start b:1#1",
+        "found a:1#1",
+        "join b:1#1 a:1",
+        "deliver 1",
+        "deliver 2",
+        "deliver 3",
+    ];
+    assert_eq!(rt; updates_after(alloc, &first_join)?, 2);
+
+    // c is admitted by a and by b, neither of which knows the other's update; then a merges both.
+    let two_updates_merge = [
+        "start a:1#1",
+        "start b:1#1",
+        "start c:1#1",
+        "found a:1#1",
+        "join b:1#1 a:1",
+        "deliver 1",
+        "deliver 2",
+        "join c:1#1 a:1",
+        "join c:1#1 b:1",
+        "deliver 4",
+        "deliver 5",
+        "deliver 2",
+        "deliver 8",
+        "deliver 9",
+    ];
+    assert_eq!(rt; updates_after(alloc, &two_updates_merge)?, 4);
+    Ok(())
+}

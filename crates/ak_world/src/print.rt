@@ -1,0 +1,141 @@
+//! The text of a step, and of the end of a replay (this project's format).
+
+ghost use Rattle.std.specs.Prelude.{◌≡◌, ◌++◌, ◌∷◌, [], slice_get, codes, OnOk, OnErr};
+ghost use Rattle.std.specs.Fmt.{decimal};
+ghost use Rattle.std.specs.Option.{option_and_then, option_map};
+ghost use Rattle.ak_schedule.specs.Schedule.{event_text};
+ghost use Rattle.ak_report.specs.ActionText.{actions_text};
+ghost use Rattle.ak_world.specs.World.{packet_at};
+ghost use Rattle.ak_world.specs.StepText as text;
+
+use crate::world::{Step, World};
+use ak_address::print_number;
+use ak_gossip::Gossip;
+use ak_node::Node;
+use ak_report::{print_actions, print_bytes};
+use ak_schedule::{Event, print_event};
+use std::alloc::{AllocError, Global};
+
+// What a delivered packet was, or that it reached nobody.
+fn print_arrival(
+    world: &World,
+    number: u64,
+    node: Option<&Node>,
+    out: &mut Vec<u8>,
+) -> Result<(), AllocError>
+    ensures { OnOk result (out.new.items
+        ≡ out.old.items ++ text.arrival_text (option_map (λ n. n.now.state) node.entry) (packet_at world.now.state number)) }
+{
+    if let Some(node) = node {
+        if let Some(envelope) = world.packet(number) {
+            print_bytes(b"  at ", out)?;
+            node.me().print_into(out)?;
+            print_bytes(b" ", out)?;
+            print_bytes(envelope.message.kind(), out)?;
+            print_bytes(b" from ", out)?;
+            envelope.from.print_into(out)?;
+            return print_bytes(b"\n", out);
+        }
+    }
+    print_bytes(b"  dead\n", out)
+}
+
+fn print_head(number: u64, event: &Event, out: &mut Vec<u8>) -> Result<(), AllocError>
+    ensures { OnOk result (out.new.items ≡ out.old.items ++ (decimal number ++ codes " " ++ event_text event.now ++ 10 ∷ [])) }
+{
+    print_number(number, out)?;
+    print_bytes(b" ", out)?;
+    print_event(event, out)?;
+    print_bytes(b"\n", out)
+}
+
+/// Appends the text of a step: its number and event, what arrived, and an item for each action. The event is the last
+/// that the world accepted, and the step the one that it gave. An error leaves the text as it was; only memory can fail.
+pub fn print_step(
+    alloc: Global,
+    world: &World,
+    step_number: u64,
+    event: &Event,
+    step: &Step,
+    out: &mut Vec<u8>,
+) -> Result<(), AllocError>
+    ensures ok { OnOk result (out.new.items
+        ≡ out.old.items ++ text.step_text step.now.first_packet step_number event.now (record { world = world.now.state; node = step.now.node; actions = step.now.actions })) }
+    ensures err { OnErr result (out.new.items ≡ out.old.items) }
+{
+    let mut text = Vec::new(alloc);
+    let node = acting(world, step);
+    print_head(step_number, event, &mut text)?;
+    print_delivery(world, event, node, &mut text)?;
+    print_done(alloc, node, step, &mut text)?;
+    print_bytes(&text, out)
+}
+
+// What arrived, where the event is a delivery.
+fn print_delivery(
+    world: &World,
+    event: &Event,
+    node: Option<&Node>,
+    out: &mut Vec<u8>,
+) -> Result<(), AllocError>
+    ensures { OnOk result (out.new.items
+        ≡ out.old.items ++ text.delivery_text event.now world.now.state (option_map (λ n. n.now.state) node.entry)) }
+{
+    match event {
+        Event::Deliver(number) => print_arrival(world, *number, node, out),
+        _ => Ok(()),
+    }
+}
+
+// An item for each action. A step in which no node acts shows nothing that is known.
+fn print_done(
+    alloc: Global,
+    node: Option<&Node>,
+    step: &Step,
+    out: &mut Vec<u8>,
+) -> Result<(), AllocError>
+    ensures { OnOk result (out.new.items
+        ≡ out.old.items ++ actions_text (text.shown (option_map (λ n. n.now.state) node.entry)) step.now.first_packet step.now.actions) }
+{
+    let first = u128::from(step.first_packet);
+    match node {
+        Some(node) => print_actions(alloc, node.gossip(), first, &step.actions, out),
+        None => print_actions(alloc, &Gossip::empty(alloc), first, &step.actions, out),
+    }
+}
+
+// The node that acted.
+fn acting<'a>(world: &'a World, step: &Step) -> Option<&'a Node>
+    ensures { option_map (λ n. n.now.state) result ≡ option_and_then (slice_get world.now.state.nodes) step.now.node }
+{
+    match step.node {
+        Some(number) => world.node(number),
+        None => None,
+    }
+}
+
+fn print_count(name: &[u8], count: u64, out: &mut Vec<u8>) -> Result<(), AllocError>
+    ensures { OnOk result (out.new.items ≡ out.old.items ++ (name.now ++ decimal count ++ 10 ∷ [])) }
+{
+    print_bytes(name, out)?;
+    print_number(count, out)?;
+    print_bytes(b"\n", out)
+}
+
+/// Appends the summary of a replay of so many steps. An error leaves the text as it was; only memory can fail.
+pub fn print_summary(
+    alloc: Global,
+    world: &World,
+    steps: u64,
+    out: &mut Vec<u8>,
+) -> Result<(), AllocError>
+    ensures ok { OnOk result (out.new.items ≡ out.old.items ++ text.summary_text steps world.now.state) }
+    ensures err { OnErr result (out.new.items ≡ out.old.items) }
+{
+    let mut text = Vec::new(alloc);
+    print_count(b"steps ", steps, &mut text)?;
+    print_count(b"packets ", world.packets(), &mut text)?;
+    print_count(b"history ", world.history().len() as u64, &mut text)?;
+    print_bytes(b"margin kept\ndoubles none\n", &mut text)?;
+    print_bytes(&text, out)
+}

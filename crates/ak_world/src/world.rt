@@ -1,0 +1,422 @@
+ghost use Rattle.std.specs.Prelude.{◌≡◌, ℕ, ◌+◌, ◌-◌, ◌<◌, ◌≤◌, ◌^◌, ◌++◌, ◌∷◌, [], true, false, length, take, slice_get, codes, IfOk, OnOk, OnErr, Option, None, Some, Result, Ok, Err};
+ghost use Rattle.std.specs.Fmt.{decimal};
+ghost use Rattle.std.specs.Option.{option_and_then, option_copied, option_map};
+ghost use Rattle.ak_schedule.specs.Schedule.{event_text};
+ghost use Rattle.ak_wire.specs.Wire.{sent};
+ghost use Rattle.ak_world.specs.World as rules;
+ghost use Rattle.std.specs.List.{list_any, position};
+ghost use Rattle.std.specs.Ordering.{is_eq};
+ghost use Rattle.ak_address.specs.Unique.{address_cmp};
+ghost use Rattle.ak_world.specs.Fold.{IsFold, IsIn};
+ghost use Rattle.ak_gossip.specs.Gossip.{GossipState};
+ghost use Rattle.ak_node.specs.Node.{is_for};
+ghost use Rattle.ak_world.specs.WorldWords.{Applies, Scenes, IsReady, state_of};
+ghost use Rattle.ak_node.specs.NodeWords.{Machine};
+
+use ak_address::{Address, Unique};
+use ak_history::History;
+use ak_node::{Node, NodeEvent, is_for};
+use ak_schedule::{Event, Settings};
+use ak_wire::{Action, Actions, Envelope};
+use std::alloc::{AllocError, AllocFailed, Global};
+use std::marker::Model;
+
+/// Why a world refuses an event. The first reason that applies is the answer.
+#[derive(Clone, Copy, Debug, PartialEq, Eq)]
+pub enum Refused {
+    /// The address of a process that starts, or through which one joins, is not listed.
+    Unlisted,
+    /// The process was started before.
+    UniqueUsed,
+    /// A process runs at that address.
+    AddressInUse,
+    /// The cluster was founded before.
+    SecondFound,
+    /// The process that acts was never started.
+    UnknownNode,
+    /// There is no packet of that number: so many were sent.
+    NoPacket { sent: u64 },
+    /// As many processes were started as may be: 64.
+    TooManyStarts,
+    /// The event is of a kind that is not built yet.
+    NotBuilt,
+    NoMemory,
+}
+
+/// What an event did: the acting node, by its start number from 0 on, or none for a delivery that reached nobody;
+/// the number of the first packet that it may have sent; and its actions.
+#[derive(Drop)]
+pub struct Step {
+    pub node: Option<u32>,
+    pub first_packet: u64,
+    pub actions: Actions,
+}
+
+// A schedule may start this many processes.
+const MOST_STARTS: usize = 64;
+
+// What a world is made of, without its list of events.
+#[derive(Drop)]
+pub(crate) struct Scene {
+    settings: Settings,
+    nodes: Vec<Node>,
+    packets: Vec<Envelope>,
+    history: History,
+    founded: bool,
+}
+
+// Which node the process is.
+fn node_of(nodes: &[Node], who: &Unique) -> Option<usize>
+    ensures { result ≡ position (λ (n : Machine). rules.is_process who.now n.state) nodes.now }
+{
+    nodes.iter().position(|node| node.me().compare(who).is_eq())
+}
+
+// Which node the packet reaches.
+fn receiver_of(nodes: &[Node], envelope: &Envelope) -> Option<usize>
+    ensures { result ≡ position (λ (n : Machine). is_for n.state.me envelope.now) nodes.now }
+{
+    nodes.iter().position(|node| is_for(node.me(), envelope))
+}
+
+// A node runs at the address.
+fn is_used(nodes: &[Node], address: &Address) -> bool
+    ensures { result ≡ list_any (λ (n : Machine). is_eq (address_cmp n.state.me.address address.now)) nodes.now }
+{
+    nodes
+        .iter()
+        .any(|node| node.me().address.compare(address).is_eq())
+}
+
+impl Scene {
+    fn start(&mut self, alloc: Global, who: &Unique) -> Result<Step, Refused>
+        ensures settings { self.new.settings ≡ self.old.settings }
+        ensures scenes { Scenes (state_of self.old) (rules.happens self.old.settings (Event.Start who.now) (state_of self.old)) result (state_of self.new) }
+    {
+        if !self.settings.is_listed(&who.address) {
+            return Err(Refused::Unlisted);
+        }
+        if node_of(&self.nodes, who).is_some() {
+            return Err(Refused::UniqueUsed);
+        }
+        if is_used(&self.nodes, &who.address) {
+            return Err(Refused::AddressInUse);
+        }
+        if self.nodes.len() >= MOST_STARTS {
+            return Err(Refused::TooManyStarts);
+        }
+        self.start_node(alloc, who)
+    }
+
+    fn start_node(&mut self, alloc: Global, who: &Unique) -> Result<Step, Refused>
+        requires { length self.old.nodes.items < 64 }
+        ensures settings { self.new.settings ≡ self.old.settings }
+        ensures scenes { Scenes (state_of self.old) (Ok (rules.starts self.old.settings who.now (state_of self.old))) result (state_of self.new) }
+    {
+        let place = self.nodes.len();
+        let me = who.copy(alloc)?;
+        let node = Node::start(alloc, me, &self.settings)?;
+        self.nodes.push(node)?;
+        Ok(Step {
+            node: number_of(place),
+            first_packet: self.next_packet(),
+            actions: Actions::empty(alloc),
+        })
+    }
+
+    fn found(&mut self, alloc: Global, who: &Unique) -> Result<Step, Refused>
+        requires ready { IsReady (state_of self.old) }
+        ensures settings { self.new.settings ≡ self.old.settings }
+        ensures scenes { Scenes (state_of self.old) (rules.happens self.old.settings (Event.Found who.now) (state_of self.old)) result (state_of self.new) }
+    {
+        if self.founded {
+            return Err(Refused::SecondFound);
+        }
+        match self.act(alloc, who, NodeEvent::Found) {
+            Ok(step) => {
+                self.founded = true;
+                Ok(step)
+            }
+            Err(why) => Err(why),
+        }
+    }
+
+    fn join(&mut self, alloc: Global, who: &Unique, target: &Address) -> Result<Step, Refused>
+        requires ready { IsReady (state_of self.old) }
+        ensures settings { self.new.settings ≡ self.old.settings }
+        ensures scenes { Scenes (state_of self.old) (rules.happens self.old.settings (Event.Join who.now target.now) (state_of self.old)) result (state_of self.new) }
+    {
+        if !self.settings.is_listed(target) {
+            return Err(Refused::Unlisted);
+        }
+        let target = target.copy(alloc)?;
+        self.act(alloc, who, NodeEvent::Join(target))
+    }
+
+    fn deliver(&mut self, alloc: Global, number: u64) -> Result<Step, Refused>
+        requires ready { IsReady (state_of self.old) }
+        ensures settings { self.new.settings ≡ self.old.settings }
+        ensures scenes { Scenes (state_of self.old) (rules.happens self.old.settings (Event.Deliver number) (state_of self.old)) result (state_of self.new) }
+    {
+        let Some(envelope) = packet_at(&self.packets, number) else {
+            let sent = self.packets.len() as u64;
+            return Err(Refused::NoPacket { sent });
+        };
+        let Some(place) = receiver_of(&self.nodes, envelope) else {
+            return Ok(Step {
+                node: None,
+                first_packet: self.next_packet(),
+                actions: Actions::empty(alloc),
+            });
+        };
+        let envelope = envelope.copy(alloc)?;
+        self.give(alloc, place, NodeEvent::Packet(envelope))
+    }
+
+    // The process is given an event.
+    fn act(&mut self, alloc: Global, who: &Unique, event: NodeEvent) -> Result<Step, Refused>
+        requires ready { IsReady (state_of self.old) }
+        ensures settings { self.new.settings ≡ self.old.settings }
+        ensures scenes { Scenes (state_of self.old) (rules.acts event (rules.node_of who.now (state_of self.old)) (state_of self.old)) result (state_of self.new) }
+    {
+        match node_of(&self.nodes, who) {
+            Some(place) => return self.give(alloc, place, event),
+            None => return Err(Refused::UnknownNode),
+        }
+    }
+
+    // The node at a place is given an event; what it sends and updates is kept.
+    fn give(&mut self, alloc: Global, place: usize, event: NodeEvent) -> Result<Step, Refused>
+        requires ready { IsReady (state_of self.old) }
+        requires place { place < length self.old.nodes.items }
+        ensures settings { self.new.settings ≡ self.old.settings }
+        ensures scenes { Scenes (state_of self.old) (rules.gives event place (slice_get (state_of self.old).nodes place) (state_of self.old)) result (state_of self.new) }
+    {
+        let first_packet = self.next_packet();
+        let actions = self.nodes[place].step(alloc, event)?;
+        keep_packets(alloc, actions.as_slice(), &mut self.packets)?;
+        keep_entries(
+            alloc,
+            self.nodes[place].me(),
+            actions.as_slice(),
+            &mut self.history,
+        )?;
+        Ok(Step {
+            node: number_of(place),
+            first_packet,
+            actions,
+        })
+    }
+
+    // What an event makes of the world, or the first reason why it is refused.
+    fn happens(&mut self, alloc: Global, event: &Event) -> Result<Step, Refused>
+        requires ready { IsReady (state_of self.old) }
+        ensures settings { self.new.settings ≡ self.old.settings }
+        ensures scenes { Scenes (state_of self.old) (rules.happens self.old.settings event.now (state_of self.old)) result (state_of self.new) }
+    {
+        match event {
+            Event::Start(who) => self.start(alloc, who),
+            Event::Found(who) => self.found(alloc, who),
+            Event::Join(who, target) => self.join(alloc, who, target),
+            Event::Deliver(number) => self.deliver(alloc, *number),
+            _ => Err(Refused::NotBuilt),
+        }
+    }
+
+    // The number of the next packet that is sent.
+    fn next_packet(&self) -> u64
+        ensures { result ≡ length self.now.packets.items + 1 }
+    {
+        self.packets.len() as u64 + 1
+    }
+}
+
+// The packet of a number from 1 on.
+fn packet_at(packets: &[Envelope], number: u64) -> Option<&Envelope>
+    ensures { option_copied result ≡ rules.numbered packets.now number }
+{
+    if number == 0 {
+        return None;
+    }
+    let place = usize::try_from(number - 1).ok()?;
+    packets.get(place)
+}
+
+// A start number: fewer processes are started than have a number.
+fn number_of(place: usize) -> Option<u32>
+    requires { place < 64 }
+    ensures { result ≡ Some place }
+{
+    u32::try_from(place).ok()
+}
+
+// What the actions send is kept, each packet once.
+fn keep_packets(
+    alloc: Global,
+    actions: &[Action],
+    packets: &mut Vec<Envelope>,
+) -> Result<(), AllocError>
+    ensures kept { OnOk result (packets.new.items ≡ packets.old.items ++ sent actions.now) }
+    ensures numbered { OnOk result (length packets.new.items < 2 ^ 63) }
+{
+    'actions: for action in actions {
+        if let Action::Send(envelope) = action {
+            packets.push(envelope.copy(alloc)?)?;
+        }
+    }
+    Ok(())
+}
+
+// What the actions update is added to the history.
+fn keep_entries(
+    alloc: Global,
+    author: &Unique,
+    actions: &[Action],
+    history: &mut History,
+) -> Result<(), AllocError>
+    ensures { OnOk result (history.new ≡ rules.recorded author.now actions.now history.old) }
+{
+    'actions: for action in actions {
+        if let Action::Update(_, effects) = action {
+            history.push(alloc, author, effects.copy(alloc)?)?;
+        }
+    }
+    Ok(())
+}
+
+impl From<AllocError> for Refused {
+    ghost use Rattle.ak_world.specs.declared.world.Refused.TheVariants.{NoMemory};
+
+    ghost from_gives = { λ _ e. e ≡ NoMemory };
+
+    fn from(_error: AllocError) -> Refused {
+        Refused::NoMemory
+    }
+}
+
+impl<T: Drop> From<AllocFailed<T>> for Refused {
+    ghost use Rattle.ak_world.specs.declared.world.Refused.TheVariants.{NoMemory};
+
+    ghost from_gives = { λ _ e. e ≡ NoMemory };
+
+    fn from(_error: AllocFailed<T>) -> Refused {
+        Refused::NoMemory
+    }
+}
+
+// An event is added to the accepted ones. An error leaves them as they were.
+fn keep_event(alloc: Global, event: &Event, accepted: &mut Vec<Event>) -> Result<(), AllocError>
+    ensures { OnOk result (accepted.new.items ≡ accepted.old.items ++ event.now ∷ []) }
+{
+    let kept = event.copy(alloc)?;
+    accepted.push(kept)?;
+    Ok(())
+}
+
+/// A world: a settings' run of the events that it accepted. After want of memory it is spent, and each later event
+/// answers want of memory.
+#[derive(Drop)]
+pub struct World {
+    scene: Scene,
+    accepted: Vec<Event>,
+    is_spent: bool,
+}
+
+impl Model for World {
+    ghost use Rattle.std.specs.Coded.{codes};
+    ghost use Rattle.ak_address.specs.Unique.{coded_address, coded_unique};
+    ghost use Rattle.ak_schedule.specs.Settings.{coded_setup};
+    ghost use Rattle.ak_gossip.specs.Gossip.{coded_gossip};
+    ghost use Rattle.ak_member.specs.View.{coded_uniques};
+    ghost use Rattle.ak_world.specs.WorldWords.{Chronicle, state_of, IsChronicle};
+
+    ghost Value = { Chronicle };
+
+    ghost coded = { Prim.hlevel (codes, coded_address, coded_unique, coded_uniques, coded_setup, coded_gossip) };
+
+    ghost view = { λ w. record { setup = w.scene.settings; state = state_of w.scene; events = w.accepted.items; spent = w.is_spent } };
+
+    ghost invariant = { λ w. IsChronicle w.scene.settings (state_of w.scene) w.accepted.items w.is_spent };
+}
+
+impl World {
+    /// The world in which nothing has happened. Takes no memory.
+    pub fn new(alloc: Global, settings: Settings) -> World
+        ensures { result ≡ record { setup = settings; state = rules.empty_world; events = []; spent = false } }
+    {
+        let scene = Scene {
+            settings,
+            nodes: Vec::new(alloc),
+            packets: Vec::new(alloc),
+            history: History::empty(alloc),
+            founded: false,
+        };
+        World {
+            scene,
+            accepted: Vec::new(alloc),
+            is_spent: false,
+        }
+    }
+
+    /// Applies one event, or says why it is refused: the first reason of `Refused` that applies. A refusal leaves the
+    /// world as it was; after want of memory the world is spent.
+    ///
+    /// What a node knows and what a packet carries is the fold of the history: its members with their statuses, its
+    /// tombstones and its rows are those that its version shows. So equal versions have equal members, statuses,
+    /// tombstones and rows, whenever and wherever they are held: behind any two numbers of accepted events, in any two
+    /// nodes or packets.
+    pub fn apply(&mut self, alloc: Global, event: &Event) -> Result<Step, Refused>
+        requires { length self.old.events < 2 ^ 62 }
+        ensures applied { Applies event.now self.old result self.new }
+        ensures numbered { IfOk result (λ step. step.first_packet + length (sent step.actions) < 2 ^ 64) }
+        ensures run { self.new.spent ≡ false → self.new.state ≡ rules.run self.new.setup self.new.events }
+        ensures folded { self.new.spent ≡ false → (g : GossipState) → IsIn g self.new.state → IsFold self.new.state.history g }
+        ensures equal { self.new.spent ≡ false → (i j : ℕ) (g f : GossipState) → IsIn g (rules.run self.new.setup (take i self.new.events)) → IsIn f (rules.run self.new.setup (take j self.new.events)) → g.version ≡ f.version → g.view ≡ f.view }
+    {
+        if self.is_spent {
+            return Err(Refused::NoMemory);
+        }
+        match self.scene.happens(alloc, event) {
+            Ok(step) => {
+                if keep_event(alloc, event, &mut self.accepted).is_ok() {
+                    return Ok(step);
+                }
+                self.is_spent = true;
+                Err(Refused::NoMemory)
+            }
+            Err(Refused::NoMemory) => {
+                self.is_spent = true;
+                Err(Refused::NoMemory)
+            }
+            Err(why) => Err(why),
+        }
+    }
+
+    /// Every update so far.
+    pub fn history(&self) -> &History
+        ensures { result.now ≡ self.now.state.history }
+    {
+        &self.scene.history
+    }
+
+    /// The node of a start number from 0 on, and None where none has it.
+    pub fn node(&self, number: u32) -> Option<&Node>
+        ensures { option_map (λ n. n.now.state) result ≡ slice_get self.now.state.nodes number }
+    {
+        self.scene.nodes.get(number as usize)
+    }
+
+    /// How many packets were sent.
+    pub fn packets(&self) -> u64
+        ensures { result ≡ length self.now.state.packets }
+    {
+        self.scene.packets.len() as u64
+    }
+
+    /// The packet of a number from 1 on, and None where none has it.
+    pub fn packet(&self, number: u64) -> Option<&Envelope>
+        ensures { option_copied result ≡ rules.packet_at self.now.state number }
+    {
+        packet_at(&self.scene.packets, number)
+    }
+}
