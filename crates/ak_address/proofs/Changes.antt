@@ -9,7 +9,7 @@ use Rattle.ak_address.specs.Unique.{Process, unique_cmp}
 use Rattle.ak_address.specs.Table.{joined}
 use Rattle.ak_address.specs.Rows.{place, woven}
 use Rattle.ak_address.proofs.Order.{unique_total, unique_exact}
-use Rattle.ak_address.proofs.Rows.{Stands, Goes, placed, sorted_woven}
+use Rattle.ak_address.proofs.Rows.{Stands, Goes, told, sorted_woven}
 use Rattle.ak_address.proofs.TableLaws.{is_true, true_is, same_table, rows_of, rows_found, rows_sorted, rows_back, woven_joined, get-remove}
 
 turned : {A : Type 0} (b : Bool) (x y : A) → cond (not b) x y ≡ cond b y x
@@ -64,14 +64,14 @@ module _ {X : Type 0} where
         })
 
     -- what a search told of a key
-    told : (q : Process) (fs : List (Process × X)) (r : Result ℕ ℕ) → fs ≡ es → r ≡ place unique_cmp q fs → MatchResult r (Stands unique_cmp q es) (Goes unique_cmp q es)
-    told q fs r same is = subst (λ r. MatchResult r (Stands unique_cmp q es) (Goes unique_cmp q es)) (ap (place unique_cmp q) (sym same) ∙ sym is) (placed unique_cmp unique_total unique_exact q es (is_true _ b.in_order))
+    told_in : (q : Process) (fs : List (Process × X)) (r : Result ℕ ℕ) → fs ≡ es → r ≡ place unique_cmp q fs → MatchResult r (Stands unique_cmp q es) (Goes unique_cmp q es)
+    told_in q fs r same is = told unique_cmp unique_total unique_exact q es (is_true _ b.in_order) r (is ∙ ap (place unique_cmp q) same)
 
     pub stands_at : (q : Process) (fs : List (Process × X)) (n : ℕ) → fs ≡ es → Ok n ≡ place unique_cmp q fs → Stands unique_cmp q es n
-    stands_at q fs n same is = told q fs (Ok n) same is
+    stands_at q fs n same is = told_in q fs (Ok n) same is
 
     pub goes_at : (q : Process) (fs : List (Process × X)) (n : ℕ) → fs ≡ es → Err n ≡ place unique_cmp q fs → Goes unique_cmp q es n
-    goes_at q fs n same is = told q fs (Err n) same is
+    goes_at q fs n same is = told_in q fs (Err n) same is
 
     pub absent_in : (q : Process) (n : ℕ) → Goes unique_cmp q es n → map.get m q ≡ None
     absent_in q n g = sym (found_in q) ∙ g.absent

@@ -6,7 +6,7 @@ use Rattle.std.specs.Ordering.{is_lt, is_eq, ordering_reverse, eq_by_cmp}
 use Rattle.std.specs.Cmp.{IsTotalOrder, alike_right, tied_itself}
 use Rattle.std.specs.FinMap.{IsAntisymmetric, find, put, is_sorted}
 use Rattle.std.specs.FinMap.Entries.{by_order, below_all, where_key}
-use Rattle.ak_address.specs.Rows.{moved, next, place, woven}
+use Rattle.ak_address.specs.Rows.{next, place, woven}
 use Rattle.ak_address.specs.Table.{joined_at}
 
 -- ---- tests
@@ -33,14 +33,28 @@ same_Some x y e = ap (λ o. unwrap_or o x) e
 pub not_None : {A : Type 0} (x : A) → Some x ≢ None
 not_None x e = subst T (ap is_some e) tt
 
--- ---- places
-pub moved_by_none : (r : Result ℕ ℕ) → moved 0 r ≡ r
-moved_by_none (Ok n) = ap Ok (omega arith)
-moved_by_none (Err n) = ap Err (omega arith)
+-- ---- orders
+pub is_equal : (o : Ordering) (b : Bool) → b ≡ is_eq o → b ≡ true → o ≡ Equal
+is_equal Less b e t = absurd (subst T (sym t ∙ e) tt)
+is_equal Equal b e t = refl
+is_equal Greater b e t = absurd (subst T (sym t ∙ e) tt)
 
-pub moved_next : (n : ℕ) (r : Result ℕ ℕ) → moved n (next r) ≡ moved (n + 1) r
-moved_next n (Ok k) = ap Ok (omega arith)
-moved_next n (Err k) = ap Err (omega arith)
+pub is_less : (o : Ordering) (b : Bool) → b ≡ is_lt o → b ≡ true → o ≡ Less
+is_less Less b e t = refl
+is_less Equal b e t = absurd (subst T (sym t ∙ e) tt)
+is_less Greater b e t = absurd (subst T (sym t ∙ e) tt)
+
+pub is_neither : (o : Ordering) (a b : Bool) → a ≡ is_eq o → a ≡ false → b ≡ is_lt o → b ≡ false → o ≡ Greater
+is_neither Less a b e f g h = absurd (subst T (sym g ∙ h) tt)
+is_neither Equal a b e f g h = absurd (subst T (sym e ∙ f) tt)
+is_neither Greater a b e f g h = refl
+
+-- ---- places
+before_or : (i m : ℕ) → i ≤ m → (i < m) ⊎ (i ≡ m)
+before_or zero zero le = inr refl
+before_or zero (suc m) le = inl (omega arith)
+before_or (suc i) zero le = absurd (omega arith)
+before_or (suc i) (suc m) le = elim (before_or i m (omega arith)) [ inl less ↦ inl (omega arith) | inr same ↦ inr (ap suc same) ]
 
 module _ {K X : Type 0} (R : K → K → Ordering) where
   -- a key that a list has at place n
@@ -133,6 +147,10 @@ module _ {K X : Type 0} (R : K → K → Ordering) where
             | Greater ↦ λ above. placed_later q e es _ above (placed q es (second _ _ h))
           ] refl
 
+      -- what a search told of a key
+      pub told : (q : K) (es : List (K × X)) → T (is_sorted R es) → (r : Result ℕ ℕ) → r ≡ place R q es → MatchResult r (Stands q es) (Goes q es)
+      told q es h r is = subst (λ r. MatchResult r (Stands q es) (Goes q es)) (sym is) (placed q es h)
+
   -- ---- the row at a place
   module _ (o : IsTotalOrder R) where
     -- a key below each of the keys is below the one at a place
@@ -153,6 +171,50 @@ module _ {K X : Type 0} (R : K → K → Ordering) where
     rises (x ∷ es) i zero d e h lt is js = absurd (omega arith)
     rises (x ∷ es) zero (suc j) d e h lt is js = subst (λ (y : K × X). R y.0 e.0 ≡ Less) (same_Some x d is) (below_at x.0 es j e (first _ _ h) js)
     rises (x ∷ es) (suc i) (suc j) d e h lt is js = rises es i j d e (second _ _ h) (omega arith) is js
+
+  -- ---- a search by halves
+  module _ (q : K) where
+    -- the key is above the rows before a place, and below those from it on
+    abbrev pub IsAboveBefore : List (K × X) → ℕ → Type 0
+    IsAboveBefore es n = (i : ℕ) (e : K × X) → i < n → slice_get es i ≡ Some e → R q e.0 ≡ Greater
+
+    abbrev pub IsBelowFrom : List (K × X) → ℕ → Type 0
+    IsBelowFrom es n = (i : ℕ) (e : K × X) → n ≤ i → slice_get es i ≡ Some e → R q e.0 ≡ Less
+
+    pub place_here : (es : List (K × X)) (n : ℕ) (e : K × X) → IsAboveBefore es n → slice_get es n ≡ Some e → R q e.0 ≡ Equal → place R q es ≡ Ok n
+    place_here [] n e above at tied = absurd (not_None e (sym at))
+    place_here (x ∷ es) zero e above at tied =
+        ap (λ r. by_order r (Err zero) (Ok zero) (next (place R q es))) (subst (λ (y : K × X). R q y.0 ≡ Equal) (sym (same_Some x e at)) tied)
+    place_here (x ∷ es) (suc n) e above at tied =
+        ap (λ r. by_order r (Err zero) (Ok zero) (next (place R q es))) (above zero x (omega arith) refl)
+        ∙ ap next (place_here es n e (λ i d lt is. above (suc i) d (omega arith) is) at tied)
+
+    pub place_between : (es : List (K × X)) (n : ℕ) → n ≤ length es → IsAboveBefore es n → IsBelowFrom es n → place R q es ≡ Err n
+    place_between [] zero le above below = refl
+    place_between [] (suc n) le above below = absurd (omega arith)
+    place_between (x ∷ es) zero le above below = ap (λ r. by_order r (Err zero) (Ok zero) (next (place R q es))) (below zero x (omega arith) refl)
+    place_between (x ∷ es) (suc n) le above below =
+        ap (λ r. by_order r (Err zero) (Ok zero) (next (place R q es))) (above zero x (omega arith) refl)
+        ∙ ap next (place_between es n (omega arith) (λ i d lt is. above (suc i) d (omega arith) is) (λ i d le is. below (suc i) d (omega arith) is))
+
+    module _ (o : IsTotalOrder R) (es : List (K × X)) (h : T (is_sorted R es)) (m : ℕ) (e : K × X) (at : slice_get es m ≡ Some e) where
+      same_row : (i : ℕ) (d : K × X) → i ≡ m → slice_get es i ≡ Some d → e ≡ d
+      same_row i d same is = same_Some e d (sym at ∙ ap (slice_get es) (sym same) ∙ is)
+
+      pub above_up_to : R q e.0 ≡ Greater → IsAboveBefore es (m + 1)
+      above_up_to above i d lt is = elim (before_or i m (omega arith)) [
+        | inl less ↦ o.antisymm q d.0 ∙ ap ordering_reverse (o.trans d.0 e.0 q (rises o es i m d e h less is at) (o.antisymm e.0 q ∙ ap ordering_reverse above))
+        | inr same ↦ subst (λ (y : K × X). R q y.0 ≡ Greater) (same_row i d same is) above
+      ]
+
+      pub below_from : R q e.0 ≡ Less → IsBelowFrom es m
+      below_from below i d le is = elim (before_or m i (omega arith)) [
+        | inl less ↦ o.trans q e.0 d.0 below (rises o es m i e d h less at is)
+        | inr same ↦ subst (λ (y : K × X). R q y.0 ≡ Less) (same_row i d (sym same) is) below
+      ]
+
+      pub above_before : R q e.0 ≡ Equal → IsAboveBefore es m
+      above_before tied i d lt is = o.congr q e.0 d.0 tied ∙ o.antisymm e.0 d.0 ∙ ap ordering_reverse (rises o es i m d e h lt is at)
 
   -- what is found stands at some place, where only equal keys tie
   pub place_of_found : IsAntisymmetric R → (q : K) (v : X) (es : List (K × X)) → find R q es ≡ Some v → (i : ℕ) × (slice_get es i ≡ Some (q, v))

@@ -1,12 +1,7 @@
 -- Lists of rows in the order of their keys, as the table's calls walk them.
-use Rattle.std.specs.Prelude.{ℕ, zero, suc, ◌+◌, List, [], ◌∷◌, Result, Ok, Err}
+use Rattle.std.specs.Prelude.{ℕ, zero, suc, List, [], ◌∷◌, Result, Ok, Err}
 use Rattle.std.specs.declared.cmp.Ordering.{Ordering}
 use Rattle.std.specs.FinMap.Entries.{by_order}
-
--- a place in a list, counted from n places earlier
-abbrev pub moved : ℕ → Result ℕ ℕ → Result ℕ ℕ
-moved n (Ok place) = Ok (place + n)
-moved n (Err place) = Err (place + n)
 
 abbrev pub next : Result ℕ ℕ → Result ℕ ℕ
 next (Ok place) = Ok (suc place)

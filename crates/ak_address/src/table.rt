@@ -1,4 +1,4 @@
-ghost use Rattle.std.specs.Prelude.{◌≡◌, IfOk, OnOk, OnErr, IsOk, IsSome, [], ◌∷◌, ◌++◌, slice_get, option_map, option_copied, if◌then◌else◌};
+ghost use Rattle.std.specs.Prelude.{◌≡◌, IfOk, OnOk, OnErr, IsOk, IsSome, IsTrue, [], ◌∷◌, ◌++◌, slice_get, option_map, option_copied, if◌then◌else◌};
 ghost use Rattle.std.specs.FinMap as map;
 ghost use Rattle.ak_address.specs.Unique.{Process, unique_cmp};
 ghost use Rattle.ak_address.specs.Rows.{place, woven};
@@ -151,32 +151,37 @@ pub fn joins_are_pointwise<V: Join>()
     ensures { (m n : map.FinMap unique_cmp V) (q : Process) → map.get (joined V.join m n) q ≡ joined_at V.join (map.get m q) (map.get n q) }
 {}
 
-// Where the process stands, or as an error where it would go.
+// Where the process stands, or as an error where it would go: a search by halves.
 fn place_of<V>(entries: &[(Unique, V)], who: &Unique) -> Result<usize, usize>
+    requires { IsTrue (map.is_sorted unique_cmp entries.now) }
     ensures { result ≡ place unique_cmp who.now entries.now }
 {
-    'rows: for (place, entry) in entries.iter().enumerate() {
-        let order = who.compare(&entry.0);
+    let mut low = 0;
+    let mut high = entries.len();
+    'halves: while low < high {
+        let middle = low + (high - low) / 2;
+        let order = who.compare(&entries[middle].0);
         if order.is_eq() {
-            return Ok(place);
+            return Ok(middle);
         }
         if order.is_lt() {
-            return Err(place);
+            high = middle;
+        } else {
+            low = middle + 1;
         }
     }
-    Err(entries.len())
+    Err(low)
 }
 
-// The value of the first entry of the process.
+// The value of the process.
 fn value_of<'a, V>(entries: &'a [(Unique, V)], who: &Unique) -> Option<&'a V>
+    requires { IsTrue (map.is_sorted unique_cmp entries.now) }
     ensures { option_copied result ≡ map.find unique_cmp who.now entries.now }
 {
-    'rows: for entry in entries {
-        if who.compare(&entry.0).is_eq() {
-            return Some(&entry.1);
-        }
+    match place_of(entries, who) {
+        Ok(place) => Some(&entries[place].1),
+        Err(_) => None,
     }
-    None
 }
 
 fn row_at<V>(entries: &[(Unique, V)], place: usize) -> Option<(&Unique, &V)>

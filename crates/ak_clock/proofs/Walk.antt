@@ -143,11 +143,6 @@ is_greater Less b e t = absurd (true≢false (sym t ∙ e))
 is_greater Equal b e t = absurd (true≢false (sym t ∙ e))
 is_greater Greater b e t = refl
 
-pub is_equal : (o : Ordering) (b : Bool) → b ≡ is_eq o → b ≡ true → o ≡ Equal
-is_equal Less b e t = absurd (true≢false (sym t ∙ e))
-is_equal Equal b e t = refl
-is_equal Greater b e t = absurd (true≢false (sym t ∙ e))
-
 pub is_less : (o : Ordering) (a b : Bool) → a ≡ is_gt o → a ≡ false → b ≡ is_eq o → b ≡ false → o ≡ Less
 is_less Less a b e f g h = refl
 is_less Equal a b e f g h = absurd (true≢false (sym g ∙ h))

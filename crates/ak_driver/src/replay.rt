@@ -1,6 +1,6 @@
 //! The replay of a recorded schedule: reads it whole, applies one line at a time, and prints each step.
 
-ghost use Rattle.std.specs.Prelude.{◌≡◌, ◌⊎◌, ◌+◌, ◌≤◌, ◌<◌, ◌^◌, ◌++◌, ℕ, List, OnOk, OnErr, Some, IfSome, length, codes};
+ghost use Rattle.std.specs.Prelude.{◌≡◌, ◌⊎◌, ◌+◌, ◌≤◌, ◌<◌, ◌^◌, ◌++◌, ℕ, List, OnOk, OnErr, Some, IfSome, length};
 ghost use Rattle.ak_outside.specs.Outside.{Rose};
 ghost use Rattle.ak_schedule.specs.Draft.{first_draft};
 ghost use Rattle.ak_schedule.specs.Line.{IsPassedOver};

@@ -1,6 +1,5 @@
-ghost use Rattle.std.specs.Prelude.{◌≡◌, ℕ, ◌+◌, ◌<◌, ◌^◌, nat_le, Bool, true, false, [], ◌∷◌, ◌++◌, length, slice_get, option_to_list, IfOk, OnOk, OnErr, IsErr, IsTrue, ◌↔◌, Option, None};
+ghost use Rattle.std.specs.Prelude.{◌≡◌, ◌+◌, ◌<◌, ◌^◌, nat_le, true, false, [], ◌∷◌, ◌++◌, slice_get, option_to_list, IfOk, OnOk, OnErr, Option, None};
 ghost use Rattle.std.specs.List.{list_any};
-ghost use Rattle.std.specs.Option.{option_copied};
 ghost use Rattle.std.specs.Ordering.{is_eq};
 ghost use Rattle.ak_address.specs.Unique.{address_cmp};
 ghost use Rattle.std.specs.FinMap as map;

@@ -1,7 +1,6 @@
 // A source and a sink that never fail.
 ghost use Rattle.std.specs.Prelude.{◌≡◌, ◌≤◌, Some, None, IfOk, length, drop, min};
-ghost use Rattle.ak_outside.specs.Reads.{FitsBuffer, GivesFirst, EndsExactly, ReadCause};
-ghost use Rattle.ak_outside.specs.Writes.{FitsPiece, TakesFirst, WriteCause};
+ghost use Rattle.ak_outside.specs.Reads.{FitsBuffer, GivesFirst, EndsExactly};
 
 use crate::memory::give;
 use crate::sink::{Sink, Wrote};

@@ -1,4 +1,4 @@
-ghost use Rattle.std.specs.Prelude.{◌≡◌, ◌∷◌, ◌++◌, [], OnOk, OnErr, codes, decimal, take, vec_len};
+ghost use Rattle.std.specs.Prelude.{◌≡◌, ◌++◌, OnOk, OnErr, codes, decimal, take, vec_len};
 ghost use Rattle.ak_address.specs.Spelling.{address_text, unique_text};
 ghost use Rattle.ak_schedule.specs.Schedule.{event_text};
 

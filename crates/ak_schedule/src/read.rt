@@ -1,4 +1,4 @@
-ghost use Rattle.std.specs.Prelude.{◌≡◌, ◌↔◌, ◌+◌, ◌-◌, ◌^◌, ◌≤◌, ◌∷◌, IsTrue, MatchOption, All, ℕ};
+ghost use Rattle.std.specs.Prelude.{◌≡◌, ◌↔◌, ◌+◌, ◌-◌, ◌≤◌, ◌∷◌, IsTrue, MatchOption, All, ℕ};
 ghost use Rattle.ak_address.specs.Spelling.{SpellsAddress, SpellsUnique};
 ghost use Rattle.ak_schedule.specs.Line.{words};
 ghost use Rattle.ak_schedule.specs.Kind.{kind_name};

@@ -1,5 +1,4 @@
 ghost use Rattle.std.specs.Prelude.{◌≡◌, ◌↔◌, IsTrue, IfOk, Contains};
-ghost use Rattle.ak_address.specs.Unique.{Endpoint};
 ghost use Rattle.ak_schedule.specs.Settings.{settling_size};
 
 use ak_address::Address;

@@ -1,5 +1,4 @@
-ghost use Rattle.std.specs.Prelude.{◌≡◌, ℕ, ◌+◌, List, ◌∷◌, ◌++◌, slice_get, Some};
-ghost use Rattle.ak_address.specs.Unique.{Process};
+ghost use Rattle.std.specs.Prelude.{◌≡◌, ℕ, ◌+◌, List, ◌++◌, slice_get, Some};
 ghost use Rattle.ak_clock.specs.Version.{count};
 ghost use Rattle.ak_schedule.specs.Settings.{Setup};
 ghost use Rattle.ak_schedule.specs.declared.event.Event.{Event};

@@ -1,7 +1,5 @@
-ghost use Rattle.std.specs.Prelude.{◌≡◌, ℕ, ◌+◌, ◌-◌, ◌<◌, ◌≤◌, ◌^◌, ◌++◌, ◌∷◌, [], true, false, length, take, slice_get, codes, IfOk, OnOk, OnErr, Option, None, Some, Result, Ok, Err};
-ghost use Rattle.std.specs.Fmt.{decimal};
-ghost use Rattle.std.specs.Option.{option_and_then, option_copied, option_map};
-ghost use Rattle.ak_schedule.specs.Schedule.{event_text};
+ghost use Rattle.std.specs.Prelude.{◌≡◌, ℕ, ◌+◌, ◌-◌, ◌<◌, ◌^◌, ◌++◌, ◌∷◌, [], true, false, length, take, slice_get, IfOk, OnOk, Option, None, Some, Result, Ok, Err};
+ghost use Rattle.std.specs.Option.{option_copied, option_map};
 ghost use Rattle.ak_wire.specs.Wire.{sent};
 ghost use Rattle.ak_world.specs.World as rules;
 ghost use Rattle.std.specs.List.{list_any, position};

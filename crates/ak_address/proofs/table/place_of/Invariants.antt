@@ -1,8 +1,16 @@
-use Rattle.std.proofs.Common.{◌≡◌, drop}
+use Rattle.std.proofs.Common.{◌-◌, ◌≤◌, length}
 use Rattle.ak_address.specs.Unique.{unique_cmp}
-use Rattle.ak_address.specs.Rows.{place, moved}
+use Rattle.ak_address.proofs.Rows.{IsAboveBefore, IsBelowFrom}
 use Rattle.ak_address.proofs.table.place_of.Given as goal
 
--- the place among the rows that are left, moved by those that were passed, is the place among all
-abbrev pub invariant-rows : goal.invariant-rows
-invariant-rows g l = place unique_cmp l.who l.entries ≡ moved l.place (place unique_cmp l.who (drop l.place l.entries))
+-- the process is above the rows before the low place, and below those from the high one on
+abbrev pub invariant-halves : goal.invariant-halves
+invariant-halves g l = record {
+  in_order : l.low ≤ l.high;
+  in_range : l.high ≤ length l.entries;
+  above : IsAboveBefore unique_cmp l.who l.entries l.low;
+  below : IsBelowFrom unique_cmp l.who l.entries l.high;
+}
+
+abbrev pub decreases-halves : goal.decreases-halves
+decreases-halves g l = l.high - l.low

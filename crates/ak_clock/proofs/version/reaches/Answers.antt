@@ -1,7 +1,8 @@
 use Rattle.std.proofs.Common.{◌≤◌, ◌+◌, drop, sym, ap, ◌∙◌, arith}
 use Rattle.std.specs.FinMap as map
+use Rattle.ak_address.proofs.Rows.{is_equal}
 use Rattle.ak_clock.specs.Walk.{reached}
-use Rattle.ak_clock.proofs.Walk.{reached_end, reached_nothing, reached_less, reached_equal, reached_short, reached_greater, reached_last, is_greater, is_equal, is_less}
+use Rattle.ak_clock.proofs.Walk.{reached_end, reached_nothing, reached_less, reached_equal, reached_short, reached_greater, reached_last, is_greater, is_less}
 use Rattle.ak_clock.proofs.version.reaches.Goals as goal
 use Rattle.ak_clock.proofs.version.reaches.Goals.{then-is_eq+else-n-least, else-is_eq}
 
