@@ -372,6 +372,20 @@ any-process u nodes r answers =
 pub any-address : (a : Endpoint) (nodes : List Machine) → list_any (λ (n : State). is_eq (address_cmp n.me.address a)) (states nodes) ≡ list_any (λ (n : Machine). is_eq (address_cmp n.state.me.address a)) nodes
 any-address a nodes = list_any-states (λ (n : State). is_eq (address_cmp n.me.address a)) nodes
 
+-- the tests of a start, as the calls answer them: the address is listed, the process was started, a node runs there
+pub start-listed : (xs : List Endpoint) (a : Endpoint) (u : Process) (b c : Bool) → a ≡ u.address → (IsTrue b ↔ Contains xs a) → b ≡ c → is_listed xs u.address ≡ c
+start-listed xs a u b c at both is = ap (is_listed xs) (sym at) ∙ listed-test xs a b both ∙ is
+
+pub start-known : (nodes kept : List Machine) (u : Process) (r : Option ℕ) (b c : Bool) → r ≡ position (λ (n : Machine). is_process u n.state) kept → kept ≡ nodes → b ≡ is_some r → b ≡ c → list_any (is_process u) (states nodes) ≡ c
+start-known nodes kept u r b c answers same some is =
+    any-process u nodes r (answers ∙ ap (position (λ (n : Machine). is_process u n.state)) same) ∙ sym some ∙ is
+
+pub start-used : (nodes kept : List Machine) (a : Endpoint) (u : Process) (b c : Bool) → a ≡ u.address → b ≡ list_any (λ (n : Machine). is_eq (address_cmp n.state.me.address a)) kept → kept ≡ nodes → b ≡ c
+    → list_any (λ (n : State). is_eq (address_cmp n.me.address u.address)) (states nodes) ≡ c
+start-used nodes kept a u b c at answers same is =
+    ap (λ (x : Endpoint). list_any (λ (n : State). is_eq (address_cmp n.me.address x)) (states nodes)) (sym at)
+    ∙ any-address a nodes ∙ sym (answers ∙ ap (list_any (λ (n : Machine). is_eq (address_cmp n.state.me.address a))) same) ∙ is
+
 pub many-nodes : (nodes : List Machine) → 64 ≤ length nodes → leb 64 (length (states nodes)) ≡ true
 many-nodes nodes many = ap (leb 64) (length-states nodes) ∙ le-leb 64 (length nodes) many
 
