@@ -21,7 +21,7 @@ worth_grows bytes i within low high =
     let worth = digit_value_digit (get_or bytes i 0) (low, high) in
     omega (arith, digits_value_more 10 bytes i within, digits_value-take-le 10 bytes (i + 1) (omega arith))
 
--- the first place of a byte, or the length
-pub place_is : (bytes : List ℕ) (c i : ℕ) → i ≤ length bytes → ((k : ℕ) → k < i → get_or bytes k 0 ≡ c → ⊥) → (i < length bytes → get_or bytes i 0 ≡ c) → i ≡ position_or_len (λ b. eqb b c) bytes
-place_is bytes c i within before here =
+-- the first index of a byte, or the length
+pub index_is : (bytes : List ℕ) (c i : ℕ) → i ≤ length bytes → ((k : ℕ) → k < i → get_or bytes k 0 ≡ c → ⊥) → (i < length bytes → get_or bytes i 0 ≡ c) → i ≡ position_or_len (λ b. eqb b c) bytes
+index_is bytes c i within before here =
     sym (position_or_len_is (λ b. eqb b c) bytes i 0 within (λ k below. ne_eqb (get_or bytes k 0) c (before k below)) (λ below. eq-eqb (get_or bytes i 0) c (here below)))

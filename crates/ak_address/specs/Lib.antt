@@ -1,4 +1,4 @@
-pub mod Rows
+pub mod Pairs
 pub mod Spelling
 pub mod Table
 pub mod Unique

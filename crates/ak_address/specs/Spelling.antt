@@ -3,7 +3,7 @@
 use Rattle.std.specs.Prelude.{◌≡◌, ℕ, ◌<◌, ◌≤◌, ◌^◌, ◌==◌, List, ◌∷◌, ◌++◌, length, All, Result, Ok, Err, decimal}
 use Rattle.std.specs.List.{before_first, after_first}
 use Rattle.std.specs.Str.Parse.{AllDigits, digits_value}
-use Rattle.ak_address.specs.Unique.{Endpoint, Process, IsAddress, IsUnique, IsHost}
+use Rattle.ak_address.specs.Unique.{AddressModel, UniqueModel, IsAddress, IsUnique, IsHost}
 use Rattle.ak_address.specs.declared.parse.AddressFault.{AddressFault}
 use Rattle.ak_address.specs.declared.parse.AddressFault.TheVariants.{BadHost, BadPort, BadUid, NoMemory}
 
@@ -15,26 +15,26 @@ pub record IsNumber (bytes : List ℕ) (n : ℕ) : Type 0 where
   pub value : digits_value 10 bytes ≡ n
 
 -- the bytes are a host, `:` (58) and a number, and these are the parts of an address
-pub record SpellsAddress (bytes : List ℕ) (a : Endpoint) : Type 0 where
+pub record SpellsAddress (bytes : List ℕ) (a : AddressModel) : Type 0 where
   pub range : IsAddress a
   pub digits : List ℕ
   pub port : IsNumber digits a.port
   pub whole : bytes ≡ a.host ++ 58 ∷ digits
 
 -- the bytes are the spelling of an address, `#` (35) and a number, and these are the parts of a unique
-pub record SpellsUnique (bytes : List ℕ) (u : Process) : Type 0 where
+pub record SpellsUnique (bytes : List ℕ) (u : UniqueModel) : Type 0 where
   pub range : IsUnique u
-  pub front : List ℕ
+  pub prefix : List ℕ
   pub digits : List ℕ
-  pub address : SpellsAddress front u.address
+  pub address : SpellsAddress prefix u.address
   pub uid : IsNumber digits u.uid
-  pub whole : bytes ≡ front ++ 35 ∷ digits
+  pub whole : bytes ≡ prefix ++ 35 ∷ digits
 
 -- what is printed: the spelling without leading zeros
-abbrev pub address_text : Endpoint → List ℕ
+abbrev pub address_text : AddressModel → List ℕ
 address_text a = a.host ++ 58 ∷ decimal a.port
 
-abbrev pub unique_text : Process → List ℕ
+abbrev pub unique_text : UniqueModel → List ℕ
 unique_text u = address_text u.address ++ 35 ∷ decimal u.uid
 
 -- what stands before the first of a byte, or all where there is none

@@ -9,13 +9,13 @@ use Rattle.std.specs.Cmp.Lexicographic.{slice_cmp}
 use Rattle.std.specs.declared.cmp.Ordering.{Ordering}
 
 -- where a process is reached
-pub record Endpoint : Type 0 where
+pub record AddressModel : Type 0 where
   pub host : List ℕ
   pub port : ℕ
 
--- one process: a process that starts again at the same place has another uid
-pub record Process : Type 0 where
-  pub address : Endpoint
+-- one process: a process that starts again at the same address has another uid
+pub record UniqueModel : Type 0 where
+  pub address : AddressModel
   pub uid : ℕ
 
 -- a letter, a digit, `-`, `.` or `_`
@@ -29,27 +29,27 @@ pub record IsHost (bytes : List ℕ) : Type 0 where
   pub short : length bytes ≤ 64
   pub letters : IsTrue (list_all is_host_byte bytes)
 
-pub record IsAddress (a : Endpoint) : Type 0 where
+pub record IsAddress (a : AddressModel) : Type 0 where
   pub host : IsHost a.host
   pub port : 1 ≤ a.port
   pub port_fits : a.port < 2 ^ 16
 
-pub record IsUnique (u : Process) : Type 0 where
+pub record IsUnique (u : UniqueModel) : Type 0 where
   pub address : IsAddress u.address
   pub uid : 1 ≤ u.uid
   pub uid_fits : u.uid < 2 ^ 63
 
 -- by the bytes of the host, then by the port
-abbrev pub address_cmp : Endpoint → Endpoint → Ordering
+abbrev pub address_cmp : AddressModel → AddressModel → Ordering
 address_cmp a b = ordering_then (slice_cmp nat_cmp a.host b.host) (nat_cmp a.port b.port)
 
 -- by address, then by uid
-abbrev pub unique_cmp : Process → Process → Ordering
+abbrev pub unique_cmp : UniqueModel → UniqueModel → Ordering
 unique_cmp u v = ordering_then (address_cmp u.address v.address) (nat_cmp u.uid v.uid)
 
 -- an address is stored as the pair of its fields
-abbrev pub coded_address : Coded Endpoint
+abbrev pub coded_address : Coded AddressModel
 coded_address = code_by (List ℕ × ℕ) (coded× (coded_list coded_ℕ) coded_ℕ) (λ a. (a.host, a.port)) (λ p. record { host = p.0; port = p.1 }) (λ _. refl)
 
-abbrev pub coded_unique : Coded Process
-coded_unique = code_by (Endpoint × ℕ) (coded× coded_address coded_ℕ) (λ u. (u.address, u.uid)) (λ p. record { address = p.0; uid = p.1 }) (λ _. refl)
+abbrev pub coded_unique : Coded UniqueModel
+coded_unique = code_by (AddressModel × ℕ) (coded× coded_address coded_ℕ) (λ u. (u.address, u.uid)) (λ p. record { address = p.0; uid = p.1 }) (λ _. refl)

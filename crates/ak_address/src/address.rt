@@ -19,9 +19,9 @@ pub struct Address {
 }
 
 impl Model for Address {
-    ghost use Rattle.ak_address.specs.Unique.{Endpoint, coded_address, IsAddress};
+    ghost use Rattle.ak_address.specs.Unique.{AddressModel, coded_address, IsAddress};
 
-    ghost Value = { Endpoint };
+    ghost Value = { AddressModel };
 
     ghost coded = { coded_address };
 
@@ -70,9 +70,9 @@ pub struct Unique {
 }
 
 impl Model for Unique {
-    ghost use Rattle.ak_address.specs.Unique.{Process, coded_unique, IsUnique};
+    ghost use Rattle.ak_address.specs.Unique.{UniqueModel, coded_unique, IsUnique};
 
-    ghost Value = { Process };
+    ghost Value = { UniqueModel };
 
     ghost coded = { coded_unique };
 
@@ -110,9 +110,3 @@ impl Unique {
         print_unique(self.address.host.bytes(), self.address.port, self.uid, out)
     }
 }
-
-/// The orders of addresses and of processes are total, and only equal ones tie.
-pub fn orders_are_total()
-    ensures addresses { IsTotalOrder address_cmp × IsAntisymmetric address_cmp }
-    ensures uniques { IsTotalOrder unique_cmp × IsAntisymmetric unique_cmp }
-{}

@@ -3,6 +3,7 @@
 #![tactic(auto)]
 
 mod address;
+mod laws;
 mod parse;
 mod print;
 mod table;
@@ -12,12 +13,13 @@ mod text;
 mod uniques;
 mod values;
 
-pub use address::{Address, Unique, orders_are_total};
-pub use parse::{
-    AddressFault, parse_address, parse_number, parse_unique, spellings_are_words,
-    spellings_have_one_value,
+pub use address::{Address, Unique};
+pub use laws::{
+    merges_are_pointwise, orders_are_total, spellings_are_words, spellings_have_one_value,
+    texts_are_spellings,
 };
-pub use print::{print_number, print_wide_number, texts_are_spellings};
-pub use table::{Duplicate, Join, Table, joins_are_pointwise};
+pub use parse::{AddressFault, parse_address, parse_number, parse_unique};
+pub use print::{print_number, print_wide_number};
+pub use table::{Duplicate, Merge, Table};
 pub use text::Text;
 pub use uniques::Uniques;

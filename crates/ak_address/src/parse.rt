@@ -1,7 +1,7 @@
 ghost use Rattle.std.specs.Prelude.{◌≡◌, ℕ, ◌<◌, ◌≤◌, ◌^◌, ◌==◌, ◌↔◌, IsTrue, IfSome, IfNone, IfOk, IsErrOf, List, All, SomeIff};
 ghost use Rattle.std.specs.List.{position_or_len, list_all};
 ghost use Rattle.std.specs.Str.Parse.{AllDigits, digits_value};
-ghost use Rattle.ak_address.specs.Unique.{Endpoint, Process, IsHost, is_host_byte};
+ghost use Rattle.ak_address.specs.Unique.{AddressModel, UniqueModel, IsHost, is_host_byte};
 ghost use Rattle.ak_address.specs.Spelling.{IsNumber, IsPort, IsUid, SpellsAddress, SpellsUnique, IsWord, ReadsAs, ChecksPort, before_byte, after_byte};
 
 use crate::address::{Address, Unique};
@@ -87,7 +87,7 @@ pub fn parse_address(alloc: Global, bytes: &[u8]) -> Result<Address, AddressFaul
     ensures port { IsErrOf result AddressFault.BadPort
         ↔ (IsHost (before_byte 58 bytes.now) × (¬ IsPort (after_byte 58 bytes.now))) }
     ensures no_uid { ¬ IsErrOf result AddressFault.BadUid }
-    ensures only { (a : Endpoint) → SpellsAddress bytes.now a → ReadsAs result a }
+    ensures only { (a : AddressModel) → SpellsAddress bytes.now a → ReadsAs result a }
 {
     let (host, port) = split_at_byte(bytes, b':');
     let port = checked_port(host, port)?;
@@ -109,7 +109,7 @@ pub fn parse_unique(alloc: Global, bytes: &[u8]) -> Result<Unique, AddressFault>
     ensures uid { IsErrOf result AddressFault.BadUid
         ↔ (IsHost (before_byte 58 bytes.now) × IsPort (before_byte 35 (after_byte 58 bytes.now))
         × (¬ IsUid (after_byte 35 (after_byte 58 bytes.now)))) }
-    ensures only { (u : Process) → SpellsUnique bytes.now u → ReadsAs result u }
+    ensures only { (u : UniqueModel) → SpellsUnique bytes.now u → ReadsAs result u }
 {
     let (host, rest) = split_at_byte(bytes, b':');
     let (port, uid) = split_at_byte(rest, b'#');
@@ -155,14 +155,14 @@ fn split_at_byte(bytes: &[u8], separator: u8) -> (&[u8], &[u8])
     ensures before { result.0.now ≡ before_byte separator bytes.now }
     ensures after { result.1.now ≡ after_byte separator bytes.now }
 {
-    let place = place_of(bytes, separator);
-    if place < bytes.len() {
-        return (&bytes[..place], &bytes[place + 1..]);
+    let index = index_of(bytes, separator);
+    if index < bytes.len() {
+        return (&bytes[..index], &bytes[index + 1..]);
     }
     (bytes, &[])
 }
 
-fn place_of(bytes: &[u8], separator: u8) -> usize
+fn index_of(bytes: &[u8], separator: u8) -> usize
     ensures { result ≡ position_or_len (λ b. b == separator) bytes.now }
 {
     'bytes: for (i, byte) in bytes.iter().enumerate() {
@@ -172,22 +172,6 @@ fn place_of(bytes: &[u8], separator: u8) -> usize
     }
     bytes.len()
 }
-
-/// Bytes spell at most one number, one address and one unique.
-pub fn spellings_have_one_value()
-    ensures numbers { (bytes : List ℕ) (m n : ℕ) → IsNumber bytes m → IsNumber bytes n → m ≡ n }
-    ensures addresses { (bytes : List ℕ) (a b : Endpoint) → SpellsAddress bytes a → SpellsAddress bytes b → a ≡ b }
-    ensures uniques { (bytes : List ℕ) (u v : Process) → SpellsUnique bytes u → SpellsUnique bytes v → u ≡ v }
-{}
-
-/// A spelling has at least one byte, and no space and no line end: each byte is from `!` to `~`, and each of a
-/// number is a digit.
-pub fn spellings_are_words()
-    ensures numbers { (bytes : List ℕ) (n : ℕ) → IsNumber bytes n → IsWord bytes }
-    ensures digits { (bytes : List ℕ) (n : ℕ) → IsNumber bytes n → All (λ b. (48 ≤ b) × (b ≤ 57)) bytes }
-    ensures addresses { (bytes : List ℕ) (a : Endpoint) → SpellsAddress bytes a → IsWord bytes }
-    ensures uniques { (bytes : List ℕ) (u : Process) → SpellsUnique bytes u → IsWord bytes }
-{}
 
 #[cfg(test)]
 mod tests {

@@ -1,5 +1,5 @@
 ghost use Rattle.std.specs.Prelude.{◌≡◌, ℕ, ◌<◌, ◌^◌, ◌∷◌, ◌++◌, OnOk, OnErr, decimal, take, vec_len};
-ghost use Rattle.ak_address.specs.Unique.{Endpoint, Process, IsAddress, IsUnique};
+ghost use Rattle.ak_address.specs.Unique.{AddressModel, UniqueModel, IsAddress, IsUnique};
 ghost use Rattle.ak_address.specs.Spelling.{IsNumber, SpellsAddress, SpellsUnique, address_text, unique_text};
 
 use itoa::Buffer;
@@ -51,7 +51,7 @@ pub fn print_unique(host: &[u8], port: u16, uid: u64, out: &mut Vec<u8>) -> Resu
     printed
 }
 
-// Where memory runs out some of it may stand behind what `out` had.
+// Where memory runs out some of it may stand after what `out` had.
 fn append_address(host: &[u8], port: u16, out: &mut Vec<u8>) -> Result<(), AllocError>
     ensures ok { OnOk result (out.new.items ≡ out.old.items ++ (host.now ++ 58 ∷ decimal port)) }
     ensures err { OnErr result (take (vec_len out.old) out.new.items ≡ out.old.items) }
@@ -61,7 +61,7 @@ fn append_address(host: &[u8], port: u16, out: &mut Vec<u8>) -> Result<(), Alloc
     print_number(u64::from(port), out)
 }
 
-// Where memory runs out some of it may stand behind what `out` had.
+// Where memory runs out some of it may stand after what `out` had.
 fn append_unique(host: &[u8], port: u16, uid: u64, out: &mut Vec<u8>) -> Result<(), AllocError>
     ensures ok { OnOk result (out.new.items ≡ out.old.items ++ (host.now ++ 58 ∷ decimal port ++ 35 ∷ decimal uid)) }
     ensures err { OnErr result (take (vec_len out.old) out.new.items ≡ out.old.items) }
@@ -70,10 +70,3 @@ fn append_unique(host: &[u8], port: u16, uid: u64, out: &mut Vec<u8>) -> Result<
     out.push(b'#')?;
     print_number(uid, out)
 }
-
-/// What is printed of a number, an address or a unique spells it.
-pub fn texts_are_spellings()
-    ensures numbers { (n : ℕ) → n < 2 ^ 64 → IsNumber (decimal n) n }
-    ensures addresses { (a : Endpoint) → IsAddress a → SpellsAddress (address_text a) a }
-    ensures uniques { (u : Process) → IsUnique u → SpellsUnique (unique_text u) u }
-{}

@@ -1,8 +1,8 @@
 ghost use Rattle.std.specs.Prelude.{◌≡◌, IfOk, OnOk, OnErr, IsOk, IsSome, IsTrue, [], ◌∷◌, ◌++◌, slice_get, option_map, option_copied, if◌then◌else◌};
 ghost use Rattle.std.specs.FinMap as map;
-ghost use Rattle.ak_address.specs.Unique.{Process, unique_cmp};
-ghost use Rattle.ak_address.specs.Rows.{place, woven};
-ghost use Rattle.ak_address.specs.Table.{joined, joined_at};
+ghost use Rattle.ak_address.specs.Unique.{UniqueModel, unique_cmp};
+ghost use Rattle.ak_address.specs.Pairs.{index, woven};
+ghost use Rattle.ak_address.specs.Table.{merged_tables, merged_at};
 
 use crate::address::Unique;
 use std::alloc::{AllocError, Global};
@@ -15,14 +15,14 @@ pub trait Duplicate: Sized {
         ensures { IfOk result (λ copy. copy ≡ self.now) };
 }
 
-/// A value that can be joined with another of its kind, as the greater of two counts.
-pub trait Join: Duplicate {
+/// A value that can be merged with another of its kind, as the greater of two counts.
+pub trait Merge: Duplicate {
     /// What the two come to.
-    ghost join: { Self → Self → Self };
+    ghost merged: { Self → Self → Self };
 
-    /// The join of the two values, which stay as they are. Only memory can fail.
-    fn join(&self, alloc: Global, other: &Self) -> Result<Self, AllocError>
-        ensures { IfOk result (λ both. both ≡ join self.now other.now) };
+    /// The merge of the two values, which stay as they are. Only memory can fail.
+    fn merged(&self, alloc: Global, other: &Self) -> Result<Self, AllocError>
+        ensures { IfOk result (λ both. both ≡ merged self.now other.now) };
 }
 
 /// A finite map from processes to values, in the order of processes. All that is kept by process
@@ -69,11 +69,11 @@ impl<V> Table<V> {
         self.entries.len()
     }
 
-    /// The process and the value at a place, from 0 on in the order of processes; none past the end.
-    pub fn at(&self, place: usize) -> Option<(&Unique, &V)>
-        ensures { option_map (λ row. (row.0.now, row.1.now)) result ≡ slice_get (map.entries self.now) place }
+    /// The process and the value at an index, from 0 on in the order of processes; none past the end.
+    pub fn at(&self, index: usize) -> Option<(&Unique, &V)>
+        ensures { option_map (λ pair. (pair.0.now, pair.1.now)) result ≡ slice_get (map.entries self.now) index }
     {
-        row_at(&self.entries, place)
+        pair_at(&self.entries, index)
     }
 }
 
@@ -85,12 +85,12 @@ impl<V: Drop> Table<V> {
         ensures err { OnErr result (self.new ≡ self.old) }
         ensures present { IsSome (map.get self.old who) → IsOk result }
     {
-        match place_of(&self.entries, &who) {
-            Ok(place) => {
-                self.entries[place] = (who, value);
+        match index_of(&self.entries, &who) {
+            Ok(index) => {
+                self.entries[index] = (who, value);
                 Ok(())
             }
-            Err(place) => Ok(self.entries.insert(place, (who, value))?),
+            Err(index) => Ok(self.entries.insert(index, (who, value))?),
         }
     }
 
@@ -99,9 +99,9 @@ impl<V: Drop> Table<V> {
         ensures has { result ≡ map.contains_key self.old who.now }
         ensures after { self.new ≡ (if result then map.insert self.old who.now value else self.old) }
     {
-        match place_of(&self.entries, who) {
-            Ok(place) => {
-                self.entries[place].1 = value;
+        match index_of(&self.entries, who) {
+            Ok(index) => {
+                self.entries[index].1 = value;
                 true
             }
             Err(_) => false,
@@ -112,9 +112,9 @@ impl<V: Drop> Table<V> {
     pub fn remove(&mut self, who: &Unique)
         ensures { self.new ≡ map.remove self.old who.now }
     {
-        match place_of(&self.entries, who) {
-            Ok(place) => {
-                let _ = self.entries.remove(place);
+        match index_of(&self.entries, who) {
+            Ok(index) => {
+                let _ = self.entries.remove(index);
             }
             Err(_) => {}
         }
@@ -132,11 +132,11 @@ impl<V: Duplicate + Drop> Table<V> {
     }
 }
 
-impl<V: Join + Drop> Table<V> {
+impl<V: Merge + Drop> Table<V> {
     /// Takes in another table: a process that one of the two has keeps its value, and where both have it, the
-    /// values are joined. After an error the table is as it was.
+    /// values are merged. After an error the table is as it was.
     pub fn merge(&mut self, alloc: Global, other: &Table<V>) -> Result<(), AllocError>
-        ensures ok { OnOk result (self.new ≡ joined V.join self.old other.now) }
+        ensures ok { OnOk result (self.new ≡ merged_tables V.merged self.old other.now) }
         ensures err { OnErr result (self.new ≡ self.old) }
     {
         let entries = weave(alloc, &self.entries, &other.entries)?;
@@ -145,16 +145,10 @@ impl<V: Join + Drop> Table<V> {
     }
 }
 
-/// What a join of tables is, at each process: what the two say of it together. Two tables that answer alike at
-/// each process are equal, so this is all of it.
-pub fn joins_are_pointwise<V: Join>()
-    ensures { (m n : map.FinMap unique_cmp V) (q : Process) → map.get (joined V.join m n) q ≡ joined_at V.join (map.get m q) (map.get n q) }
-{}
-
 // Where the process stands, or as an error where it would go: a search by halves.
-fn place_of<V>(entries: &[(Unique, V)], who: &Unique) -> Result<usize, usize>
+fn index_of<V>(entries: &[(Unique, V)], who: &Unique) -> Result<usize, usize>
     requires { IsTrue (map.is_sorted unique_cmp entries.now) }
-    ensures { result ≡ place unique_cmp who.now entries.now }
+    ensures { result ≡ index unique_cmp who.now entries.now }
 {
     let mut low = 0;
     let mut high = entries.len();
@@ -178,91 +172,91 @@ fn value_of<'a, V>(entries: &'a [(Unique, V)], who: &Unique) -> Option<&'a V>
     requires { IsTrue (map.is_sorted unique_cmp entries.now) }
     ensures { option_copied result ≡ map.find unique_cmp who.now entries.now }
 {
-    match place_of(entries, who) {
-        Ok(place) => Some(&entries[place].1),
+    match index_of(entries, who) {
+        Ok(index) => Some(&entries[index].1),
         Err(_) => None,
     }
 }
 
-fn row_at<V>(entries: &[(Unique, V)], place: usize) -> Option<(&Unique, &V)>
-    ensures { option_map (λ row. (row.0.now, row.1.now)) result ≡ slice_get entries.now place }
+fn pair_at<V>(entries: &[(Unique, V)], index: usize) -> Option<(&Unique, &V)>
+    ensures { option_map (λ pair. (pair.0.now, pair.1.now)) result ≡ slice_get entries.now index }
 {
-    if place < entries.len() {
-        let entry = &entries[place];
+    if index < entries.len() {
+        let entry = &entries[index];
         return Some((&entry.0, &entry.1));
     }
     None
 }
 
-// Appends an equal row.
+// Appends an equal pair.
 fn push_copy<V: Duplicate + Drop>(
     alloc: Global,
-    rows: &mut Vec<(Unique, V)>,
-    row: &(Unique, V),
+    pairs: &mut Vec<(Unique, V)>,
+    pair: &(Unique, V),
 ) -> Result<(), AllocError>
-    ensures { OnOk result (rows.new.items ≡ rows.old.items ++ row.now ∷ []) }
+    ensures { OnOk result (pairs.new.items ≡ pairs.old.items ++ pair.now ∷ []) }
 {
-    let who = row.0.copy(alloc)?;
-    let value = row.1.copy(alloc)?;
-    rows.push((who, value))?;
+    let who = pair.0.copy(alloc)?;
+    let value = pair.1.copy(alloc)?;
+    pairs.push((who, value))?;
     Ok(())
 }
 
-// Appends equal rows.
+// Appends equal pairs.
 fn push_copies<V: Duplicate + Drop>(
     alloc: Global,
-    rows: &mut Vec<(Unique, V)>,
+    pairs: &mut Vec<(Unique, V)>,
     more: &[(Unique, V)],
 ) -> Result<(), AllocError>
-    ensures { OnOk result (rows.new.items ≡ rows.old.items ++ more.now) }
+    ensures { OnOk result (pairs.new.items ≡ pairs.old.items ++ more.now) }
 {
-    'rows: for row in more {
-        push_copy(alloc, rows, row)?;
+    'pairs: for pair in more {
+        push_copy(alloc, pairs, pair)?;
     }
     Ok(())
 }
 
-// The rows of both lists in order, two of one process joined: one walk along both.
-fn weave<V: Join + Drop>(
+// The pairs of both lists in order, two of one process merged: one walk along both.
+fn weave<V: Merge + Drop>(
     alloc: Global,
     left: &[(Unique, V)],
     right: &[(Unique, V)],
 ) -> Result<Vec<(Unique, V)>, AllocError>
-    ensures { IfOk result (λ rows. rows.items ≡ woven unique_cmp V.join left.now right.now) }
+    ensures { IfOk result (λ pairs. pairs.items ≡ woven unique_cmp V.merged left.now right.now) }
 {
-    let mut rows = Vec::with_capacity(alloc, left.len().max(right.len()))?;
+    let mut pairs = Vec::with_capacity(alloc, left.len().max(right.len()))?;
     let mut i = 0;
     let mut j = 0;
-    'rows: while i < left.len() && j < right.len() {
+    'pairs: while i < left.len() && j < right.len() {
         let order = left[i].0.compare(&right[j].0);
         if order.is_lt() {
-            push_copy(alloc, &mut rows, &left[i])?;
+            push_copy(alloc, &mut pairs, &left[i])?;
             i += 1;
         } else if order.is_eq() {
-            push_join(alloc, &mut rows, &left[i], &right[j])?;
+            push_merge(alloc, &mut pairs, &left[i], &right[j])?;
             i += 1;
             j += 1;
         } else {
-            push_copy(alloc, &mut rows, &right[j])?;
+            push_copy(alloc, &mut pairs, &right[j])?;
             j += 1;
         }
     }
-    push_copies(alloc, &mut rows, &left[i..])?;
-    push_copies(alloc, &mut rows, &right[j..])?;
-    Ok(rows)
+    push_copies(alloc, &mut pairs, &left[i..])?;
+    push_copies(alloc, &mut pairs, &right[j..])?;
+    Ok(pairs)
 }
 
-// Appends the row that two rows of one process come to.
-fn push_join<V: Join + Drop>(
+// Appends the pair that two pairs of one process come to.
+fn push_merge<V: Merge + Drop>(
     alloc: Global,
-    rows: &mut Vec<(Unique, V)>,
+    pairs: &mut Vec<(Unique, V)>,
     left: &(Unique, V),
     right: &(Unique, V),
 ) -> Result<(), AllocError>
-    ensures { OnOk result (rows.new.items ≡ rows.old.items ++ (left.now.0, V.join left.now.1 right.now.1) ∷ []) }
+    ensures { OnOk result (pairs.new.items ≡ pairs.old.items ++ (left.now.0, V.merged left.now.1 right.now.1) ∷ []) }
 {
     let who = left.0.copy(alloc)?;
-    let value = left.1.join(alloc, &right.1)?;
-    rows.push((who, value))?;
+    let value = left.1.merged(alloc, &right.1)?;
+    pairs.push((who, value))?;
     Ok(())
 }

@@ -17,9 +17,9 @@ fn process(alloc: Global, uid: u32) -> Result<Unique, AllocError>
 }
 
 // The table of these uids and counts, put in from the left.
-fn table_of(alloc: Global, rows: &[(u32, u64)]) -> Result<Table<u64>, AllocError> {
+fn table_of(alloc: Global, pairs: &[(u32, u64)]) -> Result<Table<u64>, AllocError> {
     let mut table = Table::empty(alloc);
-    for &(uid, count) in rows {
+    for &(uid, count) in pairs {
         if uid >= 1 {
             let who = process(alloc, uid)?;
             table.insert(who, count)?;
@@ -51,16 +51,16 @@ fn set_of(alloc: Global, uids: &[u32]) -> Result<Uniques, AllocError> {
     set.copy(alloc)
 }
 
-// The uid and the count at a place, zeros past the end.
-fn row(table: &Table<u64>, place: usize) -> (u64, u64) {
-    match table.at(place) {
+// The uid and the count at an index, zeros past the end.
+fn pair(table: &Table<u64>, index: usize) -> (u64, u64) {
+    match table.at(index) {
         Some((who, count)) => (who.uid, *count),
         None => (0, 0),
     }
 }
 
-fn uid(set: &Uniques, place: usize) -> u64 {
-    match set.at(place) {
+fn uid(set: &Uniques, index: usize) -> u64 {
+    match set.at(index) {
         Some(who) => who.uid,
         None => 0,
     }
@@ -70,12 +70,12 @@ fn uid(set: &Uniques, place: usize) -> u64 {
 fn tables_stand_in_order_and_merge(rt: HostRuntime) -> Result<(), Fail> {
     let table = table_of(rt.alloc(), &[(3, 30), (1, 10), (3, 31)])?;
     assert_eq!(rt;
-        [row(&table, 0), row(&table, 1), row(&table, 2)],
+        [pair(&table, 0), pair(&table, 1), pair(&table, 2)],
         [(1, 10), (3, 31), (0, 0)]
     );
     let both = merged(rt.alloc(), &[(3, 31), (1, 10)], &[(3, 29), (2, 20)])?;
     assert_eq!(rt;
-        [row(&both, 0), row(&both, 1), row(&both, 2)],
+        [pair(&both, 0), pair(&both, 1), pair(&both, 2)],
         [(1, 10), (2, 20), (3, 31)]
     );
     Ok(())

@@ -68,11 +68,11 @@ impl Uniques {
         self.table.len()
     }
 
-    /// The process at a place, from 0 on in the order of processes; none past the end.
-    pub fn at(&self, place: usize) -> Option<&Unique>
-        ensures { option_copied result ≡ slice_get (in_order self.now) place }
+    /// The process at an index, from 0 on in the order of processes; none past the end.
+    pub fn at(&self, index: usize) -> Option<&Unique>
+        ensures { option_copied result ≡ slice_get (in_order self.now) index }
     {
-        match self.table.at(place) {
+        match self.table.at(index) {
             Some((who, _)) => Some(who),
             None => None,
         }

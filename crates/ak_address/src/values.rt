@@ -1,7 +1,7 @@
 ghost use Rattle.std.specs.Prelude.{max};
 
 use crate::address::Unique;
-use crate::table::{Duplicate, Join};
+use crate::table::{Duplicate, Merge};
 use std::alloc::{AllocError, Global};
 
 impl Duplicate for () {
@@ -29,10 +29,10 @@ impl Duplicate for Unique {
 }
 
 /// A process that both sets have is in the set of both.
-impl Join for () {
-    ghost join = { λ _ _. tt };
+impl Merge for () {
+    ghost merged = { λ _ _. tt };
 
-    fn join(&self, alloc: Global, other: &()) -> Result<(), AllocError> {
+    fn merged(&self, alloc: Global, other: &()) -> Result<(), AllocError> {
         let _ = alloc;
         let _ = other;
         Ok(())
@@ -40,10 +40,10 @@ impl Join for () {
 }
 
 /// Two counts of one process come to the greater: counts only rise, so the greater is the newer.
-impl Join for u64 {
-    ghost join = { max };
+impl Merge for u64 {
+    ghost merged = { max };
 
-    fn join(&self, _alloc: Global, other: &u64) -> Result<u64, AllocError> {
+    fn merged(&self, _alloc: Global, other: &u64) -> Result<u64, AllocError> {
         Ok((*self).max(*other))
     }
 }

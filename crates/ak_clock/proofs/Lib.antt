@@ -1,2 +1,2 @@
 pub mod VersionLaws
-mod Walk
+mod WalkLemmas

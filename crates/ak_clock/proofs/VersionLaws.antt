@@ -3,33 +3,33 @@ use Rattle.std.proofs.Common.{◌≡◌, ◌≢◌, ℕ, zero, suc, ◌+◌, ◌
 use Rattle.std.proofs.lemmas.Bool.{lt-leb}
 use Rattle.std.specs.List.{list_all}
 use Rattle.std.specs.FinMap as map
-use Rattle.ak_address.specs.Unique.{Process}
-use Rattle.ak_address.specs.Table.{joined_at}
-use Rattle.ak_address.proofs.TableLaws.{same_table, get-empty, get-insert_here, get-insert_elsewhere, get-joined, get_at, place_of_get, same_or_apart}
+use Rattle.ak_address.specs.Unique.{UniqueModel}
+use Rattle.ak_address.specs.Table.{merged_at}
+use Rattle.ak_address.proofs.TableLaws.{same_table, get-empty, get-insert_here, get-insert_elsewhere, get-merged_tables, get_at, index_of_get, same_or_apart}
 use Rattle.ak_clock.specs.declared.version.TheConstants.{BOUND}
 use Rattle.ak_clock.specs.declared.version.Relation.{Relation}
 use Rattle.ak_clock.specs.declared.version.Relation.TheVariants.{Same, Before, After, Concurrent}
 use Rattle.ak_clock.specs.Version.{Counts, count, IsVersion, Covers, Relates, covers, relation_by, relation, merged, bumped, reaching}
 
 -- ---- one process
-max_at : (a b : Option ℕ) → unwrap_or (joined_at max a b) 0 ≡ max (unwrap_or a 0) (unwrap_or b 0)
+max_at : (a b : Option ℕ) → unwrap_or (merged_at max a b) 0 ≡ max (unwrap_or a 0) (unwrap_or b 0)
 max_at None b = omega arith
 max_at (Some x) None = omega arith
 max_at (Some x) (Some y) = refl
 
-swapped : (a b : Option ℕ) → joined_at max a b ≡ joined_at max b a
+swapped : (a b : Option ℕ) → merged_at max a b ≡ merged_at max b a
 swapped None None = refl
 swapped None (Some y) = refl
 swapped (Some x) None = refl
 swapped (Some x) (Some y) = ap Some (omega arith)
 
-grouped : (a b c : Option ℕ) → joined_at max (joined_at max a b) c ≡ joined_at max a (joined_at max b c)
+grouped : (a b c : Option ℕ) → merged_at max (merged_at max a b) c ≡ merged_at max a (merged_at max b c)
 grouped None b c = refl
 grouped (Some x) None c = refl
 grouped (Some x) (Some y) None = refl
 grouped (Some x) (Some y) (Some z) = ap Some (omega arith)
 
-twice : (a : Option ℕ) → joined_at max a a ≡ a
+twice : (a : Option ℕ) → merged_at max a a ≡ a
 twice None = refl
 twice (Some x) = ap Some (omega arith)
 
@@ -39,26 +39,26 @@ same_at None (Some y) p q e = absurd (q (ap Some (sym e)))
 same_at (Some x) None p q e = absurd (p (ap Some e))
 same_at (Some x) (Some y) p q e = ap Some e
 
-no_zero_at : (a b : Option ℕ) → a ≢ Some 0 → b ≢ Some 0 → joined_at max a b ≢ Some 0
+no_zero_at : (a b : Option ℕ) → a ≢ Some 0 → b ≢ Some 0 → merged_at max a b ≢ Some 0
 no_zero_at None b p q e = q e
 no_zero_at (Some x) None p q e = p e
 no_zero_at (Some x) (Some y) p q e = let zero_max : max x y ≡ 0 = ap (λ o. unwrap_or o 0) e in p (ap Some (omega arith))
 
 -- ---- counts
-pub count-empty : (u : Process) → count map.empty u ≡ 0
+pub count-empty : (u : UniqueModel) → count map.empty u ≡ 0
 count-empty u = ap (λ o. unwrap_or o 0) (get-empty u)
 
-pub count-merged : (v w : Counts) (u : Process) → count (merged v w) u ≡ max (count v u) (count w u)
-count-merged v w u = ap (λ o. unwrap_or o 0) (get-joined max v w u) ∙ max_at (map.get v u) (map.get w u)
+pub count-merged : (v w : Counts) (u : UniqueModel) → count (merged v w) u ≡ max (count v u) (count w u)
+count-merged v w u = ap (λ o. unwrap_or o 0) (get-merged_tables max v w u) ∙ max_at (map.get v u) (map.get w u)
 
-pub count-bumped_author : (v : Counts) (u : Process) → count (bumped v u) u ≡ count v u + 1
+pub count-bumped_author : (v : Counts) (u : UniqueModel) → count (bumped v u) u ≡ count v u + 1
 count-bumped_author v u = ap (λ o. unwrap_or o 0) (get-insert_here v u (count v u + 1))
 
-pub count-bumped_others : (v : Counts) (u q : Process) → q ≢ u → count (bumped v u) q ≡ count v q
+pub count-bumped_others : (v : Counts) (u q : UniqueModel) → q ≢ u → count (bumped v u) q ≡ count v q
 count-bumped_others v u q apart = ap (λ o. unwrap_or o 0) (get-insert_elsewhere v u (count v u + 1) q apart)
 
 -- two versions that count alike are equal
-pub same_version : (v w : Counts) → IsVersion v → IsVersion w → ((u : Process) → count v u ≡ count w u) → v ≡ w
+pub same_version : (v w : Counts) → IsVersion v → IsVersion w → ((u : UniqueModel) → count v u ≡ count w u) → v ≡ w
 same_version v w p q is = same_table v w (λ u. same_at (map.get v u) (map.get w u) (p.no_zero u) (q.no_zero u) (is u))
 
 -- ---- versions stay versions
@@ -70,7 +70,7 @@ empty_is_version = record {
 
 pub merged_is_version : (v w : Counts) → IsVersion v → IsVersion w → IsVersion (merged v w)
 merged_is_version v w p q = record {
-  no_zero = λ u e. no_zero_at (map.get v u) (map.get w u) (p.no_zero u) (q.no_zero u) (sym (get-joined max v w u) ∙ e);
+  no_zero = λ u e. no_zero_at (map.get v u) (map.get w u) (p.no_zero u) (q.no_zero u) (sym (get-merged_tables max v w u) ∙ e);
   bounded = λ u. omega (arith, count-merged v w u, p.bounded u, q.bounded u);
 }
 
@@ -79,10 +79,10 @@ pub still_version : {A E : Type 0} (r : Result A E) (n v w : Counts) → OnOk r 
 still_version (Ok x) n v w ok err p q = subst IsVersion (sym ok) (merged_is_version v w p q)
 still_version (Err e) n v w ok err p q = subst IsVersion (sym err) p
 
-pub bumped_is_version : (v : Counts) (a : Process) → IsVersion v → count v a < BOUND → IsVersion (bumped v a)
+pub bumped_is_version : (v : Counts) (a : UniqueModel) → IsVersion v → count v a < BOUND → IsVersion (bumped v a)
 bumped_is_version v a p room = record { no_zero = no_zero; bounded = bounded }
   where
-    no_zero : (u : Process) → map.get (bumped v a) u ≢ Some 0
+    no_zero : (u : UniqueModel) → map.get (bumped v a) u ≢ Some 0
     no_zero u e = elim (same_or_apart u a) [
       | inl same ↦
           let is : map.get (bumped v a) a ≡ Some 0 = subst (λ k. map.get (bumped v a) k ≡ Some 0) same e in
@@ -91,48 +91,48 @@ bumped_is_version v a p room = record { no_zero = no_zero; bounded = bounded }
       | inr apart ↦ p.no_zero u (sym (get-insert_elsewhere v a (count v a + 1) u apart) ∙ e)
     ]
 
-    bounded : (u : Process) → count (bumped v a) u ≤ BOUND
+    bounded : (u : UniqueModel) → count (bumped v a) u ≤ BOUND
     bounded u = elim (same_or_apart u a) [
       | inl same ↦ subst (λ k. count (bumped v a) k ≤ BOUND) (sym same) (omega (arith, count-bumped_author v a, room))
       | inr apart ↦ omega (arith, count-bumped_others v a u apart, p.bounded u)
     ]
 
 -- ---- at least so many
-reaching-by : Bool → Counts → Process → ℕ → Counts
+reaching-by : Bool → Counts → UniqueModel → ℕ → Counts
 reaching-by b v u n = if b then v else map.insert v u n
 
-pub reaching-stays : (v : Counts) (u : Process) (n : ℕ) → n ≤ count v u → reaching v u n ≡ v
+pub reaching-stays : (v : Counts) (u : UniqueModel) (n : ℕ) → n ≤ count v u → reaching v u n ≡ v
 unfolding reaching-by
 reaching-stays v u n le = ap (λ b. reaching-by b v u n) (le-leb n (count v u) le)
 
-pub reaching-rises : (v : Counts) (u : Process) (n : ℕ) → count v u < n → reaching v u n ≡ map.insert v u n
+pub reaching-rises : (v : Counts) (u : UniqueModel) (n : ℕ) → count v u < n → reaching v u n ≡ map.insert v u n
 unfolding reaching-by
 reaching-rises v u n lt = ap (λ b. reaching-by b v u n) (lt-leb n (count v u) lt)
 
-pub reaching-cases : (v : Counts) (u : Process) (n : ℕ) → (reaching v u n ≡ v) × (n ≤ count v u) ⊎ (reaching v u n ≡ map.insert v u n) × (count v u < n)
+pub reaching-cases : (v : Counts) (u : UniqueModel) (n : ℕ) → (reaching v u n ≡ v) × (n ≤ count v u) ⊎ (reaching v u n ≡ map.insert v u n) × (count v u < n)
 reaching-cases v u n =
     elim (leb n (count v u)) as (λ b. leb n (count v u) ≡ b → (reaching v u n ≡ v) × (n ≤ count v u) ⊎ (reaching v u n ≡ map.insert v u n) × (count v u < n)) [
       | true ↦ λ h. let le = leb-true n (count v u) h in inl (reaching-stays v u n le, le)
       | false ↦ λ h. let lt = leb-false n (count v u) h in inr (reaching-rises v u n lt, lt)
     ] refl
 
-pub count-reaching_there : (v : Counts) (u : Process) (n : ℕ) → count (reaching v u n) u ≡ max n (count v u)
+pub count-reaching_there : (v : Counts) (u : UniqueModel) (n : ℕ) → count (reaching v u n) u ≡ max n (count v u)
 count-reaching_there v u n = elim (reaching-cases v u n) [
   | inl stays ↦ ap (λ (w : Counts). count w u) stays.0 ∙ omega (arith, stays.1)
   | inr rises ↦ ap (λ (w : Counts). count w u) rises.0 ∙ ap (λ o. unwrap_or o 0) (get-insert_here v u n) ∙ omega (arith, rises.1)
 ]
 
-pub count-reaching_others : (v : Counts) (u q : Process) (n : ℕ) → q ≢ u → count (reaching v u n) q ≡ count v q
+pub count-reaching_others : (v : Counts) (u q : UniqueModel) (n : ℕ) → q ≢ u → count (reaching v u n) q ≡ count v q
 count-reaching_others v u q n apart = elim (reaching-cases v u n) [
   | inl stays ↦ ap (λ (w : Counts). count w q) stays.0
   | inr rises ↦ ap (λ (w : Counts). count w q) rises.0 ∙ ap (λ o. unwrap_or o 0) (get-insert_elsewhere v u n q apart)
 ]
 
 -- a count above another is a count of a version
-pub inserted_is_version : (v : Counts) (a : Process) (n : ℕ) → IsVersion v → count v a < n → n ≤ BOUND → IsVersion (map.insert v a n)
+pub inserted_is_version : (v : Counts) (a : UniqueModel) (n : ℕ) → IsVersion v → count v a < n → n ≤ BOUND → IsVersion (map.insert v a n)
 inserted_is_version v a n p lt le = record { no_zero = none; bounded = within }
   where
-    none : (u : Process) → map.get (map.insert v a n) u ≢ Some 0
+    none : (u : UniqueModel) → map.get (map.insert v a n) u ≢ Some 0
     none u e = elim (same_or_apart u a) [
       | inl same ↦
           let zero_count : count (map.insert v a n) u ≡ 0 = ap (λ o. unwrap_or o 0) e in
@@ -141,7 +141,7 @@ inserted_is_version v a n p lt le = record { no_zero = none; bounded = within }
       | inr apart ↦ p.no_zero u (sym (get-insert_elsewhere v a n u apart) ∙ e)
     ]
 
-    within : (u : Process) → count (map.insert v a n) u ≤ BOUND
+    within : (u : UniqueModel) → count (map.insert v a n) u ≤ BOUND
     within u = elim (same_or_apart u a) [
       | inl same ↦
           let is : count (map.insert v a n) u ≡ n = ap (count (map.insert v a n)) same ∙ ap (λ o. unwrap_or o 0) (get-insert_here v a n) in
@@ -151,7 +151,7 @@ inserted_is_version v a n p lt le = record { no_zero = none; bounded = within }
           omega (arith, is, p.bounded u)
     ]
 
-pub reaching_is_version : (v : Counts) (a : Process) (n : ℕ) → IsVersion v → n ≤ BOUND → IsVersion (reaching v a n)
+pub reaching_is_version : (v : Counts) (a : UniqueModel) (n : ℕ) → IsVersion v → n ≤ BOUND → IsVersion (reaching v a n)
 reaching_is_version v a n p le = elim (reaching-cases v a n) [
   | inl stays ↦ subst IsVersion (sym stays.0) p
   | inr rises ↦ subst IsVersion (sym rises.0) (inserted_is_version v a n p rises.1 le)
@@ -181,24 +181,24 @@ pub merged_is_covered : (u v w : Counts) → Covers u v → Covers u w → Cover
 merged_is_covered u v w p q x = omega (arith, count-merged v w x, p x, q x)
 
 pub merged-comm : (v w : Counts) → merged v w ≡ merged w v
-merged-comm v w = same_table _ _ (λ u. get-joined max v w u ∙ swapped (map.get v u) (map.get w u) ∙ sym (get-joined max w v u))
+merged-comm v w = same_table _ _ (λ u. get-merged_tables max v w u ∙ swapped (map.get v u) (map.get w u) ∙ sym (get-merged_tables max w v u))
 
 pub merged-assoc : (u v w : Counts) → merged (merged u v) w ≡ merged u (merged v w)
 merged-assoc u v w = same_table _ _ (λ x.
-    get-joined max (merged u v) w x
-    ∙ ap (λ a. joined_at max a (map.get w x)) (get-joined max u v x)
+    get-merged_tables max (merged u v) w x
+    ∙ ap (λ a. merged_at max a (map.get w x)) (get-merged_tables max u v x)
     ∙ grouped (map.get u x) (map.get v x) (map.get w x)
-    ∙ ap (joined_at max (map.get u x)) (sym (get-joined max v w x))
-    ∙ sym (get-joined max u (merged v w) x))
+    ∙ ap (merged_at max (map.get u x)) (sym (get-merged_tables max v w x))
+    ∙ sym (get-merged_tables max u (merged v w) x))
 
 pub merged-idem : (v : Counts) → merged v v ≡ v
-merged-idem v = same_table _ _ (λ u. get-joined max v v u ∙ twice (map.get v u))
+merged-idem v = same_table _ _ (λ u. get-merged_tables max v v u ∙ twice (map.get v u))
 
 -- what is covered adds nothing
 pub merged_with_covered : (v w : Counts) → IsVersion v → IsVersion w → Covers v w → merged v w ≡ v
 merged_with_covered v w p q over = same_version (merged v w) v (merged_is_version v w p q) p (λ u. omega (arith, count-merged v w u, over u))
 
-pub bumped_covers : (v : Counts) (a : Process) → Covers (bumped v a) v
+pub bumped_covers : (v : Counts) (a : UniqueModel) → Covers (bumped v a) v
 bumped_covers v a u = elim (same_or_apart u a) [
   | inl same ↦ subst (λ k. count v k ≤ count (bumped v a) k) (sym same) (omega (arith, count-bumped_author v a))
   | inr apart ↦ omega (arith, count-bumped_others v a u apart)
@@ -233,16 +233,16 @@ covers_from_test v w all u =
     elim (map.get w u) as (λ o. map.get w u ≡ o → unwrap_or o 0 ≤ count v u) [
       | None ↦ λ _. omega arith
       | Some n ↦ λ is.
-          let there = place_of_get w u n is in
-          leb-true n (count v u) (passes_at (λ (row : Process × ℕ). leb row.1 (count v row.0)) (map.entries w) there.0 (u, n) all there.1)
+          let there = index_of_get w u n is in
+          leb-true n (count v u) (passes_at (λ (pair : UniqueModel × ℕ). leb pair.1 (count v pair.0)) (map.entries w) there.0 (u, n) all there.1)
     ] refl
 
 pub test_from_covers : (v w : Counts) → Covers v w → covers v w ≡ true
 unfolding covers
-test_from_covers v w over = all_pass (λ (row : Process × ℕ). leb row.1 (count v row.0)) (map.entries w) (λ i row is.
-    let here : count w row.0 ≡ row.1 = ap (λ o. unwrap_or o 0) (get_at w i row is) in
-    let least : row.1 ≤ count v row.0 = omega (arith, over row.0) in
-    le-leb row.1 (count v row.0) least)
+test_from_covers v w over = all_pass (λ (pair : UniqueModel × ℕ). leb pair.1 (count v pair.0)) (map.entries w) (λ i pair is.
+    let here : count w pair.0 ≡ pair.1 = ap (λ o. unwrap_or o 0) (get_at w i pair is) in
+    let least : pair.1 ≤ count v pair.0 = omega (arith, over pair.0) in
+    le-leb pair.1 (count v pair.0) least)
 
 pub covers_test : (v w : Counts) → (covers v w ≡ true) ↔ Covers v w
 covers_test v w = (covers_from_test v w, test_from_covers v w)
@@ -281,7 +281,7 @@ module _ (v w : Counts) (p : IsVersion v) (q : IsVersion w) where
   relation_exact r = (λ is. subst (λ r. Relates r v w) is relation_means, relation_from r)
 
 -- a stored count is from 1 to BOUND
-pub stored_count : (v : Counts) (u : Process) (n : ℕ) → IsVersion v → map.get v u ≡ Some n → (1 ≤ n) × (n ≤ BOUND)
+pub stored_count : (v : Counts) (u : UniqueModel) (n : ℕ) → IsVersion v → map.get v u ≡ Some n → (1 ≤ n) × (n ≤ BOUND)
 stored_count v u n p is =
     let here : count v u ≡ n = ap (λ o. unwrap_or o 0) is in
     let stored : n ≢ 0 = λ zeros. p.no_zero u (is ∙ ap Some zeros) in

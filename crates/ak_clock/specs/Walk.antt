@@ -1,10 +1,10 @@
 -- One walk along two lists of counts in the order of processes.
 use Rattle.std.specs.Prelude.{ℕ, Bool, true, false, ◌&&◌, List, [], ◌∷◌, nat_le}
 use Rattle.std.specs.FinMap.Entries.{by_order}
-use Rattle.ak_address.specs.Unique.{Process, unique_cmp}
+use Rattle.ak_address.specs.Unique.{UniqueModel, unique_cmp}
 
 -- whether each count of the second list is reached in the first
-abbrev pub reached : List (Process × ℕ) → List (Process × ℕ) → Bool
+abbrev pub reached : List (UniqueModel × ℕ) → List (UniqueModel × ℕ) → Bool
 reached [] [] = true
 reached [] (y ∷ ys) = false
 reached (x ∷ xs) [] = true

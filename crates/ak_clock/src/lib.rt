@@ -1,4 +1,4 @@
-//! Versions: how many entries of each process's history a node has seen. Gossip is compared and merged by them
+//! Versions: how many entries of each process's history a node knows. Gossip is compared and merged by them
 //! (Akka's Cluster Specification, "Gossip": vector clocks).
 #![tactic(auto)]
 
@@ -8,7 +8,7 @@ mod version;
 mod version_tests;
 
 pub use laws::{
-    bump_raises_one_count, covering_is_an_order, merge_is_a_join, merge_is_the_least_cover,
+    bump_raises_one_count, covering_is_an_order, merges_in_any_order, merge_is_the_least_cover,
     reaching_raises_one_count, relations_are_exact,
 };
 pub use version::{BOUND, Relation, Version};

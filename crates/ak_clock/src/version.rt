@@ -24,7 +24,7 @@ pub enum Relation {
     Concurrent,
 }
 
-/// A version: for each process, how many entries of its history are seen, from 1 to `BOUND`; a process that it
+/// A version: for each process, how many entries of its history are counted, from 1 to `BOUND`; a process that it
 /// does not have counts 0 (Akka's Cluster Specification, "Gossip": the vector clock of a gossip).
 #[derive(Drop)]
 pub struct Version {
@@ -47,7 +47,7 @@ impl Model for Version {
 }
 
 impl Version {
-    /// The version that has seen nothing. Takes no memory.
+    /// The version that counts nothing. Takes no memory.
     pub fn empty(alloc: Global) -> Version
         ensures { result ≡ map.empty }
     {
@@ -55,7 +55,7 @@ impl Version {
         Version { counts }
     }
 
-    /// How many entries of this process are seen: 0 where it has none, and at most `BOUND`.
+    /// How many entries of this process are counted: 0 where it has none, and at most `BOUND`.
     pub fn count(&self, who: &Unique) -> u64
         ensures value { result ≡ count self.now who.now }
         ensures bounded { result ≤ BOUND }
@@ -70,13 +70,13 @@ impl Version {
         self.counts.len()
     }
 
-    /// The process and its count, from 1 to `BOUND`, at a place, from 0 on in the order of processes; none past
+    /// The process and its count, from 1 to `BOUND`, at an index, from 0 on in the order of processes; none past
     /// the end.
-    pub fn at(&self, place: usize) -> Option<(&Unique, u64)>
-        ensures row { option_map (λ row. (row.0.now, row.1)) result ≡ slice_get (map.entries self.now) place }
-        ensures counted { IfSome result (λ row. (1 ≤ row.1) × (row.1 ≤ BOUND)) }
+    pub fn at(&self, index: usize) -> Option<(&Unique, u64)>
+        ensures pair { option_map (λ pair. (pair.0.now, pair.1)) result ≡ slice_get (map.entries self.now) index }
+        ensures counted { IfSome result (λ pair. (1 ≤ pair.1) × (pair.1 ≤ BOUND)) }
     {
-        match self.counts.at(place) {
+        match self.counts.at(index) {
             Some((who, n)) => Some((who, *n)),
             None => None,
         }
@@ -172,7 +172,7 @@ fn reaches(counts: &Table<u64>, others: &Table<u64>) -> bool
     ensures { result ≡ reached (map.entries counts.now) (map.entries others.now) }
 {
     let mut j = 0;
-    'rows: for i in 0..counts.len() {
+    'pairs: for i in 0..counts.len() {
         let Some((who, least)) = others.at(j) else {
             return true;
         };

@@ -52,8 +52,8 @@ fn merged(alloc: Global, left: (u64, u64), right: (u64, u64)) -> Result<Version,
     Ok(both)
 }
 
-fn row(version: &Version, place: usize) -> (u64, u64) {
-    match version.at(place) {
+fn pair(version: &Version, index: usize) -> (u64, u64) {
+    match version.at(index) {
         Some((who, count)) => (who.uid, count),
         None => (0, 0),
     }
@@ -81,8 +81,8 @@ fn versions_are_merged(rt: HostRuntime) -> Result<(), Fail> {
     let cases = [((2, 1), (1, 2), (2, 2)), ((0, 3), (1, 0), (1, 3))];
     for (left, right, wanted) in cases {
         let both = merged(rt.alloc(), left, right)?;
-        assert_eq!(rt; row(&both, 0), (1, wanted.0));
-        assert_eq!(rt; row(&both, 1), (2, wanted.1));
+        assert_eq!(rt; pair(&both, 0), (1, wanted.0));
+        assert_eq!(rt; pair(&both, 1), (2, wanted.1));
     }
     Ok(())
 }
@@ -95,7 +95,7 @@ fn counts_are_reached(rt: HostRuntime) -> Result<(), Fail> {
     for (least, wanted) in [(0, 2), (2, 2), (5, 5)] {
         let mut version = seen(alloc, (2, 1))?;
         version.reach(alloc, &who, least)?;
-        assert_eq!(rt; [row(&version, 0), row(&version, 1)], [(1, wanted), (2, 1)]);
+        assert_eq!(rt; [pair(&version, 0), pair(&version, 1)], [(1, wanted), (2, 1)]);
     }
     Ok(())
 }

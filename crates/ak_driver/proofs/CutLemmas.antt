@@ -4,11 +4,11 @@ use Rattle.std.specs.Prelude.{map, slice_get, IfSome}
 use Rattle.std.specs.List.{slice_split, onto_first, Contains}
 use Rattle.std.proofs.lemmas.List.Splits.{length-slice_split, slice_split-cons_yes, slice_split-cons_no}
 use Rattle.ak_schedule.specs.Line.{lines, begun, without_cr, most_bytes}
-use Rattle.ak_schedule.specs.Settings.{Setup}
+use Rattle.ak_schedule.specs.Settings.{SettingsModel}
 use Rattle.ak_schedule.specs.Schedule.{headers, SetsHeader}
 use Rattle.ak_schedule.specs.declared.settings.Header as header
 use Rattle.ak_schedule.proofs.Cutting.{begun_more}
-use Rattle.ak_driver.specs.InputWords.{IsPast}
+use Rattle.ak_driver.specs.InputContracts.{IsPast}
 use Rattle.ak_driver.specs.declared.replay.Code.{Code}
 use Rattle.ak_driver.specs.declared.replay.Code.TheVariants.{Malformed, BadHeader, Unlisted, UniqueUsed, AddressInUse, SecondFound, UnknownNode, NoPacket, TooManyStarts, PastLimit, NotBuilt}
 use Rattle.ak_world.specs.declared.world.Refused.{Refused}
@@ -16,7 +16,7 @@ use Rattle.ak_driver.specs.ReplayText.{Progress, Judgement, Judged, GoesOn, Repl
 use Rattle.ak_driver.specs.ReplayText.Judgement.{Passes, Sets, Steps, Refuses}
 use Rattle.ak_node.proofs.NodeLemmas.{not_none}
 
--- ---- the parts of two texts, one behind the other
+-- ---- the parts of two texts, one after the other
 abbrev pub parts_of : List ℕ → List (List ℕ)
 parts_of bytes = slice_split (λ b. b == 10) bytes
 
@@ -157,14 +157,14 @@ extends_length (line ∷ lines) [] e = absurd e
 extends_length (line ∷ []) (other ∷ longer) e = omega arith
 extends_length (line ∷ next ∷ lines) (other ∷ longer) e = let h = extends_length (next ∷ lines) longer e.1 in omega arith
 
--- bytes that pass a limit pass it with more behind them
+-- bytes that pass a limit pass it with more after them
 pub past_more : (bytes more : List ℕ) → IsPast bytes → IsPast (bytes ++ more)
 past_more bytes more (inl long) =
     inl (long_in (lines (bytes ++ more)) (extends_long (lines bytes) (lines (bytes ++ more)) (lines_extend bytes more) (has_long (lines bytes) long.0 long.1.0 long.1.1 long.1.2 long.2)))
 past_more bytes more (inr many) = inr (omega (arith, many, extends_length (lines bytes) (lines (bytes ++ more)) (lines_extend bytes more)))
 
 -- ---- the judgement of a line at which a replay stops
--- a line that is too long, or behind the last that may be
+-- a line that is too long, or after the last that may be
 abbrev Stops : Progress → List ℕ → Type 0
 Stops p line = (most_bytes < length line) ⊎ (most_lines < p.line)
 
@@ -172,12 +172,12 @@ never : (p : Progress) (line : List ℕ) → Stops p line → p.line ≤ most_li
 never p line (inl long) within short = omega arith
 never p line (inr over) within short = omega arith
 
-header_short : (line : List ℕ) (old new : Setup) (o : Option header.Header) → (o ≡ None → ⊥) → IfSome o (λ which. SetsHeader which line old new) → length line ≤ most_bytes
+header_short : (line : List ℕ) (old new : SettingsModel) (o : Option header.Header) → (o ≡ None → ⊥) → IfSome o (λ which. SetsHeader which line old new) → length line ≤ most_bytes
 header_short line old new None some sets = absurd (some refl)
 header_short line old new (Some which) some sets = sets.short
 
-sets_short : (p : Progress) (line : List ℕ) (setup : Setup) → p.headers < header_count → SetsNext p line setup → length line ≤ most_bytes
-sets_short p line setup heading sets = header_short line p.setup setup (slice_get headers p.headers) (not_none headers p.headers heading) sets
+sets_short : (p : Progress) (line : List ℕ) (settings : SettingsModel) → p.headers < header_count → SetsNext p line settings → length line ≤ most_bytes
+sets_short p line settings heading sets = header_short line p.settings settings (slice_get headers p.headers) (not_none headers p.headers heading) sets
 
 wants_event : (p : Progress) (line other : List ℕ) → Stops p other → WantsEvent p line → WantsEvent p other
 wants_event p line other stops w = record { in_limit = w.in_limit; not_passed = λ passed. never p other stops w.in_limit passed.short; running = w.running }
@@ -193,7 +193,7 @@ no_event p line why stops invalid = never p line stops invalid.0.in_limit invali
 refused_alike : (p : Progress) (line other : List ℕ) (code : Code) → Stops p line → Stops p other → Judged p line (Refuses code) → Judged p other (Refuses code)
 refused_alike p line other Malformed stops stopped j = (wants_event p line other stopped j.0, j.1, λ event spells. never p other stopped j.0.in_limit spells.short)
 refused_alike p line other BadHeader stops stopped j =
-    (wants_header p line other stopped j.0, λ setup sets. never p other stopped j.0.in_limit (sets_short p other setup j.0.heading sets))
+    (wants_header p line other stopped j.0, λ settings sets. never p other stopped j.0.in_limit (sets_short p other settings j.0.heading sets))
 refused_alike p line other PastLimit stops stopped (inl over) = inl over
 refused_alike p line other PastLimit stops stopped (inr many) = inr (wants_event p line other stopped many.0, many.1)
 refused_alike p line other Unlisted stops stopped j = absurd (no_event p line _ stops j)
@@ -208,12 +208,12 @@ refused_alike p line other NotBuilt stops stopped j = absurd (no_event p line _ 
 at_stop : (p : Progress) (line other : List ℕ) (judgement : Judgement) (Rest Then : Progress → ℕ → List ℕ → Type 0) (status : ℕ) (text : List ℕ) → Stops p line → Stops p other
     → Judged p line judgement → GoesOn p judgement Rest status text → ((j : Judgement) × Judged p other j × GoesOn p j Then status text) × (status ≡ 4)
 at_stop p line other Passes Rest Then status text stops stopped j g = absurd (never p line stops j.0 j.1.short)
-at_stop p line other (Sets setup) Rest Then status text stops stopped j g = absurd (never p line stops j.0.in_limit (sets_short p line setup j.0.heading j.1))
+at_stop p line other (Sets settings) Rest Then status text stops stopped j g = absurd (never p line stops j.0.in_limit (sets_short p line settings j.0.heading j.1))
 at_stop p line other (Steps event done) Rest Then status text stops stopped j g = absurd (never p line stops j.0.in_limit j.2.short)
 at_stop p line other (Refuses code) Rest Then status text stops stopped j g = ((Refuses code, refused_alike p line other code stops stopped j, g), g.0)
 
 -- ---- a whole replay
--- from this line on a line is too long, or the last is behind the last that may be
+-- from this line on a line is too long, or the last is after the last that may be
 abbrev StopsWithin : ℕ → List (List ℕ) → Type 0
 StopsWithin n lines = HasLong lines ⊎ (most_lines + 1 < n + length lines)
 
@@ -235,7 +235,7 @@ goes_on : (p : Progress) (line : List ℕ) (judgement : Judgement) (Rest Then : 
     → ((q : Progress) (s : ℕ) (t : List ℕ) → q.line ≡ p.line + 1 → p.line ≤ most_lines → Rest q s t → Then q s t × (s ≡ 4))
     → Judged p line judgement → GoesOn p judgement Rest status text → GoesOn p judgement Then status text × (status ≡ 4)
 goes_on p line Passes Rest Then status text next j g = next _ status text refl j.0 g
-goes_on p line (Sets setup) Rest Then status text next j g = next _ status text refl j.0.in_limit g
+goes_on p line (Sets settings) Rest Then status text next j g = next _ status text refl j.0.in_limit g
 goes_on p line (Steps event done) Rest Then status text next j g = let r = next _ status g.0 refl j.0.in_limit g.1 in ((g.0, r.0, g.2), r.1)
 goes_on p line (Refuses code) Rest Then status text next j g = (g, g.0)
 
@@ -266,7 +266,7 @@ first_none p (line ∷ lines) text e = inl e
 first_at_stop : (p : Progress) (line : List ℕ) (judgement : Judgement) (Rest : Progress → List ℕ → Type 0) (text : List ℕ) → Stops p line → Judged p line judgement
     → GoesOnPrinting p judgement Rest text → text ≡ []
 first_at_stop p line Passes Rest text stops j g = absurd (never p line stops j.0 j.1.short)
-first_at_stop p line (Sets setup) Rest text stops j g = absurd (never p line stops j.0.in_limit (sets_short p line setup j.0.heading j.1))
+first_at_stop p line (Sets settings) Rest text stops j g = absurd (never p line stops j.0.in_limit (sets_short p line settings j.0.heading j.1))
 first_at_stop p line (Steps event done) Rest text stops j g = absurd (never p line stops j.0.in_limit j.2.short)
 first_at_stop p line (Refuses code) Rest text stops j g = g
 
@@ -274,7 +274,7 @@ goes_on_printing : (p : Progress) (line : List ℕ) (judgement : Judgement) (Res
     → ((q : Progress) (t : List ℕ) → q.line ≡ p.line + 1 → p.line ≤ most_lines → Rest q t → Then q t)
     → Judged p line judgement → GoesOnPrinting p judgement Rest text → GoesOnPrinting p judgement Then text
 goes_on_printing p line Passes Rest Then text next j g = next _ text refl j.0 g
-goes_on_printing p line (Sets setup) Rest Then text next j g = next _ text refl j.0.in_limit g
+goes_on_printing p line (Sets settings) Rest Then text next j g = next _ text refl j.0.in_limit g
 goes_on_printing p line (Steps event done) Rest Then text next j g = (g.0, next _ g.0 refl j.0.in_limit g.1, g.2)
 goes_on_printing p line (Refuses code) Rest Then text next j g = g
 

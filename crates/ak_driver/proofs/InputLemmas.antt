@@ -11,7 +11,7 @@ use Rattle.std.proofs.lemmas.List.Splits.{slice_split-cons_no}
 use Rattle.ak_schedule.specs.Line.{lines, begun, without_cr, most_bytes}
 use Rattle.ak_schedule.proofs.Cutting.{begun_more}
 use Rattle.ak_schedule.proofs.LineParts.{others_stay}
-use Rattle.ak_driver.specs.InputWords.{IsPast, HasCome, IsExtent, Reads}
+use Rattle.ak_driver.specs.InputContracts.{IsPast, HasCome, IsExtent, Reads}
 use Rattle.ak_driver.proofs.CutLemmas.{parts_of, joined, meet, parts_meet, meet_last, without_cr_long, past_more}
 
 pub rest_falls : (past after : Bool) (most a b n : ℕ) → OnFalse after (a + n ≤ b) → past ≡ false → a < most → 0 < n → (if after then 0 else (most - b)) < (if past then 0 else (most - a))
@@ -81,7 +81,7 @@ length_lines_last : (seen : List ℕ) (before : List (List ℕ)) (last : List �
 length_lines_last seen before last some h =
     ap length (lines_last seen before last some h) ∙ omega (arith, length-append (map without_cr before) (without_cr last ∷ []), length-map before without_cr)
 
--- a line begins, or is there and empty, behind the last that may be
+-- a line begins, or is there and empty, after the last that may be
 pub past_lines : (seen : List ℕ) (b count : ℕ) → HasCome seen 200000 count → (b ≡ 10) ⊎ (b ≢ 10) → IsPast (seen ++ b ∷ [])
 past_lines seen b count h (inl is) =
     let parts = end_parts seen h.before h.last h.parts in
@@ -119,10 +119,10 @@ reads_whole (Some all) (Some left) None bytes p e q = absurd q
 reads_whole (Some all) (Some left) (Some rest) bytes p e q =
     inl (sym (p ∙ ap (λ (l : List ℕ). bytes ++ l) e ∙ append-nil bytes), sym q ∙ e)
 
-pub reads_front : (old new : Option (List ℕ)) (bytes : List ℕ) → Consumes old new bytes → IsPast bytes → IfSome old (λ all. Reads all bytes new)
-reads_front None new bytes p past = tt
-reads_front (Some all) None bytes p past = absurd p
-reads_front (Some all) (Some more) bytes p past = inr (more, p, past)
+pub reads_prefix : (old new : Option (List ℕ)) (bytes : List ℕ) → Consumes old new bytes → IsPast bytes → IfSome old (λ all. Reads all bytes new)
+reads_prefix None new bytes p past = tt
+reads_prefix (Some all) None bytes p past = absurd p
+reads_prefix (Some all) (Some more) bytes p past = inr (more, p, past)
 
 -- ---- what is known of an extent
 pub extent_more : (past : Bool) (seen more : List ℕ) (ended count : ℕ) → past ≡ true → IsExtent seen past ended count → IsExtent (seen ++ more) past ended count

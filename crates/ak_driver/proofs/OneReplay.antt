@@ -3,9 +3,9 @@ use Rattle.std.proofs.Common.{◌≡◌, ℕ, ◌+◌, ◌<◌, ◌≤◌, ◌�
 use Rattle.ak_schedule.specs.declared.event.Event.{Event}
 use Rattle.ak_schedule.specs.declared.settings.Header as header
 use Rattle.ak_schedule.specs.Line.{lines, IsPassedOver}
-use Rattle.ak_schedule.specs.Settings.{Setup}
+use Rattle.ak_schedule.specs.Settings.{SettingsModel}
 use Rattle.ak_schedule.specs.Schedule.{headers, SetsHeader, SpellsEvent}
-use Rattle.ak_schedule.proofs.OneWay.{one_event, one_setup}
+use Rattle.ak_schedule.proofs.OneWay.{one_event, one_settings}
 use Rattle.ak_driver.specs.declared.replay.Code.{Code}
 use Rattle.ak_driver.specs.declared.replay.Code.TheVariants.{Malformed, BadHeader, Unlisted, UniqueUsed, AddressInUse, SecondFound, UnknownNode, NoPacket, TooManyStarts, PastLimit, NotBuilt}
 use Rattle.ak_world.specs.declared.world.Refused.{Refused}
@@ -15,11 +15,11 @@ use Rattle.ak_world.specs.World.{Done, happens}
 use Rattle.ak_node.proofs.NodeLemmas.{not_none}
 use Rattle.ak_driver.specs.ReplayText.{Progress, Judgement, Passes, Sets, Steps, Refuses, Judged, WantsHeader, WantsEvent, SetsNext, IsNoHeader, IsInvalid, IsNoEvent, IsPastEvents, GoesOn, Ends, Replays, IsReplay, at_start, most_lines, most_events}
 
--- ---- what a line is, of which a judgement is told
+-- ---- what a line is, from which its judgement follows
 data Finding : Type 0 where
   Over : Finding
   Passed : Finding
-  Header : Setup → Finding
+  Header : SettingsModel → Finding
   NoHeader : Finding
   Full : Finding
   NoEvent : Finding
@@ -37,27 +37,27 @@ code_of world.TheVariants.TooManyStarts = TooManyStarts
 code_of world.TheVariants.NotBuilt = NotBuilt
 code_of world.TheVariants.NoMemory = PastLimit
 
-abbrev told : Finding → Judgement
-told Over = Refuses PastLimit
-told Passed = Passes
-told (Header setup) = Sets setup
-told NoHeader = Refuses BadHeader
-told Full = Refuses PastLimit
-told NoEvent = Refuses Malformed
-told (Happens event (Ok done)) = Steps event done
-told (Happens event (Err why)) = Refuses (code_of why)
+abbrev known : Finding → Judgement
+known Over = Refuses PastLimit
+known Passed = Passes
+known (Header settings) = Sets settings
+known NoHeader = Refuses BadHeader
+known Full = Refuses PastLimit
+known NoEvent = Refuses Malformed
+known (Happens event (Ok done)) = Steps event done
+known (Happens event (Err why)) = Refuses (code_of why)
 
 abbrev Found : Progress → List ℕ → Finding → Type 0
 Found p line Over = most_lines < p.line
 Found p line Passed = (p.line ≤ most_lines) × IsPassedOver line
-Found p line (Header setup) = WantsHeader p line × SetsNext p line setup
+Found p line (Header settings) = WantsHeader p line × SetsNext p line settings
 Found p line NoHeader = IsNoHeader p line
 Found p line Full = IsPastEvents p line
 Found p line NoEvent = IsNoEvent p line
-Found p line (Happens event result) = WantsEvent p line × (p.steps < most_events) × SpellsEvent line event × (happens p.setup event p.world ≡ result)
+Found p line (Happens event result) = WantsEvent p line × (p.steps < most_events) × SpellsEvent line event × (happens p.settings event p.world ≡ result)
 
 abbrev TellsOf : Progress → List ℕ → Judgement → Type 0
-TellsOf p line judgement = (finding : Finding) × Found p line finding × (judgement ≡ told finding)
+TellsOf p line judgement = (finding : Finding) × Found p line finding × (judgement ≡ known finding)
 
 -- the world gave a reason
 reason : (p : Progress) (line : List ℕ) (why : Refused) → IsInvalid p line why → TellsOf p line (Refuses (code_of why))
@@ -79,15 +79,15 @@ refusal p line NotBuilt j = reason p line _ j
 
 tells : (p : Progress) (line : List ℕ) (judgement : Judgement) → Judged p line judgement → TellsOf p line judgement
 tells p line Passes j = (Passed, j, refl)
-tells p line (Sets setup) j = (Header setup, j, refl)
+tells p line (Sets settings) j = (Header settings, j, refl)
 tells p line (Steps event done) j = (Happens event (Ok done), j, refl)
 tells p line (Refuses code) j = refusal p line code j
 
 -- ---- a line is found to be one thing
-same_header : (p : Progress) (line : List ℕ) (one other : Setup) (o : Option header.Header) → (o ≡ None → ⊥)
-    → IfSome o (λ which. SetsHeader which line p.setup one) → IfSome o (λ which. SetsHeader which line p.setup other) → one ≡ other
+same_header : (p : Progress) (line : List ℕ) (one other : SettingsModel) (o : Option header.Header) → (o ≡ None → ⊥)
+    → IfSome o (λ which. SetsHeader which line p.settings one) → IfSome o (λ which. SetsHeader which line p.settings other) → one ≡ other
 same_header p line one other None some h g = absurd (some refl)
-same_header p line one other (Some which) some h g = one_setup which line p.setup one other h g
+same_header p line one other (Some which) some h g = one_settings which line p.settings one other h g
 
 one_finding : (p : Progress) (line : List ℕ) (one other : Finding) → Found p line one → Found p line other → one ≡ other
 one_finding p line Over Over h g = refl
@@ -96,10 +96,10 @@ one_finding p line one Over h g = absurd (omega arith)
 one_finding p line Passed Passed h g = refl
 one_finding p line Passed other h g = absurd (g.0.not_passed h.1)
 one_finding p line one Passed h g = absurd (h.0.not_passed g.1)
-one_finding p line (Header setup) (Header other) h g =
-    ap Header (same_header p line setup other (slice_get headers p.headers) (not_none headers p.headers h.0.heading) h.1 g.1)
-one_finding p line (Header setup) NoHeader h g = absurd (g.1 setup h.1)
-one_finding p line NoHeader (Header setup) h g = absurd (h.1 setup g.1)
+one_finding p line (Header settings) (Header other) h g =
+    ap Header (same_header p line settings other (slice_get headers p.headers) (not_none headers p.headers h.0.heading) h.1 g.1)
+one_finding p line (Header settings) NoHeader h g = absurd (g.1 settings h.1)
+one_finding p line NoHeader (Header settings) h g = absurd (h.1 settings g.1)
 one_finding p line NoHeader NoHeader h g = refl
 one_finding p line Full Full h g = refl
 one_finding p line NoEvent NoEvent h g = refl
@@ -115,7 +115,7 @@ one_judgement : (p : Progress) (line : List ℕ) (one other : Judgement) → Jud
 one_judgement p line one other h g =
     let a = tells p line one h in
     let b = tells p line other g in
-    a.2 ∙ ap told (one_finding p line a.0 b.0 a.1 b.1) ∙ sym b.2
+    a.2 ∙ ap known (one_finding p line a.0 b.0 a.1 b.1) ∙ sym b.2
 
 -- ---- a whole replay
 abbrev Same : ℕ → List ℕ → ℕ → List ℕ → Type 0
@@ -125,7 +125,7 @@ one_way : (p : Progress) (judgement : Judgement) (Rest : Progress → ℕ → Li
     → ((q : Progress) (s t : ℕ) (x y : List ℕ) → Rest q s x → Rest q t y → Same s x t y)
     → GoesOn p judgement Rest s x → GoesOn p judgement Rest t y → Same s x t y
 one_way p Passes Rest s t x y same h g = same _ s t x y h g
-one_way p (Sets setup) Rest s t x y same h g = same _ s t x y h g
+one_way p (Sets settings) Rest s t x y same h g = same _ s t x y h g
 one_way p (Steps event done) Rest s t x y same h g =
     let rest = same _ s t h.0 g.0 h.1 g.1 in (rest.0, h.2 ∙ ap (λ (z : List ℕ). step_text (length p.world.packets + 1) (p.steps + 1) event done ++ z) rest.1 ∙ sym g.2)
 one_way p (Refuses code) Rest s t x y same h g = (h.0 ∙ sym g.0, h.1 ∙ sym g.1)
@@ -148,7 +148,7 @@ one_replay bytes s t x y h g = one_from (lines bytes) at_start s t x y h g
 status_way : (p : Progress) (judgement : Judgement) (Rest : Progress → ℕ → List ℕ → Type 0) (s : ℕ) (x : List ℕ)
     → ((q : Progress) (x : List ℕ) → Rest q s x → (s ≡ 0) ⊎ (s ≡ 4)) → GoesOn p judgement Rest s x → (s ≡ 0) ⊎ (s ≡ 4)
 status_way p Passes Rest s x is g = is _ x g
-status_way p (Sets setup) Rest s x is g = is _ x g
+status_way p (Sets settings) Rest s x is g = is _ x g
 status_way p (Steps event done) Rest s x is g = is _ g.0 g.1
 status_way p (Refuses code) Rest s x is g = inr g.0
 

@@ -4,10 +4,10 @@ use Rattle.std.specs.Prelude.{IfSome}
 use Rattle.std.specs.Io.KnownBytes.{IsAtEnd}
 use Rattle.ak_outside.specs.declared.status.Status.{Status}
 use Rattle.ak_outside.specs.declared.status.Status.TheVariants.{Done, Double, Usage, Configuration, Schedule, Read, Write, Memory, Link, Turns}
-use Rattle.ak_driver.specs.InputWords.{IsPast, Reads}
+use Rattle.ak_driver.specs.InputContracts.{IsPast, Reads}
 use Rattle.ak_driver.specs.ReplayText.{at_start}
 use Rattle.ak_driver.specs.ReplayPromise.{MayPrint, Prints, Promises, EndsSource, read_line_text}
-use Rattle.ak_driver.specs.StatusWords.{Written, memory_line}
+use Rattle.ak_driver.specs.StatusContracts.{Written, memory_line}
 use Rattle.ak_driver.proofs.CutLemmas.{past_replay, past_not_done, past_first, first_none}
 use Rattle.ak_schedule.specs.Line.{lines}
 
@@ -19,8 +19,8 @@ prints_more : (bytes more : List ℕ) (status : Status) (old new : Option (List 
 prints_more bytes more Done old new past p = absurd (past_not_done bytes p.0 past p.1)
 prints_more bytes more Schedule old new past p = (p.0, (past_replay bytes more 4 p.0 past p.1).0, p.2)
 prints_more bytes more Memory old new past p = (p.0, past_first bytes more p.0 past p.1, p.2)
-prints_more bytes more Write old new past (text, inl may, front) = (text, inl (may_print_more bytes more text past may), front)
-prints_more bytes more Write old new past (text, inr is, front) = (text, inr is, front)
+prints_more bytes more Write old new past (text, inl may, prefix) = (text, inl (may_print_more bytes more text past may), prefix)
+prints_more bytes more Write old new past (text, inr is, prefix) = (text, inr is, prefix)
 prints_more bytes more Read old new past p = p
 prints_more bytes more Double old new past p = tt
 prints_more bytes more Usage old new past p = tt
@@ -28,8 +28,8 @@ prints_more bytes more Configuration old new past p = tt
 prints_more bytes more Link old new past p = tt
 prints_more bytes more Turns old new past p = tt
 
-pub promised : (told left : Option (List ℕ)) (bytes : List ℕ) (status : Status) (old new : Option (List ℕ)) → IfSome told (λ all. Reads all bytes left)
-    → Prints bytes status old new → Promises told status old new
+pub promised : (known left : Option (List ℕ)) (bytes : List ℕ) (status : Status) (old new : Option (List ℕ)) → IfSome known (λ all. Reads all bytes left)
+    → Prints bytes status old new → Promises known status old new
 promised None left bytes status old new reads p = tt
 promised (Some all) left bytes status old new (inl whole) p = subst (λ (l : List ℕ). Prints l status old new) whole.0 p
 promised (Some all) left bytes status old new (inr cut) p = subst (λ (l : List ℕ). Prints l status old new) (sym cut.1) (prints_more bytes cut.0 status old new cut.2 p)
@@ -47,27 +47,27 @@ ends bytes left Configuration old new e p = tt
 ends bytes left Link old new e p = tt
 ends bytes left Turns old new e p = tt
 
-pub ended_source : (told left : Option (List ℕ)) (bytes : List ℕ) (status : Status) (old new : Option (List ℕ)) → IfSome told (λ all. Reads all bytes left)
-    → Prints bytes status old new → IfSome told (λ all. EndsSource status left)
+pub ended_source : (known left : Option (List ℕ)) (bytes : List ℕ) (status : Status) (old new : Option (List ℕ)) → IfSome known (λ all. Reads all bytes left)
+    → Prints bytes status old new → IfSome known (λ all. EndsSource status left)
 ended_source None left bytes status old new reads p = tt
 ended_source (Some all) left bytes status old new (inl whole) p = ends bytes left status old new (inl whole.1) p
 ended_source (Some all) left bytes status old new (inr cut) p = ends bytes left status old new (inr cut.2) p
 
 -- ---- nothing was replayed
-promises_all : (told : Option (List ℕ)) (status : Status) (old new : Option (List ℕ)) → ((bytes : List ℕ) → Prints bytes status old new) → Promises told status old new
+promises_all : (known : Option (List ℕ)) (status : Status) (old new : Option (List ℕ)) → ((bytes : List ℕ) → Prints bytes status old new) → Promises known status old new
 promises_all None status old new p = tt
 promises_all (Some bytes) status old new p = p bytes
 
 memory_may_print : (bytes : List ℕ) → MayPrint bytes memory_line
 memory_may_print bytes = inr ([], first_none at_start (lines bytes) [] refl, refl)
 
-pub no_memory : (told : Option (List ℕ)) (result : Status) (rose : Type 0) (old new : Option (List ℕ)) → Written Memory memory_line result rose old new → Promises told result old new
-no_memory told result rose old new (inl done) =
-    subst (λ (s : Status). Promises told s old new) (sym done.0) (promises_all told Memory old new (λ bytes. ([], first_none at_start (lines bytes) [] refl, done.1)))
-no_memory told result rose old new (inr failed) =
-    subst (λ (s : Status). Promises told s old new) (sym failed.0) (promises_all told Write old new (λ bytes. (memory_line, inl (memory_may_print bytes), failed.2)))
+pub no_memory : (known : Option (List ℕ)) (result : Status) (rose : Type 0) (old new : Option (List ℕ)) → Written Memory memory_line result rose old new → Promises known result old new
+no_memory known result rose old new (inl done) =
+    subst (λ (s : Status). Promises known s old new) (sym done.0) (promises_all known Memory old new (λ bytes. ([], first_none at_start (lines bytes) [] refl, done.1)))
+no_memory known result rose old new (inr failed) =
+    subst (λ (s : Status). Promises known s old new) (sym failed.0) (promises_all known Write old new (λ bytes. (memory_line, inl (memory_may_print bytes), failed.2)))
 
-pub no_input : (told : Option (List ℕ)) (result : Status) (rose : Type 0) (old new : Option (List ℕ)) → Written Read read_line_text result rose old new → Promises told result old new
-no_input told result rose old new (inl done) = subst (λ (s : Status). Promises told s old new) (sym done.0) (promises_all told Read old new (λ bytes. done.1))
-no_input told result rose old new (inr failed) =
-    subst (λ (s : Status). Promises told s old new) (sym failed.0) (promises_all told Write old new (λ bytes. (read_line_text, inr refl, failed.2)))
+pub no_input : (known : Option (List ℕ)) (result : Status) (rose : Type 0) (old new : Option (List ℕ)) → Written Read read_line_text result rose old new → Promises known result old new
+no_input known result rose old new (inl done) = subst (λ (s : Status). Promises known s old new) (sym done.0) (promises_all known Read old new (λ bytes. done.1))
+no_input known result rose old new (inr failed) =
+    subst (λ (s : Status). Promises known s old new) (sym failed.0) (promises_all known Write old new (λ bytes. (read_line_text, inr refl, failed.2)))

@@ -4,7 +4,7 @@ use Rattle.std.proofs.lemmas.Option.{slice_get-get_or}
 use Rattle.ak_schedule.specs.declared.settings.Header as header
 use Rattle.ak_schedule.specs.Draft.{Drafted, ReadsHeader}
 use Rattle.ak_schedule.specs.Line.{IsPassedOver}
-use Rattle.ak_schedule.specs.Settings.{Setup}
+use Rattle.ak_schedule.specs.Settings.{SettingsModel}
 use Rattle.ak_schedule.specs.Schedule.{headers, SetsHeader}
 use Rattle.ak_world.specs.declared.world.Refused.{Refused as Reason}
 use Rattle.ak_world.specs.declared.world.Refused as refused
@@ -16,24 +16,24 @@ use Rattle.ak_driver.specs.declared.replay.Stage.{Stage}
 use Rattle.ak_driver.specs.declared.replay.Stage.TheVariants.{Heading, Running}
 use Rattle.ak_world.specs.StepText.{step_text}
 use Rattle.ak_world.specs.World.{empty_world}
-use Rattle.ak_world.specs.WorldWords.{Chronicle}
+use Rattle.ak_world.specs.WorldContracts.{WorldModel}
 use Rattle.ak_driver.specs.ReplayText.{Progress, Judged, Sets, Steps, Refuses, WantsEvent, IsInvalid, IsRefused}
-use Rattle.ak_driver.specs.ReplayWords.{stop_of, progress, IsReady, Turns, TurnAnswers, HeadingAnswers, Declines, RunningAnswers}
+use Rattle.ak_driver.specs.ReplayContracts.{stop_of, progress, IsReady, Turns, TurnAnswers, HeadingAnswers, Declines, RunningAnswers}
 
 -- a line that is the next header
 pub header_turn : (line before after : List ℕ) (old new : Drafted) (steps n read : ℕ) → ReadsHeader line old new → read ≡ new.read
     → n ≤ 200000 → (IsPassedOver line → ⊥) → old.read < 9 → after ≡ before
     → (text : List ℕ)
-    × Turns (progress (Heading old) n steps) line (record { line = n + 1; headers = read; setup = new.setup; world = empty_world; steps = steps }) text
+    × Turns (progress (Heading old) n steps) line (record { line = n + 1; headers = read; settings = new.settings; world = empty_world; steps = steps }) text
     × (after ≡ before ++ text)
 header_turn line before after old new steps n read h e few open_ wanted same =
-    let at : ℕ → Progress = λ k. record { line = n + 1; headers = k; setup = new.setup; world = empty_world; steps = steps } in (
+    let at : ℕ → Progress = λ k. record { line = n + 1; headers = k; settings = new.settings; world = empty_world; steps = steps } in (
       [],
       record {
-        judgement = Sets new.setup;
+        judgement = Sets new.settings;
         judged = (
           record { in_limit = few; not_passed = open_; heading = wanted },
-          subst (λ (o : Option header.Header). IfSome o (λ which. SetsHeader which line old.setup new.setup)) (sym h.next) h.sets,
+          subst (λ (o : Option header.Header). IfSome o (λ which. SetsHeader which line old.settings new.settings)) (sym h.next) h.sets,
         );
         brings = (
           ap at (e ∙ h.count),
@@ -44,17 +44,17 @@ header_turn line before after old new steps n read h e few open_ wanted same =
     )
 
 -- a line that is no header is none of any setup
-header_none : (line : List ℕ) (old : Drafted) (setup : Setup) (o : Option header.Header) → slice_get headers old.read ≡ o → old.read < 9
-    → ((next : Drafted) → ReadsHeader line old next → ⊥) → IfSome o (λ which. SetsHeader which line old.setup setup) → ⊥
-header_none line old setup None e wanted none s =
+header_none : (line : List ℕ) (old : Drafted) (settings : SettingsModel) (o : Option header.Header) → slice_get headers old.read ≡ o → old.read < 9
+    → ((next : Drafted) → ReadsHeader line old next → ⊥) → IfSome o (λ which. SetsHeader which line old.settings settings) → ⊥
+header_none line old settings None e wanted none s =
     let some : slice_get headers old.read ≡ Some _ = slice_get-get_or headers old.read header.TheVariants.Listed wanted in cc
-header_none line old setup (Some which) e wanted none s =
-    none (record { read = old.read + 1; setup = setup }) (record { which = which; next = e; sets = s; count = refl })
+header_none line old settings (Some which) e wanted none s =
+    none (record { read = old.read + 1; settings = settings }) (record { which = which; next = e; sets = s; count = refl })
 
 pub no_header : (line : List ℕ) (old : Drafted) (steps n : ℕ) → ((next : Drafted) → ReadsHeader line old next → ⊥)
     → n ≤ 200000 → (IsPassedOver line → ⊥) → old.read < 9 → Judged (progress (Heading old) n steps) line (Refuses BadHeader)
 no_header line old steps n none few open_ wanted =
-    (record { in_limit = few; not_passed = open_; heading = wanted }, λ setup s. header_none line old setup (slice_get headers old.read) refl wanted none s)
+    (record { in_limit = few; not_passed = open_; heading = wanted }, λ settings s. header_none line old settings (slice_get headers old.read) refl wanted none s)
 
 -- ---- an event that the world refuses
 abbrev code_in : Stop → Code
@@ -73,12 +73,12 @@ refused_by p line refused.TheVariants.TooManyStarts code e invalid = subst (IsRe
 refused_by p line refused.TheVariants.NotBuilt code e invalid = subst (IsRefused p line) (ap code_in e) invalid
 refused_by p line refused.TheVariants.NoMemory code e invalid = absurd (cc)
 
-declined : (line : List ℕ) (world : Chronicle) (n steps : ℕ) (code : Code) → WantsEvent (progress (Running world) n steps) line → steps < 50000
+declined : (line : List ℕ) (world : WorldModel) (n steps : ℕ) (code : Code) → WantsEvent (progress (Running world) n steps) line → steps < 50000
     → Declines line world code → IsRefused (progress (Running world) n steps) line code
 declined line world n steps code wants room d = refused_by (progress (Running world) n steps) line d.why code d.coded (wants, room, d.event, d.spelled, d.reason)
 
 -- ---- an event line
-pub running_turn : (r : Result (Unit {0}) Stop) (line before after : List ℕ) (old new : Chronicle) (n steps : ℕ)
+pub running_turn : (r : Result (Unit {0}) Stop) (line before after : List ℕ) (old new : WorldModel) (n steps : ℕ)
     → RunningAnswers r line (steps + 1) old new before after → n ≤ 200000 → (IsPassedOver line → ⊥) → steps < 50000
     → TurnAnswers r line (progress (Running old) n steps) (progress (Running new) (n + 1) (steps + 1)) before after
 running_turn (Ok u) line before after old new n steps h few open_ room = (
@@ -86,7 +86,7 @@ running_turn (Ok u) line before after old new n steps h few open_ room = (
   record {
     judgement = Steps h.event h.done;
     judged = (record { in_limit = few; not_passed = open_; running = omega arith }, room, h.spelled, h.happened);
-    brings = (ap (λ (w : Chronicle). progress (Running w) (n + 1) (steps + 1)) h.world, refl);
+    brings = (ap (λ (w : WorldModel). progress (Running w) (n + 1) (steps + 1)) h.world, refl);
   },
   h.text,
 )
@@ -116,12 +116,12 @@ running_turn (Err NoMemory) line before after old new n steps h few open_ room =
 pub advance_header : (stage : Stage) (line before after : List ℕ) (old new : Drafted) (steps n read : ℕ) → stage ≡ Heading old → IsReady stage steps
     → ReadsHeader line old new → read ≡ new.read → n ≤ 200000 → (IsPassedOver line → ⊥) → after ≡ before
     → (text : List ℕ)
-    × Turns (progress stage n steps) line (record { line = n + 1; headers = read; setup = new.setup; world = empty_world; steps = steps }) text
+    × Turns (progress stage n steps) line (record { line = n + 1; headers = read; settings = new.settings; world = empty_world; steps = steps }) text
     × (after ≡ before ++ text)
 advance_header stage line before after old new steps n read is ready h e few open_ same =
     subst
     (λ (s : Stage). IsReady s steps → (text : List ℕ)
-    × Turns (progress s n steps) line (record { line = n + 1; headers = read; setup = new.setup; world = empty_world; steps = steps }) text
+    × Turns (progress s n steps) line (record { line = n + 1; headers = read; settings = new.settings; world = empty_world; steps = steps }) text
     × (after ≡ before ++ text))
     (sym is)
     (λ wanted. header_turn line before after old new steps n read h e few open_ wanted.0 same)
@@ -153,7 +153,7 @@ advance_refused stage r e line before after old new q steps n was is ready h few
     (heading_refused e line before after old new q steps n h few open_ wanted.0 same))
     ready
 
-pub advance_event : (stage : Stage) (r : Result (Unit {0}) Stop) (line before after : List ℕ) (old new : Chronicle) (n steps : ℕ) → stage ≡ Running old
+pub advance_event : (stage : Stage) (r : Result (Unit {0}) Stop) (line before after : List ℕ) (old new : WorldModel) (n steps : ℕ) → stage ≡ Running old
     → RunningAnswers r line (steps + 1) old new before after → n ≤ 200000 → (IsPassedOver line → ⊥) → steps < 50000
     → TurnAnswers r line (progress stage n steps) (progress (Running new) (n + 1) (steps + 1)) before after
 advance_event stage r line before after old new n steps is h few open_ room =
@@ -165,7 +165,7 @@ brings_nowhere : (e : Stop) (line before after : List ℕ) (p q other : Progress
 brings_nowhere (Refused code) line before after p q other t = t
 brings_nowhere NoMemory line before after p q other t = t
 
-pub advance_declined : (stage : Stage) (r : Result (Unit {0}) Stop) (e : Stop) (line before after : List ℕ) (old new : Chronicle) (n steps : ℕ) → r ≡ Err e
+pub advance_declined : (stage : Stage) (r : Result (Unit {0}) Stop) (e : Stop) (line before after : List ℕ) (old new : WorldModel) (n steps : ℕ) → r ≡ Err e
     → stage ≡ Running old → RunningAnswers (Err e) line (steps + 1) old new before after → n ≤ 200000 → (IsPassedOver line → ⊥) → steps < 50000
     → (q : Progress) → TurnAnswers r line (progress stage n steps) q before after
 advance_declined stage r e line before after old new n steps was is h few open_ room q =

@@ -4,7 +4,7 @@ use Rattle.ak_schedule.specs.declared.event.Event.{Event}
 use Rattle.ak_schedule.specs.declared.event.Event.TheVariants.{Start, Found, Join, Tick, Deliver, Leave, Down, Offer, Stop}
 use Rattle.ak_schedule.specs.declared.settings.Header as header
 use Rattle.ak_schedule.specs.Line.{lines, IsPassedOver}
-use Rattle.ak_schedule.specs.Settings.{Setup}
+use Rattle.ak_schedule.specs.Settings.{SettingsModel}
 use Rattle.ak_schedule.specs.Schedule.{headers, SetsHeader, SpellsEvent}
 use Rattle.ak_driver.specs.declared.replay.Code.TheVariants.{Malformed, BadHeader, Unlisted, UniqueUsed, AddressInUse, SecondFound, UnknownNode, NoPacket, TooManyStarts, PastLimit, NotBuilt}
 use Rattle.ak_node.specs.declared.node.NodeEvent.{NodeEvent}
@@ -19,17 +19,17 @@ use Rattle.ak_world.specs.World.{WorldState, Done, node_of, gives, acts, arrives
 use Rattle.ak_driver.specs.ReplayText.{Progress, Judgement, Passes, Sets, Steps, Refuses, Judged, WantsHeader, WantsEvent, SetsNext, GoesOn, Ends, Replays, IsReplay, at_start, refusal_text, most_lines, most_events, header_count}
 use Rattle.ak_schedule.proofs.Deciding.{Tells, Finds, at_most, below, passed_over, set_header, spelled_event}
 
--- ---- no event is refused for want of memory
-gives_no : (e : NodeEvent) (place : ℕ) (o : Option State) (w : WorldState) → gives e place o w ≡ Err world.TheVariants.NoMemory → ⊥
-gives_no e place (Some n) w h = cc
-gives_no e place None w h = cc
+-- ---- no event is refused for lack of memory
+gives_no : (e : NodeEvent) (index : ℕ) (o : Option State) (w : WorldState) → gives e index o w ≡ Err world.TheVariants.NoMemory → ⊥
+gives_no e index (Some n) w h = cc
+gives_no e index None w h = cc
 
 acts_no : (e : NodeEvent) (o : Option ℕ) (w : WorldState) → acts e o w ≡ Err world.TheVariants.NoMemory → ⊥
-acts_no e (Some place) w h = gives_no e place _ w h
+acts_no e (Some index) w h = gives_no e index _ w h
 acts_no e None w h = cc
 
 arrives_no : (e : Envelope) (o : Option ℕ) (w : WorldState) → arrives e o w ≡ Err world.TheVariants.NoMemory → ⊥
-arrives_no e (Some place) w h = gives_no (event.TheVariants.Packet e) place _ w h
+arrives_no e (Some index) w h = gives_no (event.TheVariants.Packet e) index _ w h
 arrives_no e None w h = cc
 
 delivers_no : (o : Option Envelope) (w : WorldState) → delivers o w ≡ Err world.TheVariants.NoMemory → ⊥
@@ -50,27 +50,27 @@ unless_no : (a : Bool) (why : Refused) (r : Result Done Refused) → (why ≡ wo
 unless_no true why r first later h = let same : why ≡ world.TheVariants.NoMemory = cc in first same
 unless_no false why r first later h = later h
 
-happens_no : (setup : Setup) (event : Event) (w : WorldState) → happens setup event w ≡ Err world.TheVariants.NoMemory → ⊥
-happens_no setup (Start u) w h = starts_no _ _ _ _ _ h
-happens_no setup (Found u) w h =
+happens_no : (settings : SettingsModel) (event : Event) (w : WorldState) → happens settings event w ≡ Err world.TheVariants.NoMemory → ⊥
+happens_no settings (Start u) w h = starts_no _ _ _ _ _ h
+happens_no settings (Found u) w h =
     let now : WorldState = record w { founded = true } in
     unless_no w.founded world.TheVariants.SecondFound (acts event.TheVariants.Found (node_of u w) now) (λ e. cc) (acts_no event.TheVariants.Found (node_of u w) now) h
-happens_no setup (Join u target) w h =
+happens_no settings (Join u target) w h =
     let e : NodeEvent = event.TheVariants.Join target in
-    unless_no (not (is_listed setup.listed target)) world.TheVariants.Unlisted (acts e (node_of u w) w) (λ f. cc) (acts_no e (node_of u w) w) h
-happens_no setup (Deliver number) w h = delivers_no _ w h
-happens_no setup (Tick u word) w h = cc
-happens_no setup (Leave u who) w h = cc
-happens_no setup (Down u who) w h = cc
-happens_no setup (Offer u entity payload) w h = cc
-happens_no setup (Stop u) w h = cc
+    unless_no (not (is_listed settings.listed target)) world.TheVariants.Unlisted (acts e (node_of u w) w) (λ f. cc) (acts_no e (node_of u w) w) h
+happens_no settings (Deliver number) w h = delivers_no _ w h
+happens_no settings (Tick u word) w h = cc
+happens_no settings (Leave u who) w h = cc
+happens_no settings (Down u who) w h = cc
+happens_no settings (Offer u entity payload) w h = cc
+happens_no settings (Stop u) w h = cc
 
 -- ---- each line is judged
 abbrev Judges : Progress → List ℕ → Type 0
 Judges p line = (judgement : Judgement) × Judged p line judgement
 
 happened : (p : Progress) (line : List ℕ) (event : Event) (r : Result Done Refused) → WantsEvent p line → p.steps < most_events → SpellsEvent line event
-    → happens p.setup event p.world ≡ r → Judges p line
+    → happens p.settings event p.world ≡ r → Judges p line
 happened p line event (Ok done) wants room spells is = (Steps event done, (wants, room, spells, is))
 happened p line event (Err world.TheVariants.Unlisted) wants room spells is = (Refuses Unlisted, (wants, room, event, spells, is))
 happened p line event (Err world.TheVariants.UniqueUsed) wants room spells is = (Refuses UniqueUsed, (wants, room, event, spells, is))
@@ -80,25 +80,25 @@ happened p line event (Err world.TheVariants.UnknownNode) wants room spells is =
 happened p line event (Err (world.TheVariants.NoPacket sent)) wants room spells is = (Refuses NoPacket, (sent, (wants, room, event, spells, is)))
 happened p line event (Err world.TheVariants.TooManyStarts) wants room spells is = (Refuses TooManyStarts, (wants, room, event, spells, is))
 happened p line event (Err world.TheVariants.NotBuilt) wants room spells is = (Refuses NotBuilt, (wants, room, event, spells, is))
-happened p line event (Err world.TheVariants.NoMemory) wants room spells is = absurd (happens_no p.setup event p.world is)
+happened p line event (Err world.TheVariants.NoMemory) wants room spells is = absurd (happens_no p.settings event p.world is)
 
 event_line : (p : Progress) (line : List ℕ) → WantsEvent p line → Tells (p.steps < most_events) → Finds (SpellsEvent line) → Judges p line
-event_line p line wants (inl room) (inl spelled) = happened p line spelled.0 (happens p.setup spelled.0 p.world) wants room spelled.1 refl
+event_line p line wants (inl room) (inl spelled) = happened p line spelled.0 (happens p.settings spelled.0 p.world) wants room spelled.1 refl
 event_line p line wants (inl room) (inr none) = (Refuses Malformed, (wants, room, λ event spells. none (event, spells)))
 event_line p line wants (inr full) spelled = (Refuses PastLimit, inr (wants, omega arith))
 
-next_header : (line : List ℕ) (old : Setup) (o : Option header.Header) → Finds {T = Setup} (λ setup. IfSome o (λ which. SetsHeader which line old setup))
+next_header : (line : List ℕ) (old : SettingsModel) (o : Option header.Header) → Finds {T = SettingsModel} (λ settings. IfSome o (λ which. SetsHeader which line old settings))
 next_header line old None = inl (old, tt)
 next_header line old (Some which) = set_header which line old
 
 header_line : (p : Progress) (line : List ℕ) → WantsHeader p line → Finds (SetsNext p line) → Judges p line
 header_line p line wants (inl set) = (Sets set.0, (wants, set.1))
-header_line p line wants (inr none) = (Refuses BadHeader, (wants, λ setup sets. none (setup, sets)))
+header_line p line wants (inr none) = (Refuses BadHeader, (wants, λ settings sets. none (settings, sets)))
 
 judged_in : (p : Progress) (line : List ℕ) → p.line ≤ most_lines → Tells (IsPassedOver line) → Tells (p.headers < header_count) → Judges p line
 judged_in p line within (inl passed) heading = (Passes, (within, passed))
 judged_in p line within (inr wanted) (inl heading) =
-    header_line p line (record { in_limit = within; not_passed = wanted; heading = heading }) (next_header line p.setup (slice_get headers p.headers))
+    header_line p line (record { in_limit = within; not_passed = wanted; heading = heading }) (next_header line p.settings (slice_get headers p.headers))
 judged_in p line within (inr wanted) (inr running) =
     event_line p line (record { in_limit = within; not_passed = wanted; running = omega arith }) (below p.steps most_events) (spelled_event line)
 
@@ -113,7 +113,7 @@ Ending Is = (status : ℕ) × (text : List ℕ) × Is status text
 
 goes : (p : Progress) (judgement : Judgement) (Rest : Progress → ℕ → List ℕ → Type 0) → ((q : Progress) → Ending (Rest q)) → Ending (GoesOn p judgement Rest)
 goes p Passes Rest rest = rest _
-goes p (Sets setup) Rest rest = rest _
+goes p (Sets settings) Rest rest = rest _
 goes p (Steps event done) Rest rest =
     let more = rest (record p { line = p.line + 1; steps = p.steps + 1; world = done.world }) in
     (more.0, step_text (length p.world.packets + 1) (p.steps + 1) event done ++ more.1, (more.1, more.2, refl))

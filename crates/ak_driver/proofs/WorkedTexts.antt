@@ -9,8 +9,8 @@ use Rattle.ak_address.specs.Uniques.{no_one, with_one}
 use Rattle.ak_address.proofs.TableLaws.{get-empty, entries-insert-empty}
 use Rattle.ak_address.specs.Table.{value_with}
 use Rattle.ak_clock.specs.Version.{count, covers, relation_by}
-use Rattle.ak_address.specs.Unique.{Endpoint, Process, IsAddress, IsUnique}
-use Rattle.ak_address.proofs.Spelled.{number_text_spells, address_text_spells}
+use Rattle.ak_address.specs.Unique.{AddressModel, UniqueModel, IsAddress, IsUnique}
+use Rattle.ak_address.proofs.SpellingLemmas.{number_text_spells, address_text_spells}
 use Rattle.ak_schedule.specs.Draft.{first_draft}
 use Rattle.ak_schedule.specs.declared.settings.Strategy.{Strategy}
 use Rattle.ak_schedule.specs.declared.settings.Strategy.TheVariants.{StaticQuorum}
@@ -18,7 +18,7 @@ use Rattle.ak_schedule.specs.declared.settings.Header as header
 use Rattle.ak_schedule.specs.declared.event.Event.{Event}
 use Rattle.ak_schedule.specs.declared.event.Event.TheVariants.{Start, Found}
 use Rattle.ak_schedule.specs.Line.{words, most_bytes}
-use Rattle.ak_schedule.specs.Settings.{Setup}
+use Rattle.ak_schedule.specs.Settings.{SettingsModel}
 use Rattle.ak_schedule.specs.Schedule.{headers, SetsHeader, SpellsEvent, SpellsListing, SpellsStrategy, SpellsSetting, SpellsNumber}
 use Rattle.ak_schedule.proofs.Canonical.{canonical}
 use Rattle.ak_schedule.proofs.PassedOver.{no_event, no_header}
@@ -26,7 +26,7 @@ use Rattle.ak_member.specs.declared.effect.Effect.TheVariants.{Joined}
 use Rattle.ak_member.specs.declared.standing.Standing.{Standing}
 use Rattle.ak_member.specs.declared.standing.Standing.TheVariants.{Member}
 use Rattle.ak_member.specs.declared.status.Status.TheVariants.{Joining}
-use Rattle.ak_member.specs.Standing.{nobody, joined_standing, member_rows, tombstone_rows}
+use Rattle.ak_member.specs.Standing.{nobody, merged_standing, member_pairs, tombstone_pairs}
 use Rattle.ak_member.specs.View.{View}
 use Rattle.ak_node.specs.declared.node.State.{State}
 use Rattle.ak_wire.specs.declared.action.Action.{Action}
@@ -42,11 +42,11 @@ use Rattle.ak_driver.specs.ReplayText as replay
 use Rattle.ak_driver.specs.Worked.{text_of, and_limits, empty_schedule, empty_text, founding_schedule, founding_text}
 
 -- so many headers are read, and nothing has happened
-abbrev headed : ℕ → Setup → Progress
-headed n setup = record { line = n + 1; headers = n; setup = setup; world = empty_world; steps = 0 }
+abbrev headed : ℕ → SettingsModel → Progress
+headed n settings = record { line = n + 1; headers = n; settings = settings; world = empty_world; steps = 0 }
 
 -- a header line sets its setting, and the replay goes on
-header_line : (n : ℕ) (old new : Setup) (line : List ℕ) (rest : List (List ℕ)) (which : header.Header) (status : ℕ) (text : List ℕ)
+header_line : (n : ℕ) (old new : SettingsModel) (line : List ℕ) (rest : List (List ℕ)) (which : header.Header) (status : ℕ) (text : List ℕ)
     → n < 9 → slice_get headers n ≡ Some which → SetsHeader which line old new
     → Replays (headed (n + 1) new) rest status text → Replays (headed n old) (line ∷ rest) status text
 header_line n old new line rest which status text few next sets more = (
@@ -66,52 +66,52 @@ number n most low high fits = record { number = number_text_spells n (omega arit
 setting : (name : List ℕ) (most n : ℕ) (line : List ℕ) → words line ≡ name ∷ decimal n ∷ [] → 1 ≤ n → n ≤ most → most < 2 ^ 64 → SpellsSetting name most (words line) n
 setting name most n line is low high fits = (decimal n, is, number n most low high fits)
 
-abbrev with_margin : Setup → Setup
+abbrev with_margin : SettingsModel → SettingsModel
 with_margin s = record s { margin = 2 }
 
-abbrev with_deadline : Setup → Setup
+abbrev with_deadline : SettingsModel → SettingsModel
 with_deadline s = record s { deadline = 9 }
 
-abbrev with_stable : Setup → Setup
+abbrev with_stable : SettingsModel → SettingsModel
 with_stable s = record s { stable = 9 }
 
-abbrev with_shards : Setup → Setup
+abbrev with_shards : SettingsModel → SettingsModel
 with_shards s = record s { shards = 10 }
 
-abbrev with_buffer : Setup → Setup
+abbrev with_buffer : SettingsModel → SettingsModel
 with_buffer s = record s { buffer = 2 }
 
-abbrev with_threshold : Setup → Setup
+abbrev with_threshold : SettingsModel → SettingsModel
 with_threshold s = record s { threshold = 1 }
 
-abbrev with_limit : Setup → Setup
+abbrev with_limit : SettingsModel → SettingsModel
 with_limit s = record s { limit = 1 }
 
 -- the settings of both schedules, but for addresses and strategy
-abbrev limited : List Endpoint → Strategy → Setup
+abbrev limited : List AddressModel → Strategy → SettingsModel
 limited listed strategy = record { listed = listed; strategy = strategy; margin = 2; deadline = 9; stable = 9; shards = 10; buffer = 2; threshold = 1; limit = 1 }
 
 -- lines without their first
-abbrev behind : List (List ℕ) → List (List ℕ)
-behind [] = []
-behind (line ∷ lines) = lines
+abbrev after_it : List (List ℕ) → List (List ℕ)
+after_it [] = []
+after_it (line ∷ lines) = lines
 
-limit_lines : (s : Setup) (rest : List (List ℕ)) (status : ℕ) (text : List ℕ)
+limit_lines : (s : SettingsModel) (rest : List (List ℕ)) (status : ℕ) (text : List ℕ)
     → Replays (headed 9 (limited s.listed s.strategy)) rest status text → Replays (headed 2 s) (and_limits rest) status text
 unfolding digits
 limit_lines s rest status text more =
-    let l3 = behind (and_limits rest) in
-    let l4 = behind l3 in
-    let l5 = behind l4 in
-    let l6 = behind l5 in
-    let l7 = behind l6 in
-    let l8 = behind l7 in
-    let s_margin : Setup = with_margin s in
-    let s_deadline : Setup = with_deadline s_margin in
-    let s_stable : Setup = with_stable s_deadline in
-    let s_shards : Setup = with_shards s_stable in
-    let s_buffer : Setup = with_buffer s_shards in
-    let s_threshold : Setup = with_threshold s_buffer in
+    let l3 = after_it (and_limits rest) in
+    let l4 = after_it l3 in
+    let l5 = after_it l4 in
+    let l6 = after_it l5 in
+    let l7 = after_it l6 in
+    let l8 = after_it l7 in
+    let s_margin : SettingsModel = with_margin s in
+    let s_deadline : SettingsModel = with_deadline s_margin in
+    let s_stable : SettingsModel = with_stable s_deadline in
+    let s_shards : SettingsModel = with_shards s_stable in
+    let s_buffer : SettingsModel = with_buffer s_shards in
+    let s_threshold : SettingsModel = with_threshold s_buffer in
     header_line 2 s s_margin (codes "margin 2") l3 header.TheVariants.Margin status text (lit< tt) refl
     (record { short = lit≤ tt; words = (2, setting (codes "margin") 1000000 2 (codes "margin 2") refl (lit≤ tt) (lit≤ tt) (lit< tt), refl) })
     (header_line 3 s_margin s_deadline (codes "deadline 9") l4 header.TheVariants.Deadline status text (lit< tt) refl
@@ -129,12 +129,12 @@ limit_lines s rest status text more =
     more))))))
 
 -- the first two headers
-first_lines : (listing strategy : List ℕ) (listed : List Endpoint) (quorum : ℕ) (rest : List (List ℕ)) (status : ℕ) (text : List ℕ)
+first_lines : (listing strategy : List ℕ) (listed : List AddressModel) (quorum : ℕ) (rest : List (List ℕ)) (status : ℕ) (text : List ℕ)
     → length listing ≤ most_bytes → SpellsListing (words listing) listed
     → length strategy ≤ most_bytes → SpellsStrategy (words strategy) (StaticQuorum quorum)
     → Replays (headed 9 (limited listed (StaticQuorum quorum))) rest status text → Replays at_start (listing ∷ strategy ∷ and_limits rest) status text
 first_lines listing strategy listed quorum rest status text short spelled short' spelled' more =
-    let unset : Setup = first_draft.setup in
+    let unset : SettingsModel = first_draft.settings in
     header_line 0 unset (record unset { listed = listed }) listing (strategy ∷ and_limits rest) header.TheVariants.Listed status text (lit< tt) refl
     (record { short = short; words = (listed, spelled, refl) })
     (header_line 1 (record unset { listed = listed }) (record unset { listed = listed; strategy = StaticQuorum quorum }) strategy (and_limits rest) header.TheVariants.Strategy status text (lit< tt) refl
@@ -142,10 +142,10 @@ first_lines listing strategy listed quorum rest status text short spelled short'
     (limit_lines (record unset { listed = listed; strategy = StaticQuorum quorum }) rest status text more))
 
 -- the two addresses
-abbrev at_a : Endpoint
+abbrev at_a : AddressModel
 at_a = record { host = codes "a"; port = 1 }
 
-abbrev at_b : Endpoint
+abbrev at_b : AddressModel
 at_b = record { host = codes "b"; port = 1 }
 
 is_a : IsAddress at_a
@@ -178,7 +178,7 @@ empty =
     (inl (lit≤ tt, refl, refl))
 
 -- two different addresses
-two_different : (a b : Endpoint) → a ≢ b → AllPairs (λ x y. x ≢ y) (a ∷ b ∷ [])
+two_different : (a b : AddressModel) → a ≢ b → AllPairs (λ x y. x ≢ y) (a ∷ b ∷ [])
 two_different a b differ zero zero d lt in_range = absurd (omega arith)
 two_different a b differ zero (suc zero) d lt in_range = differ
 two_different a b differ zero (suc (suc j)) d lt in_range = absurd (omega arith)
@@ -201,10 +201,10 @@ listing_ab = (
 )
 
 -- the two processes
-abbrev a_1 : Process
+abbrev a_1 : UniqueModel
 a_1 = record { address = at_a; uid = 1 }
 
-abbrev b_1 : Process
+abbrev b_1 : UniqueModel
 b_1 = record { address = at_b; uid = 1 }
 
 is_a_1 : IsUnique a_1
@@ -215,7 +215,7 @@ is_b_1 = record { address = is_b; uid = lit≤ tt; uid_fits = lit< tt }
 
 -- an event line is a step, and the replay goes on
 event_line : (p : Progress) (line : List ℕ) (rest : List (List ℕ)) (e : Event) (done : Done) (status : ℕ) (more text : List ℕ)
-    → p.line ≤ most_lines → 9 ≤ p.headers → p.steps < most_events → SpellsEvent line e → happens p.setup e p.world ≡ Ok done
+    → p.line ≤ most_lines → 9 ≤ p.headers → p.steps < most_events → SpellsEvent line e → happens p.settings e p.world ≡ Ok done
     → Replays (record p { line = p.line + 1; steps = p.steps + 1; world = done.world }) rest status more
     → text ≡ step_text (length p.world.packets + 1) (p.steps + 1) e done ++ more
     → Replays p (line ∷ rest) status text
@@ -225,7 +225,7 @@ event_line p line rest e done status more text limit whole few spelled happened 
   (more, goes, is),
 )
 
-abbrev settled : Setup
+abbrev settled : SettingsModel
 settled = limited (at_a ∷ at_b ∷ []) (StaticQuorum 2)
 
 abbrev node_a : State
@@ -272,8 +272,8 @@ not_covered =
 other : is_other map.empty (map.insert map.empty a_1 1) ≡ true
 other = ap (λ b. not (is_same (relation_by b (covers (map.insert map.empty a_1 1) map.empty)))) not_covered ∙ not_same _
 
-new_there : value_with joined_standing (map.get nobody a_1) joining ≡ joining
-new_there = ap (λ o. value_with joined_standing o joining) (get-empty a_1)
+new_there : value_with merged_standing (map.get nobody a_1) joining ≡ joining
+new_there = ap (λ o. value_with merged_standing o joining) (get-empty a_1)
 
 abbrev updated_by : ℕ → Standing → Outcome
 updated_by number standing = (
@@ -288,18 +288,18 @@ updated_by number standing = (
 founds : step event.TheVariants.Found node_a ≡ (founder_a, founding)
 founds =
     ap (λ o. closed node_a (if is_some o then nothing (record node_a { steps = 1 }) else update (Joined a_1 ∷ []) (record node_a { steps = 1; founder = true }))) (get-empty a_1)
-    ∙ ap (λ number. closed node_a (updated_by number (value_with joined_standing (map.get nobody a_1) joining))) none_counted
+    ∙ ap (λ number. closed node_a (updated_by number (value_with merged_standing (map.get nobody a_1) joining))) none_counted
     ∙ ap (λ standing. closed node_a (updated_by 1 standing)) new_there
     ∙ ap (λ b. if b then (founder_a, founding) else updated_by 1 joining) other
 
 abbrev founded : Done
 founded = stepped 0 (founder_a, founding) (record both_started { founded = true })
 
-abbrev view_with : List (Process × ℕ) → List (Process × Standing) → List ℕ
+abbrev view_with : List (UniqueModel × ℕ) → List (UniqueModel × Standing) → List ℕ
 view_with counted known =
     codes "view " ++ listed_text (list_map count_text counted)
-    ++ codes " | " ++ listed_text (list_map member_text (member_rows known))
-    ++ codes " | " ++ listed_text (list_map tombstone_text (tombstone_rows known))
+    ++ codes " | " ++ listed_text (list_map member_text (member_pairs known))
+    ++ codes " | " ++ listed_text (list_map tombstone_text (tombstone_pairs known))
 
 view_is : view_text founders_gossip ≡ codes "view a:1#1=1 | a:1#1 joining | -"
 unfolding digits
@@ -322,10 +322,10 @@ founding_text_is =
     (event_line (headed 9 settled) (codes "start a:1#1") (codes "start b:1#1" ∷ codes "found a:1#1" ∷ []) (Start a_1) (record { world = one_started; node = Some 0; actions = [] }) 0
     (text_of (codes "2 start b:1#1" ∷ []) ++ third_with (codes "view a:1#1=1 | a:1#1 joining | -")) founding_text
     (lit≤ tt) (lit≤ tt) (lit< tt) (canonical (Start a_1) is_a_1) refl
-    (event_line (record { line = 11; headers = 9; setup = settled; world = one_started; steps = 1 }) (codes "start b:1#1") (codes "found a:1#1" ∷ []) (Start b_1) (record { world = both_started; node = Some 1; actions = [] }) 0
+    (event_line (record { line = 11; headers = 9; settings = settled; world = one_started; steps = 1 }) (codes "start b:1#1") (codes "found a:1#1" ∷ []) (Start b_1) (record { world = both_started; node = Some 1; actions = [] }) 0
     (third_with (codes "view a:1#1=1 | a:1#1 joining | -")) (text_of (codes "2 start b:1#1" ∷ []) ++ third_with (codes "view a:1#1=1 | a:1#1 joining | -"))
     (lit≤ tt) (lit≤ tt) (lit< tt) (canonical (Start b_1) is_b_1) refl
-    (event_line (record { line = 12; headers = 9; setup = settled; world = both_started; steps = 2 }) (codes "found a:1#1") [] (Found a_1) founded 0
+    (event_line (record { line = 12; headers = 9; settings = settled; world = both_started; steps = 2 }) (codes "found a:1#1") [] (Found a_1) founded 0
     summary (third_with (codes "view a:1#1=1 | a:1#1 joining | -"))
     (lit≤ tt) (lit≤ tt) (lit< tt) (canonical (Found a_1) is_a_1) (ap (λ o. Ok (stepped 0 o (record both_started { founded = true }))) founds)
     (inl (lit≤ tt, refl, refl))

@@ -1,6 +1,6 @@
-pub mod InputWords
+pub mod InputContracts
 pub mod ReplayPromise
 pub mod ReplayText
-pub mod ReplayWords
-pub mod StatusWords
+pub mod ReplayContracts
+pub mod StatusContracts
 pub mod Worked

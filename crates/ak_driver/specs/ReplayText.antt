@@ -3,7 +3,7 @@
 use Rattle.std.specs.Prelude.{◌≡◌, ℕ, ◌+◌, ◌<◌, ◌≤◌, ◌⊎◌, List, [], ◌∷◌, ◌++◌, codes, length, slice_get, Ok, Err, IfSome}
 use Rattle.std.specs.Fmt.{decimal}
 use Rattle.ak_schedule.specs.Line.{lines, IsPassedOver}
-use Rattle.ak_schedule.specs.Settings.{Setup}
+use Rattle.ak_schedule.specs.Settings.{SettingsModel}
 use Rattle.ak_schedule.specs.Schedule.{headers, SetsHeader, SpellsEvent}
 use Rattle.ak_schedule.specs.Draft.{first_draft}
 use Rattle.ak_schedule.specs.declared.event.Event.{Event}
@@ -30,7 +30,7 @@ pub record Progress : Type 0 where
   pub line : ℕ
   -- how many headers were read, and what they set
   pub headers : ℕ
-  pub setup : Setup
+  pub settings : SettingsModel
   pub world : WorldState
   pub steps : ℕ
 
@@ -53,7 +53,7 @@ refusal_text code line = codes "error 4 " ++ code_text code ++ codes " line " ++
 -- what one line does
 pub data Judgement : Type 0 where
   Passes : Judgement
-  Sets : Setup → Judgement
+  Sets : SettingsModel → Judgement
   Steps : Event → Done → Judgement
   Refuses : Code → Judgement
 
@@ -69,8 +69,8 @@ pub record WantsEvent (p : Progress) (line : List ℕ) : Type 0 where
   pub running : header_count ≤ p.headers
 
 -- the line sets the next header
-abbrev pub SetsNext : Progress → List ℕ → Setup → Type 0
-SetsNext p line setup = IfSome (slice_get headers p.headers) (λ which. SetsHeader which line p.setup setup)
+abbrev pub SetsNext : Progress → List ℕ → SettingsModel → Type 0
+SetsNext p line settings = IfSome (slice_get headers p.headers) (λ which. SetsHeader which line p.settings settings)
 
 -- the line is an event that is no longer taken, for there were as many as there may be
 abbrev pub IsPastEvents : Progress → List ℕ → Type 0
@@ -78,7 +78,7 @@ IsPastEvents p line = WantsEvent p line × (most_events ≤ p.steps)
 
 -- no header where one is wanted
 abbrev pub IsNoHeader : Progress → List ℕ → Type 0
-IsNoHeader p line = WantsHeader p line × ((setup : Setup) → SetsNext p line setup → ⊥)
+IsNoHeader p line = WantsHeader p line × ((settings : SettingsModel) → SetsNext p line settings → ⊥)
 
 -- an event is wanted, and the line spells none
 abbrev pub IsNoEvent : Progress → List ℕ → Type 0
@@ -87,7 +87,7 @@ IsNoEvent p line = WantsEvent p line × (p.steps < most_events) × ((event : Eve
 -- the line spells an event that the world refuses for this reason
 abbrev pub IsInvalid : Progress → List ℕ → Refused → Type 0
 IsInvalid p line why =
-    WantsEvent p line × (p.steps < most_events) × (event : Event) × SpellsEvent line event × (happens p.setup event p.world ≡ Err why)
+    WantsEvent p line × (p.steps < most_events) × (event : Event) × SpellsEvent line event × (happens p.settings event p.world ≡ Err why)
 
 -- the line is refused with this code
 abbrev pub IsRefused : Progress → List ℕ → Code → Type 0
@@ -105,21 +105,21 @@ IsRefused p line NotBuilt = IsInvalid p line world.TheVariants.NotBuilt
 
 abbrev pub Judged : Progress → List ℕ → Judgement → Type 0
 Judged p line Passes = (p.line ≤ most_lines) × IsPassedOver line
-Judged p line (Sets setup) = WantsHeader p line × SetsNext p line setup
-Judged p line (Steps event done) = WantsEvent p line × (p.steps < most_events) × SpellsEvent line event × (happens p.setup event p.world ≡ Ok done)
+Judged p line (Sets settings) = WantsHeader p line × SetsNext p line settings
+Judged p line (Steps event done) = WantsEvent p line × (p.steps < most_events) × SpellsEvent line event × (happens p.settings event p.world ≡ Ok done)
 Judged p line (Refuses code) = IsRefused p line code
 
--- a replay goes on behind a line, or ends there
+-- a replay goes on after a line, or ends there
 abbrev pub GoesOn : Progress → Judgement → (Progress → ℕ → List ℕ → Type 0) → ℕ → List ℕ → Type 0
 GoesOn p Passes Rest status text = Rest (record p { line = p.line + 1 }) status text
-GoesOn p (Sets setup) Rest status text = Rest (record p { line = p.line + 1; headers = p.headers + 1; setup = setup }) status text
+GoesOn p (Sets settings) Rest status text = Rest (record p { line = p.line + 1; headers = p.headers + 1; settings = settings }) status text
 GoesOn p (Steps event done) Rest status text =
     (rest : List ℕ)
     × Rest (record p { line = p.line + 1; steps = p.steps + 1; world = done.world }) status rest
     × (text ≡ step_text (length p.world.packets + 1) (p.steps + 1) event done ++ rest)
 GoesOn p (Refuses code) Rest status text = (status ≡ 4) × (text ≡ refusal_text code p.line)
 
--- behind the last line: the summary, or a header is missing
+-- after the last line: the summary, or a header is missing
 abbrev pub Ends : Progress → ℕ → List ℕ → Type 0
 Ends p status text =
     ((header_count ≤ p.headers) × (status ≡ 0) × (text ≡ summary_text p.steps p.world))
@@ -132,7 +132,7 @@ Replays p (line ∷ lines) status text = (judgement : Judgement) × Judged p lin
 
 -- before the first line no header is read
 abbrev pub at_start : Progress
-at_start = record { line = 1; headers = first_draft.read; setup = first_draft.setup; world = empty_world; steps = 0 }
+at_start = record { line = 1; headers = first_draft.read; settings = first_draft.settings; world = empty_world; steps = 0 }
 
 -- the bytes of a schedule have this replay text and status
 abbrev pub IsReplay : List ℕ → ℕ → List ℕ → Type 0
@@ -141,7 +141,7 @@ IsReplay bytes status text = Replays at_start (lines bytes) status text
 -- some first steps are printed, whole, and no more
 abbrev pub GoesOnPrinting : Progress → Judgement → (Progress → List ℕ → Type 0) → List ℕ → Type 0
 GoesOnPrinting p Passes Rest text = Rest (record p { line = p.line + 1 }) text
-GoesOnPrinting p (Sets setup) Rest text = Rest (record p { line = p.line + 1; headers = p.headers + 1; setup = setup }) text
+GoesOnPrinting p (Sets settings) Rest text = Rest (record p { line = p.line + 1; headers = p.headers + 1; settings = settings }) text
 GoesOnPrinting p (Steps event done) Rest text =
     (rest : List ℕ)
     × Rest (record p { line = p.line + 1; steps = p.steps + 1; world = done.world }) rest

@@ -6,7 +6,7 @@ abbrev pub text_of : List (List ℕ) → List ℕ
 text_of [] = []
 text_of (line ∷ lines) = line ++ 10 ∷ text_of lines
 
--- the headers behind the first two
+-- the headers after the first two
 abbrev pub and_limits : List (List ℕ) → List (List ℕ)
 and_limits rest =
     codes "margin 2" ∷ codes "deadline 9" ∷ codes "stable 9" ∷ codes "shards 10" ∷ codes "buffer 2" ∷ codes "threshold 1" ∷ codes "limit 1" ∷ rest

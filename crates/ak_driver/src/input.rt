@@ -2,7 +2,7 @@
 
 ghost use Rattle.std.specs.Prelude.{◌≡◌, ℕ, ◌+◌, ◌≤◌, ◌++◌, ◌∷◌, List, [], false, length, IfErr, IfOk, IfSome};
 ghost use Rattle.std.specs.Bool.{OnFalse};
-ghost use Rattle.ak_driver.specs.InputWords.{reach, UnreadCause, IsExtent, Reads};
+ghost use Rattle.ak_driver.specs.InputContracts.{reach, UnreadCause, IsExtent, Reads};
 
 use ak_outside::{Read, Source};
 use std::alloc::{AllocError, Global};

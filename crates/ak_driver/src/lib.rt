@@ -2,23 +2,21 @@
 #![tactic(auto)]
 
 mod input;
+mod laws;
 mod replay;
-mod replay_laws;
-mod worked;
 
 ghost use Rattle.std.specs.Prelude.{◌≡◌, ◌≤◌, ◌↔◌, ℕ, List, Some, IfSome, IsTrue, codes};
 ghost use Rattle.ak_outside.specs.Outside.{Rose};
 ghost use Rattle.ak_driver.specs.ReplayPromise.{Promises, EndsSource, IsCompleted};
-ghost use Rattle.ak_driver.specs.StatusWords.{AsksReplay, ReplayCause, Written, memory_line, usage_line};
+ghost use Rattle.ak_driver.specs.StatusContracts.{AsksReplay, ReplayCause, Written, memory_line, usage_line};
 
 use ak_address::Text;
 pub use ak_outside::Status;
+pub use laws::{replays_are_determined, worked_schedules};
 use ak_outside::{Sink, Source};
 pub use replay::run_replay;
 use replay::written;
-pub use replay_laws::replays_are_determined;
 use std::alloc::Global;
-pub use worked::worked_schedules;
 
 // The one word is `replay`.
 fn is_replay(words: &[Text]) -> bool
@@ -50,11 +48,11 @@ pub fn run<S: Source, W: Sink>(
     ensures read { S.faults input.old ≤ S.faults input.new }
     ensures written { W.faults output.old ≤ W.faults output.new }
     ensures replay { AsksReplay words.now → ReplayCause result (Rose (S.faults input.old) (S.faults input.new)) (Rose (W.faults output.old) (W.faults output.new)) }
-    ensures promise { AsksReplay words.now → Promises (S.remaining input.old) result (W.taken output.old) (W.taken output.new) }
+    ensures promise { AsksReplay words.now → Promises (S.remaining input.old) result (W.written output.old) (W.written output.new) }
     ensures end { AsksReplay words.now → IfSome (S.remaining input.old) (λ all. EndsSource result (S.remaining input.new)) }
     ensures complete { AsksReplay words.now → (bytes : List ℕ) → S.remaining input.old ≡ Some bytes → (Rose (S.faults input.old) (S.faults input.new) → ⊥) → (Rose (W.faults output.old) (W.faults output.new) → ⊥)
-        → IsCompleted bytes result (W.taken output.old) (W.taken output.new) }
-    ensures usage { (AsksReplay words.now → ⊥) → Written Status.Usage usage_line result (Rose (W.faults output.old) (W.faults output.new)) (W.taken output.old) (W.taken output.new) }
+        → IsCompleted bytes result (W.written output.old) (W.written output.new) }
+    ensures usage { (AsksReplay words.now → ⊥) → Written Status.Usage usage_line result (Rose (W.faults output.old) (W.faults output.new)) (W.written output.old) (W.written output.new) }
     ensures unread { (AsksReplay words.now → ⊥) → input.new ≡ input.old }
 {
     if is_replay(words) {
@@ -67,7 +65,7 @@ pub fn run<S: Source, W: Sink>(
 /// the sink failed.
 pub fn run_without_words<W: Sink>(output: &mut W) -> Status
     ensures count { W.faults output.old ≤ W.faults output.new }
-    ensures written { Written Status.Memory memory_line result (Rose (W.faults output.old) (W.faults output.new)) (W.taken output.old) (W.taken output.new) }
+    ensures written { Written Status.Memory memory_line result (Rose (W.faults output.old) (W.faults output.new)) (W.written output.old) (W.written output.new) }
 {
     written(output, b"error 7 memory\n", Status::Memory)
 }

@@ -6,8 +6,8 @@ ghost use Rattle.ak_schedule.specs.Draft.{first_draft};
 ghost use Rattle.ak_schedule.specs.Line.{IsPassedOver};
 ghost use Rattle.ak_driver.specs.ReplayPromise.{Prints, Promises, EndsSource, IsCompleted};
 ghost use Rattle.ak_driver.specs.ReplayText.{refusal_text, code_text};
-ghost use Rattle.ak_driver.specs.ReplayWords.{stop_of, IsReady, IsWhole, opened, progress, progress_of, HeadingAnswers, RunningAnswers, TurnAnswers, FinishAnswers, Ended};
-ghost use Rattle.ak_driver.specs.StatusWords.{ReplayCause, Written, memory_line};
+ghost use Rattle.ak_driver.specs.ReplayContracts.{stop_of, IsReady, IsWhole, opened, progress, progress_of, HeadingAnswers, RunningAnswers, TurnAnswers, FinishAnswers, Ended};
+ghost use Rattle.ak_driver.specs.StatusContracts.{ReplayCause, Written, memory_line};
 ghost use Rattle.ak_outside.specs.declared.status.Status.TheVariants.{Schedule, Memory};
 
 use crate::input::{MOST_LINES, Unread, read_all};
@@ -184,7 +184,7 @@ impl Replay {
         };
     }
 
-    // Behind the last line: the summary, or a header is missing.
+    // After the last line: the summary, or a header is missing.
     fn finish(&self, alloc: Global, out: &mut Vec<u8>) -> Result<(), Stop>
         requires { IsReady self.now.stage self.now.steps }
         ensures { FinishAnswers result (progress_of self.now) out.old.items out.new.items }
@@ -253,7 +253,7 @@ fn print_refusal(alloc: Global, code: Code, line: u64, out: &mut Vec<u8>) -> Res
 // Writes what was printed, and answers the status unless the sink fails.
 pub(crate) fn written<W: Sink>(output: &mut W, text: &[u8], status: Status) -> Status
     ensures count { W.faults output.old ≤ W.faults output.new }
-    ensures written { Written status text.now result (Rose (W.faults output.old) (W.faults output.new)) (W.taken output.old) (W.taken output.new) }
+    ensures written { Written status text.now result (Rose (W.faults output.old) (W.faults output.new)) (W.written output.old) (W.written output.new) }
 {
     if write_all(output, text) {
         status
@@ -266,7 +266,7 @@ pub(crate) fn written<W: Sink>(output: &mut W, text: &[u8], status: Status) -> S
 fn out_of_memory<W: Sink>(output: &mut W, text: &[u8]) -> Status
     ensures count { W.faults output.old ≤ W.faults output.new }
     ensures cause { ReplayCause result ⊥ (Rose (W.faults output.old) (W.faults output.new)) }
-    ensures written { Written Memory (text.now ++ memory_line) result (Rose (W.faults output.old) (W.faults output.new)) (W.taken output.old) (W.taken output.new) }
+    ensures written { Written Memory (text.now ++ memory_line) result (Rose (W.faults output.old) (W.faults output.new)) (W.written output.old) (W.written output.new) }
 {
     if !write_all(output, text) {
         return Status::Write;
@@ -284,8 +284,8 @@ fn refused<W: Sink>(
 ) -> Status
     ensures count { W.faults output.old ≤ W.faults output.new }
     ensures cause { ReplayCause result ⊥ (Rose (W.faults output.old) (W.faults output.new)) }
-    ensures refused { Written Schedule (out.old.items ++ refusal_text code line) result (Rose (W.faults output.old) (W.faults output.new)) (W.taken output.old) (W.taken output.new)
-        ⊎ Written Memory (out.old.items ++ memory_line) result (Rose (W.faults output.old) (W.faults output.new)) (W.taken output.old) (W.taken output.new) }
+    ensures refused { Written Schedule (out.old.items ++ refusal_text code line) result (Rose (W.faults output.old) (W.faults output.new)) (W.written output.old) (W.written output.new)
+        ⊎ Written Memory (out.old.items ++ memory_line) result (Rose (W.faults output.old) (W.faults output.new)) (W.written output.old) (W.written output.new) }
 {
     match print_refusal(alloc, code, line, out) {
         Ok(()) => written(output, out, Status::Schedule),
@@ -303,7 +303,7 @@ fn ended<W: Sink>(
 ) -> Status
     ensures count { W.faults output.old ≤ W.faults output.new }
     ensures cause { ReplayCause result ⊥ (Rose (W.faults output.old) (W.faults output.new)) }
-    ensures ended { Ended end line out.old.items result (Rose (W.faults output.old) (W.faults output.new)) (W.taken output.old) (W.taken output.new) }
+    ensures ended { Ended end line out.old.items result (Rose (W.faults output.old) (W.faults output.new)) (W.written output.old) (W.written output.new) }
 {
     match end {
         Ok(()) => written(output, out, Status::Done),
@@ -316,16 +316,16 @@ fn ended<W: Sink>(
 fn replay_bytes<W: Sink>(alloc: Global, bytes: &[u8], output: &mut W) -> Status
     ensures count { W.faults output.old ≤ W.faults output.new }
     ensures cause { ReplayCause result ⊥ (Rose (W.faults output.old) (W.faults output.new)) }
-    ensures prints { Prints bytes.now result (W.taken output.old) (W.taken output.new) }
+    ensures prints { Prints bytes.now result (W.written output.old) (W.written output.new) }
 {
     let mut replay = Replay::new(alloc);
     let mut out = Vec::new(alloc);
     let mut rest = bytes;
-    'lines: while let Some((line, behind)) = next_line(rest) {
+    'lines: while let Some((line, after_it)) = next_line(rest) {
         if let Err(stop) = replay.turn(alloc, line, &mut out) {
             return ended(alloc, Err(stop), replay.line, &mut out, output);
         }
-        rest = behind;
+        rest = after_it;
         if out.len() >= PIECE {
             if !write_all(output, &out) {
                 return Status::Write;
@@ -343,7 +343,7 @@ fn replay_bytes<W: Sink>(alloc: Global, bytes: &[u8], output: &mut W) -> Status
 /// line that says which and why; `Read` where the source failed, and nothing else is read then; `Write` where the sink
 /// failed, and nothing else is written then; and `Memory`, after whole steps.
 ///
-/// Where the source tells its bytes, the sink took what the rules say of all of them, also where reading stopped at a
+/// Where the bytes of the source are known, the sink took what the rules say of all of them, also where reading stopped at a
 /// limit before their end. After `Done` the source is at its end.
 ///
 /// Where neither the source nor the sink fails, the replay is complete: a schedule whose lines are all accepted gives
@@ -352,10 +352,10 @@ pub fn run_replay<S: Source, W: Sink>(alloc: Global, input: &mut S, output: &mut
     ensures read { S.faults input.old ≤ S.faults input.new }
     ensures written { W.faults output.old ≤ W.faults output.new }
     ensures cause { ReplayCause result (Rose (S.faults input.old) (S.faults input.new)) (Rose (W.faults output.old) (W.faults output.new)) }
-    ensures promise { Promises (S.remaining input.old) result (W.taken output.old) (W.taken output.new) }
+    ensures promise { Promises (S.remaining input.old) result (W.written output.old) (W.written output.new) }
     ensures end { IfSome (S.remaining input.old) (λ all. EndsSource result (S.remaining input.new)) }
     ensures complete { (bytes : List ℕ) → S.remaining input.old ≡ Some bytes → (Rose (S.faults input.old) (S.faults input.new) → ⊥) → (Rose (W.faults output.old) (W.faults output.new) → ⊥)
-        → IsCompleted bytes result (W.taken output.old) (W.taken output.new) }
+        → IsCompleted bytes result (W.written output.old) (W.written output.new) }
 {
     match read_all(alloc, input) {
         Ok(bytes) => replay_bytes(alloc, &bytes, output),

@@ -74,7 +74,7 @@ fn replays_end(rt: HostRuntime) -> Result<(), Fail> {
     Ok(())
 }
 
-// These lines behind the headers.
+// These lines after the headers.
 fn schedule(alloc: Global, events: &[u8]) -> Result<Vec<u8>, AllocError> {
     let mut text = HEADERS.to_vec(alloc)?;
     text.extend_from_slice(events)?;
@@ -117,9 +117,9 @@ fn replays_print_each_line_once(rt: HostRuntime) -> Result<(), Fail> {
     Ok(())
 }
 
-// Where the second write fails, the sink took the first piece, which is a front of the text.
+// Where the second write fails, the sink took the first piece, which is a prefix of the text.
 #[test]
-fn a_failed_write_leaves_a_front(rt: HostRuntime) -> Result<(), Fail> {
+fn a_failed_write_leaves_a_prefix(rt: HostRuntime) -> Result<(), Fail> {
     let alloc = rt.alloc();
     let words: [&[u8]; 1] = [b"replay"];
     let mut text = schedule(alloc, b"start a:1#1\n")?;
@@ -129,11 +129,11 @@ fn a_failed_write_leaves_a_front(rt: HostRuntime) -> Result<(), Fail> {
     let (status, whole, _, _) = outcome(alloc, &words, &text, &[], &[])?;
     assert_eq!(rt; status, Status::Done);
 
-    let (status, front, _, writes) = outcome(alloc, &words, &text, &[], &[2])?;
+    let (status, prefix, _, writes) = outcome(alloc, &words, &text, &[], &[2])?;
     assert_eq!(rt; status, Status::Write);
     assert_eq!(rt; writes, 1);
-    assert!(rt; front.len() >= 65536);
-    assert!(rt; front.len() < whole.len());
-    assert!(rt; whole.starts_with(&front));
+    assert!(rt; prefix.len() >= 65536);
+    assert!(rt; prefix.len() < whole.len());
+    assert!(rt; whole.starts_with(&prefix));
     Ok(())
 }

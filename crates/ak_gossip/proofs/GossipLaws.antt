@@ -3,7 +3,7 @@ use Rattle.std.proofs.Common.{◌≡◌, ◌≢◌, ◌⊎◌, inl, inr, ◌↔�
 use Rattle.std.proofs.lemmas.Option.{same_Some}
 use Rattle.std.specs.FinMap as map
 use Rattle.std.specs.Ordering.{eq_by_cmp}
-use Rattle.ak_address.specs.Unique.{Process, unique_cmp}
+use Rattle.ak_address.specs.Unique.{UniqueModel, unique_cmp}
 use Rattle.ak_address.specs.Uniques.{UniqueSet, has, with_one, those, union}
 use Rattle.ak_address.specs.Table.{value_with}
 use Rattle.ak_address.proofs.TableLaws.{key_itself, same_key, same_or_apart, get-insert_here, get-insert_elsewhere}
@@ -14,9 +14,9 @@ use Rattle.ak_member.specs.declared.effect.Effect.TheVariants.{Joined}
 use Rattle.ak_member.specs.declared.standing.Standing.{Standing}
 use Rattle.ak_member.specs.declared.standing.Standing.TheVariants.{Member, Buried}
 use Rattle.ak_member.specs.declared.status.Status.TheVariants.{Joining}
-use Rattle.ak_member.specs.Standing.{Standings, joined_standing, member_of, is_member}
+use Rattle.ak_member.specs.Standing.{Standings, merged_standing, member_of, is_member}
 use Rattle.ak_gossip.specs.Gossip.{GossipState, most_uniques, IsStanding, IsGossip, MayUpdate, seen_by, same}
-use Rattle.ak_gossip.proofs.Kept.{or_case, and_first, and_second, standing_with}
+use Rattle.ak_gossip.proofs.InvariantLemmas.{or_case, and_first, and_second, standing_with}
 use Rattle.ak_gossip.proofs.SeenLemmas.{len-insert-most}
 
 or_first : (a b : Bool) → a ≡ true → (a || b) ≡ true
@@ -31,7 +31,7 @@ both_true : (a b : Bool) → a ≡ true → b ≡ true → (a && b) ≡ true
 both_true true b p q = q
 both_true false b p q = p
 
-module _ (me : Process) (own incoming : GossipState) (who : Process) where
+module _ (me : UniqueModel) (own incoming : GossipState) (who : UniqueModel) where
   abbrev there : UniqueSet
   there = those incoming.seen (is_member own.view.standings)
 
@@ -78,7 +78,7 @@ module _ (me : Process) (own incoming : GossipState) (who : Process) where
 
 -- ---- a process that joins
 -- a member that is raised is a member, and so is one that was not known
-member_with : (a : Option Standing) (x : Standing) → is_some (member_of (Some x)) ≡ true → (is_some (member_of a) ≡ true) ⊎ (a ≡ None) → is_some (member_of (Some (value_with joined_standing a x))) ≡ true
+member_with : (a : Option Standing) (x : Standing) → is_some (member_of (Some x)) ≡ true → (is_some (member_of a) ≡ true) ⊎ (a ≡ None) → is_some (member_of (Some (value_with merged_standing a x))) ≡ true
 member_with None x member is = member
 member_with (Some (Member status n)) (Member other m) member is = refl
 member_with (Some (Member status n)) (Buried confirmed) member is = member
@@ -88,10 +88,10 @@ member_with (Some (Buried confirmed)) x member (inr none) = absurd (true≢false
 none_there : {X : Type 0} (x : X) → None ≡ Some x → ⊥
 none_there x is = true≢false (sym (ap is_some is))
 
-module _ (author who : Process) (g : GossipState) where
+module _ (author who : UniqueModel) (g : GossipState) where
   -- what is known then of the process that joins, and of all
   abbrev value : Standing
-  value = value_with joined_standing (map.get g.view.standings who) (Member Joining 0)
+  value = value_with merged_standing (map.get g.view.standings who) (Member Joining 0)
 
   abbrev later : Standings
   later = map.insert g.view.standings who value

@@ -1,10 +1,10 @@
 pub mod GossipLaws
-pub mod Kept
+pub mod InvariantLemmas
 pub mod MayUpdates
 pub mod PartsBack
 pub mod PartsLaws
 pub mod PartsOrder
-pub mod PartsPlaces
+pub mod PartsIndices
 pub mod PartsSteps
-pub mod PartsWalks
+pub mod PartsLemmas
 pub mod SeenLemmas

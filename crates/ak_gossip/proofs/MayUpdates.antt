@@ -3,7 +3,7 @@ use Rattle.std.proofs.Common.{◌≡◌, inl, inr, ◌<◌, true, IsTrue, List, 
 use Rattle.std.proofs.lemmas.Option.{same_Some}
 use Rattle.std.specs.FinMap as map
 use Rattle.std.specs.Ordering.{eq_by_cmp}
-use Rattle.ak_address.specs.Unique.{Process, unique_cmp}
+use Rattle.ak_address.specs.Unique.{UniqueModel, unique_cmp}
 use Rattle.ak_address.specs.Uniques.{UniqueSet, no_one, has, with_one}
 use Rattle.ak_address.proofs.TableLaws.{same_key}
 use Rattle.ak_address.proofs.UniquesLaws.{has-no_one, has-with_one}
@@ -13,7 +13,7 @@ use Rattle.ak_member.specs.declared.effect.Effect.{Effect}
 use Rattle.ak_member.specs.declared.effect.Effect.TheVariants.{Observed}
 use Rattle.ak_member.specs.Standing.{is_member}
 use Rattle.ak_gossip.specs.Gossip.{GossipState, is_known, IsGossip, MayUpdate}
-use Rattle.ak_gossip.proofs.Kept.{or_case, member_known}
+use Rattle.ak_gossip.proofs.InvariantLemmas.{or_case, member_known}
 
 none_there : {X : Type 0} (x : X) → None ≡ Some x → ⊥
 none_there x is = true≢false (sym (ap is_some is))
@@ -24,7 +24,7 @@ found_there f None o is some = absurd (true≢false (sym some))
 found_there f (Some x) o is some = sym (ap is_some is)
 
 -- an entry that finds one process unreachable
-pub found_may : (author who : Process) (subjects : UniqueSet) (effects : List Effect) (g : GossipState) → effects ≡ Observed subjects ∷ [] → subjects ≡ with_one no_one who
+pub found_may : (author who : UniqueModel) (subjects : UniqueSet) (effects : List Effect) (g : GossipState) → effects ≡ Observed subjects ∷ [] → subjects ≡ with_one no_one who
     → IsGossip g → count g.version author < BOUND → IsTrue (is_member g.view.standings author) → IsTrue (is_member g.view.standings who) → MayUpdate author effects g
 found_may author who subjects effects g is one p room stays found = subst (λ e. MayUpdate author e g) (sym is) (record {
   below_bound = room;
@@ -34,7 +34,7 @@ found_may author who subjects effects g is one p room stays found = subst (λ e.
   few = p.few;
 })
   where
-    alone : (subject : Process) → IsTrue (has (with_one no_one who) subject) → IsTrue (is_known g.view.standings subject)
+    alone : (subject : UniqueModel) → IsTrue (has (with_one no_one who) subject) → IsTrue (is_known g.view.standings subject)
     alone subject h = elim (or_case (eq_by_cmp unique_cmp subject who) (has no_one subject) (sym (has-with_one no_one who subject) ∙ h)) [
       | inl tied ↦ ap (is_known g.view.standings) (same_key subject who tied) ∙ member_known (map.get g.view.standings who) found
       | inr there ↦ absurd (true≢false (sym there ∙ has-no_one subject))

@@ -1,18 +1,18 @@
--- What the tests of parts mean: places that ascend below an end, and processes that ascend.
+-- What the tests of parts mean: indices that ascend below an end, and processes that ascend.
 use Rattle.std.proofs.Common.{◌≡◌, ◌↔◌, ◌⊎◌, inl, inr, ℕ, zero, suc, ◌+◌, ◌<◌, ◌≤◌, Bool, true, false, ◌&&◌, List, [], ◌∷◌, length, slice_get, Option, Some, None, is_some, refl, sym, ap, ◌∙◌, subst, arith, true≢false, leb-true, ltb-true, le-leb}
 use Rattle.std.proofs.lemmas.Bool.{lt-ltb}
 use Rattle.std.proofs.lemmas.Option.{same_Some}
 use Rattle.std.specs.declared.cmp.Ordering.{Ordering}
 use Rattle.std.specs.declared.cmp.Ordering.TheVariants.{Less, Equal, Greater}
 use Rattle.std.specs.Ordering.{is_lt}
-use Rattle.ak_address.specs.Unique.{Process, unique_cmp}
-use Rattle.ak_address.proofs.Order.{unique_total}
+use Rattle.ak_address.specs.Unique.{UniqueModel, unique_cmp}
+use Rattle.ak_address.proofs.OrderLemmas.{unique_total}
 use Rattle.ak_gossip.specs.declared.part.Part.{Part}
 use Rattle.ak_gossip.specs.Parts.{IsAscending, IsPart, AreParts, IsState}
 use Rattle.ak_clock.specs.declared.version.TheConstants.{BOUND}
 use Rattle.ak_gossip.specs.Gossip.{most_uniques}
 use Rattle.ak_gossip.specs.PartsWalk.{ascend_from, is_above, ascend_after}
-use Rattle.ak_gossip.proofs.Kept.{and_first, and_second}
+use Rattle.ak_gossip.proofs.InvariantLemmas.{and_first, and_second}
 
 pub not_there : {X : Type 0} (x : X) → None ≡ Some x → ⊥
 not_there x is = true≢false (sym (ap is_some is))
@@ -21,57 +21,57 @@ pub both_true : (a b : Bool) → a ≡ true → b ≡ true → (a && b) ≡ true
 both_true true b p q = q
 both_true false b p q = p
 
--- ---- places
--- the first place, and those that are left
-pub record IsHead (least end place : ℕ) (rest : List ℕ) : Type 0 where
-  pub above : least ≤ place
-  pub below : place < end
-  pub after : ascend_from (place + 1) end rest ≡ true
+-- ---- indices
+-- the first index, and those that are left
+pub record IsHead (least end index : ℕ) (rest : List ℕ) : Type 0 where
+  pub above : least ≤ index
+  pub below : index < end
+  pub after : ascend_from (index + 1) end rest ≡ true
 
-pub head_of : (least end place : ℕ) (rest : List ℕ) → ascend_from least end (place ∷ rest) ≡ true → IsHead least end place rest
-head_of least end place rest h = record {
-  above = leb-true least place (and_first _ _ h);
-  below = ltb-true place end (and_first _ _ (and_second _ _ h));
+pub head_of : (least end index : ℕ) (rest : List ℕ) → ascend_from least end (index ∷ rest) ≡ true → IsHead least end index rest
+head_of least end index rest h = record {
+  above = leb-true least index (and_first _ _ h);
+  below = ltb-true index end (and_first _ _ (and_second _ _ h));
   after = and_second _ _ (and_second _ _ h);
 }
 
-pub from_head : (least end place : ℕ) (rest : List ℕ) → IsHead least end place rest → ascend_from least end (place ∷ rest) ≡ true
-from_head least end place rest h = both_true _ _ (le-leb least place h.above) (both_true _ _ (lt-ltb place end h.below) h.after)
+pub from_head : (least end index : ℕ) (rest : List ℕ) → IsHead least end index rest → ascend_from least end (index ∷ rest) ≡ true
+from_head least end index rest h = both_true _ _ (le-leb least index h.above) (both_true _ _ (lt-ltb index end h.below) h.after)
 
-pub at_least : (least end : ℕ) (places : List ℕ) → ascend_from least end places ≡ true → (i p : ℕ) → slice_get places i ≡ Some p → least ≤ p
+pub at_least : (least end : ℕ) (indices : List ℕ) → ascend_from least end indices ≡ true → (i p : ℕ) → slice_get indices i ≡ Some p → least ≤ p
 at_least least end [] h i p is = absurd (not_there p is)
-at_least least end (x ∷ places) h zero p is =
-    let head : IsHead least end x places = head_of least end x places h in
+at_least least end (x ∷ indices) h zero p is =
+    let head : IsHead least end x indices = head_of least end x indices h in
     let same : x ≡ p = same_Some x p is in
     omega (arith, head.above)
-at_least least end (x ∷ places) h (suc i) p is =
-    let head : IsHead least end x places = head_of least end x places h in
-    let later : x + 1 ≤ p = at_least (x + 1) end places head.after i p is in
+at_least least end (x ∷ indices) h (suc i) p is =
+    let head : IsHead least end x indices = head_of least end x indices h in
+    let later : x + 1 ≤ p = at_least (x + 1) end indices head.after i p is in
     omega (arith, head.above)
 
-pub all_below : (least end : ℕ) (places : List ℕ) → ascend_from least end places ≡ true → (i p : ℕ) → slice_get places i ≡ Some p → p < end
+pub all_below : (least end : ℕ) (indices : List ℕ) → ascend_from least end indices ≡ true → (i p : ℕ) → slice_get indices i ≡ Some p → p < end
 all_below least end [] h i p is = absurd (not_there p is)
-all_below least end (x ∷ places) h zero p is =
-    let head : IsHead least end x places = head_of least end x places h in
+all_below least end (x ∷ indices) h zero p is =
+    let head : IsHead least end x indices = head_of least end x indices h in
     let same : x ≡ p = same_Some x p is in
     omega (arith, head.below)
-all_below least end (x ∷ places) h (suc i) p is = all_below (x + 1) end places (head_of least end x places h).after i p is
+all_below least end (x ∷ indices) h (suc i) p is = all_below (x + 1) end indices (head_of least end x indices h).after i p is
 
-pub all_ascend : (least end : ℕ) (places : List ℕ) → ascend_from least end places ≡ true → IsAscending places
+pub all_ascend : (least end : ℕ) (indices : List ℕ) → ascend_from least end indices ≡ true → IsAscending indices
 all_ascend least end [] h i j p q lt is js = absurd (not_there p is)
-all_ascend least end (x ∷ places) h i zero p q lt is js = absurd (omega arith)
-all_ascend least end (x ∷ places) h zero (suc j) p q lt is js =
+all_ascend least end (x ∷ indices) h i zero p q lt is js = absurd (omega arith)
+all_ascend least end (x ∷ indices) h zero (suc j) p q lt is js =
     let same : x ≡ p = same_Some x p is in
-    let later : x + 1 ≤ q = at_least (x + 1) end places (head_of least end x places h).after j q js in
+    let later : x + 1 ≤ q = at_least (x + 1) end indices (head_of least end x indices h).after j q js in
     omega arith
-all_ascend least end (x ∷ places) h (suc i) (suc j) p q lt is js = all_ascend (x + 1) end places (head_of least end x places h).after i j p q (omega arith) is js
+all_ascend least end (x ∷ indices) h (suc i) (suc j) p q lt is js = all_ascend (x + 1) end indices (head_of least end x indices h).after i j p q (omega arith) is js
 
-pub test_of : (least end : ℕ) (places : List ℕ) → ((i p : ℕ) → slice_get places i ≡ Some p → least ≤ p) → ((i p : ℕ) → slice_get places i ≡ Some p → p < end) → IsAscending places → ascend_from least end places ≡ true
+pub test_of : (least end : ℕ) (indices : List ℕ) → ((i p : ℕ) → slice_get indices i ≡ Some p → least ≤ p) → ((i p : ℕ) → slice_get indices i ≡ Some p → p < end) → IsAscending indices → ascend_from least end indices ≡ true
 test_of least end [] above below ascending = refl
-test_of least end (x ∷ places) above below ascending = from_head least end x places (record {
+test_of least end (x ∷ indices) above below ascending = from_head least end x indices (record {
   above = above 0 x refl;
   below = below 0 x refl;
-  after = test_of (x + 1) end places (λ i p is. let more : x < p = ascending 0 (suc i) x p (omega arith) refl is in omega arith) (λ i p is. below (suc i) p is) (λ i j p q lt is js. ascending (suc i) (suc j) p q (omega arith) is js);
+  after = test_of (x + 1) end indices (λ i p is. let more : x < p = ascending 0 (suc i) x p (omega arith) refl is in omega arith) (λ i p is. below (suc i) p is) (λ i j p q lt is js. ascending (suc i) (suc j) p q (omega arith) is js);
 })
 
 -- ---- processes
@@ -80,11 +80,11 @@ less_of Less h = refl
 less_of Equal h = absurd (true≢false (sym h))
 less_of Greater h = absurd (true≢false (sym h))
 
-pub above_next : (last : Option Process) (k q : Process) → is_above last k ≡ true → unique_cmp k q ≡ Less → is_above last q ≡ true
+pub above_next : (last : Option UniqueModel) (k q : UniqueModel) → is_above last k ≡ true → unique_cmp k q ≡ Less → is_above last q ≡ true
 above_next None k q h less = refl
 above_next (Some last) k q h less = ap is_lt (unique_total.trans last k q (less_of _ h) less)
 
-pub all_above : (last : Option Process) (parts : List Part) → ascend_after last parts ≡ true → (i : ℕ) (part : Part) → slice_get parts i ≡ Some part → is_above last part.unique ≡ true
+pub all_above : (last : Option UniqueModel) (parts : List Part) → ascend_after last parts ≡ true → (i : ℕ) (part : Part) → slice_get parts i ≡ Some part → is_above last part.unique ≡ true
 all_above last [] h i part is = absurd (not_there part is)
 all_above last (x ∷ parts) h zero part is = subst (λ (p : Part). is_above last p.unique ≡ true) (same_Some x part is) (and_first _ _ h)
 all_above last (x ∷ parts) h (suc i) part is =
@@ -94,7 +94,7 @@ all_above last (x ∷ parts) h (suc i) part is =
 abbrev pub Ascend : List Part → Type 0
 Ascend parts = (i j : ℕ) (one other : Part) → i < j → slice_get parts i ≡ Some one → slice_get parts j ≡ Some other → unique_cmp one.unique other.unique ≡ Less
 
-pub uniques_ascend_from : (last : Option Process) (parts : List Part) → ascend_after last parts ≡ true → Ascend parts
+pub uniques_ascend_from : (last : Option UniqueModel) (parts : List Part) → ascend_after last parts ≡ true → Ascend parts
 uniques_ascend_from last [] h i j one other lt is js = absurd (not_there one is)
 uniques_ascend_from last (x ∷ parts) h i zero one other lt is js = absurd (omega arith)
 uniques_ascend_from last (x ∷ parts) h zero (suc j) one other lt is js =
@@ -104,7 +104,7 @@ uniques_ascend_from last (x ∷ parts) h (suc i) (suc j) one other lt is js = un
 pub ascend_rest : (x : Part) (parts : List Part) → Ascend (x ∷ parts) → Ascend parts
 ascend_rest x parts a i j one other lt is js = a (suc i) (suc j) one other (omega arith) is js
 
-pub uniques_test : (last : Option Process) (parts : List Part) → ((i : ℕ) (part : Part) → slice_get parts i ≡ Some part → is_above last part.unique ≡ true) → Ascend parts → ascend_after last parts ≡ true
+pub uniques_test : (last : Option UniqueModel) (parts : List Part) → ((i : ℕ) (part : Part) → slice_get parts i ≡ Some part → is_above last part.unique ≡ true) → Ascend parts → ascend_after last parts ≡ true
 uniques_test last [] above a = refl
 uniques_test last (x ∷ parts) above a =
     both_true _ _ (above 0 x refl)

@@ -5,35 +5,35 @@ use Rattle.std.specs.FinMap as map
 use Rattle.std.specs.declared.cmp.Ordering.TheVariants.{Less}
 use Rattle.std.specs.Ordering.{is_lt}
 use Rattle.std.specs.Cmp.{tied_itself}
-use Rattle.ak_address.specs.Unique.{Process, unique_cmp}
+use Rattle.ak_address.specs.Unique.{UniqueModel, unique_cmp}
 use Rattle.ak_address.specs.Uniques.{UniqueSet, no_one, has, with_one}
 use Rattle.ak_address.specs.Table.{value_with}
-use Rattle.ak_address.proofs.Order.{unique_total}
+use Rattle.ak_address.proofs.OrderLemmas.{unique_total}
 use Rattle.ak_address.proofs.TableLaws.{key_itself, other_key, get-empty, get-insert_here, get-insert_elsewhere}
 use Rattle.ak_address.proofs.UniquesLaws.{has-no_one, has-with_one}
 use Rattle.ak_clock.specs.Version.{Counts, count, reaching}
 use Rattle.ak_clock.proofs.VersionLaws.{count-empty, count-reaching_there, count-reaching_others}
 use Rattle.ak_member.specs.declared.standing.Standing.{Standing}
-use Rattle.ak_member.specs.Standing.{Standings, nobody, joined_standing}
+use Rattle.ak_member.specs.Standing.{Standings, nobody, merged_standing}
 use Rattle.ak_member.specs.View.{Row, RowTable, later_row}
 use Rattle.ak_member.proofs.ViewLaws.{get-known_here, get-known_elsewhere}
 use Rattle.ak_reach.specs.Reach.{with_row}
 use Rattle.ak_gossip.specs.declared.part.Part.{Part}
-use Rattle.ak_gossip.specs.PartsWalk.{standing_of, with_counts, with_known, with_standings, with_seen, with_places, with_part_row, with_part_rows}
+use Rattle.ak_gossip.specs.PartsWalk.{standing_of, with_counts, with_known, with_standings, with_seen, with_indices, with_part_row, with_part_rows}
 use Rattle.ak_gossip.proofs.PartsOrder.{Ascend, ascend_rest, not_there}
 use Rattle.ak_gossip.proofs.SeenLemmas.{len-insert-most}
 
 -- what is below is another
-pub below_is_other : (q k : Process) → unique_cmp q k ≡ Less → q ≢ k
+pub below_is_other : (q k : UniqueModel) → unique_cmp q k ≡ Less → q ≢ k
 below_is_other q k less same = true≢false (ap is_lt (sym less ∙ ap (unique_cmp q) (sym same) ∙ tied_itself unique_total q))
 
 -- ---- any table
-module _ {S V : Type 0} (step : S → Part → S) (at : S → Process → V) (apart : (s : S) (part : Part) (q : Process) → q ≢ part.unique → at (step s part) q ≡ at s q) where
+module _ {S V : Type 0} (step : S → Part → S) (at : S → UniqueModel → V) (apart : (s : S) (part : Part) (q : UniqueModel) → q ≢ part.unique → at (step s part) q ≡ at s q) where
   abbrev pub all_steps : S → List Part → S
   all_steps s [] = s
   all_steps s (part ∷ rest) = all_steps (step s part) rest
 
-  pub steps_elsewhere : (s : S) (parts : List Part) (q : Process) → ((i : ℕ) (part : Part) → slice_get parts i ≡ Some part → q ≢ part.unique) → at (all_steps s parts) q ≡ at s q
+  pub steps_elsewhere : (s : S) (parts : List Part) (q : UniqueModel) → ((i : ℕ) (part : Part) → slice_get parts i ≡ Some part → q ≢ part.unique) → at (all_steps s parts) q ≡ at s q
   steps_elsewhere s [] q none = refl
   steps_elsewhere s (x ∷ parts) q none = steps_elsewhere (step s x) parts q (λ i part is. none (suc i) part is) ∙ apart s x q (none 0 x refl)
 
@@ -60,7 +60,7 @@ module _ {S V : Type 0} (step : S → Part → S) (at : S → Process → V) (ap
 abbrev counting : Counts → Part → Counts
 counting v part = reaching v part.unique part.count
 
-counting_apart : (v : Counts) (part : Part) (q : Process) → q ≢ part.unique → count (counting v part) q ≡ count v q
+counting_apart : (v : Counts) (part : Part) (q : UniqueModel) → q ≢ part.unique → count (counting v part) q ≡ count v q
 counting_apart v part q apart = count-reaching_others v part.unique q part.count apart
 
 counts_are_steps : (v : Counts) (parts : List Part) → with_counts v parts ≡ all_steps counting count counting_apart v parts
@@ -74,22 +74,22 @@ count_of_part parts a i part is =
     let nothing : count there.before part.unique ≡ 0 = there.untouched ∙ count-empty part.unique in
     ap (λ v. count v part.unique) (counts_are_steps map.empty parts) ∙ there.made ∙ e ∙ ap (max part.count) nothing ∙ omega arith
 
-pub count_of_other : (parts : List Part) (q : Process) → ((i : ℕ) (part : Part) → slice_get parts i ≡ Some part → q ≢ part.unique) → count (with_counts map.empty parts) q ≡ 0
+pub count_of_other : (parts : List Part) (q : UniqueModel) → ((i : ℕ) (part : Part) → slice_get parts i ≡ Some part → q ≢ part.unique) → count (with_counts map.empty parts) q ≡ 0
 count_of_other parts q none = ap (λ v. count v q) (counts_are_steps map.empty parts) ∙ steps_elsewhere counting count counting_apart map.empty parts q none ∙ count-empty q
 
 -- ---- standings
 abbrev standing_step : Standings → Part → Standings
 standing_step s part = with_known s part.unique (standing_of part.state part.up_number)
 
-known_apart : (s : Standings) (who q : Process) (o : Option Standing) → q ≢ who → map.get (with_known s who o) q ≡ map.get s q
+known_apart : (s : Standings) (who q : UniqueModel) (o : Option Standing) → q ≢ who → map.get (with_known s who o) q ≡ map.get s q
 known_apart s who q None apart = refl
 known_apart s who q (Some x) apart = get-known_elsewhere s who q x apart
 
-known_here : (s : Standings) (who : Process) (o : Option Standing) → map.get s who ≡ None → map.get (with_known s who o) who ≡ o
+known_here : (s : Standings) (who : UniqueModel) (o : Option Standing) → map.get s who ≡ None → map.get (with_known s who o) who ≡ o
 known_here s who None none = none
-known_here s who (Some x) none = get-known_here s who x ∙ ap (λ a. Some (value_with joined_standing a x)) none
+known_here s who (Some x) none = get-known_here s who x ∙ ap (λ a. Some (value_with merged_standing a x)) none
 
-standing_apart : (s : Standings) (part : Part) (q : Process) → q ≢ part.unique → map.get (standing_step s part) q ≡ map.get s q
+standing_apart : (s : Standings) (part : Part) (q : UniqueModel) → q ≢ part.unique → map.get (standing_step s part) q ≡ map.get s q
 standing_apart s part q apart = known_apart s part.unique q (standing_of part.state part.up_number) apart
 
 standings_are_steps : (s : Standings) (parts : List Part) → with_standings s parts ≡ all_steps standing_step map.get standing_apart s parts
@@ -102,12 +102,12 @@ standing_of_part parts a i part is =
     ap (λ s. map.get s part.unique) (standings_are_steps nobody parts) ∙ there.made
     ∙ known_here there.before part.unique (standing_of part.state part.up_number) (there.untouched ∙ get-empty part.unique)
 
-pub standing_of_other : (parts : List Part) (q : Process) → ((i : ℕ) (part : Part) → slice_get parts i ≡ Some part → q ≢ part.unique) → map.get (with_standings nobody parts) q ≡ None
+pub standing_of_other : (parts : List Part) (q : UniqueModel) → ((i : ℕ) (part : Part) → slice_get parts i ≡ Some part → q ≢ part.unique) → map.get (with_standings nobody parts) q ≡ None
 standing_of_other parts q none = ap (λ s. map.get s q) (standings_are_steps nobody parts) ∙ steps_elsewhere standing_step map.get standing_apart nobody parts q none ∙ get-empty q
 
-len-with_known : (s : Standings) (who : Process) (o : Option Standing) → map.len (with_known s who o) ≤ map.len s + 1
+len-with_known : (s : Standings) (who : UniqueModel) (o : Option Standing) → map.len (with_known s who o) ≤ map.len s + 1
 len-with_known s who None = omega arith
-len-with_known s who (Some x) = len-insert-most s who (value_with joined_standing (map.get s who) x)
+len-with_known s who (Some x) = len-insert-most s who (value_with merged_standing (map.get s who) x)
 
 len-with_standings : (s : Standings) (parts : List Part) → map.len (with_standings s parts) ≤ map.len s + length parts
 len-with_standings s [] = omega arith
@@ -123,15 +123,15 @@ few_standings parts = omega (arith, len-with_standings nobody parts, map.len-emp
 abbrev seen_step : UniqueSet → Part → UniqueSet
 seen_step seen part = if part.seen then with_one seen part.unique else seen
 
-one_apart : (b : Bool) (seen : UniqueSet) (who q : Process) → q ≢ who → has (if b then with_one seen who else seen) q ≡ has seen q
+one_apart : (b : Bool) (seen : UniqueSet) (who q : UniqueModel) → q ≢ who → has (if b then with_one seen who else seen) q ≡ has seen q
 one_apart true seen who q apart = has-with_one seen who q ∙ ap (λ b. b || has seen q) (other_key q who apart)
 one_apart false seen who q apart = refl
 
-one_here : (b : Bool) (seen : UniqueSet) (who : Process) → has seen who ≡ false → has (if b then with_one seen who else seen) who ≡ b
+one_here : (b : Bool) (seen : UniqueSet) (who : UniqueModel) → has seen who ≡ false → has (if b then with_one seen who else seen) who ≡ b
 one_here true seen who none = has-with_one seen who who ∙ ap (λ b. b || has seen who) (key_itself who)
 one_here false seen who none = none
 
-seen_apart : (seen : UniqueSet) (part : Part) (q : Process) → q ≢ part.unique → has (seen_step seen part) q ≡ has seen q
+seen_apart : (seen : UniqueSet) (part : Part) (q : UniqueModel) → q ≢ part.unique → has (seen_step seen part) q ≡ has seen q
 seen_apart seen part q apart = one_apart part.seen seen part.unique q apart
 
 seen_are_steps : (seen : UniqueSet) (parts : List Part) → with_seen seen parts ≡ all_steps seen_step has seen_apart seen parts
@@ -144,25 +144,25 @@ seen_of_part parts a i part is =
     ap (λ s. has s part.unique) (seen_are_steps no_one parts) ∙ there.made
     ∙ one_here part.seen there.before part.unique (there.untouched ∙ has-no_one part.unique)
 
-pub seen_of_other : (parts : List Part) (q : Process) → ((i : ℕ) (part : Part) → slice_get parts i ≡ Some part → q ≢ part.unique) → has (with_seen no_one parts) q ≡ false
+pub seen_of_other : (parts : List Part) (q : UniqueModel) → ((i : ℕ) (part : Part) → slice_get parts i ≡ Some part → q ≢ part.unique) → has (with_seen no_one parts) q ≡ false
 seen_of_other parts q none = ap (λ s. has s q) (seen_are_steps no_one parts) ∙ steps_elsewhere seen_step has seen_apart no_one parts q none ∙ has-no_one q
 
 -- ---- rows
 -- the row of a part among these parts, where it has one
 abbrev pub row_in : List Part → Part → Option Row
-row_in parts part = if nat_eq part.row_number 0 then None else Some (record { number = part.row_number; subjects = with_places parts no_one part.subjects })
+row_in parts part = if nat_eq part.row_number 0 then None else Some (record { number = part.row_number; subjects = with_indices parts no_one part.subjects })
 
-row_put : (b : Bool) (rows : RowTable) (who : Process) (row : Row) → map.get rows who ≡ None → map.get (if b then rows else with_row rows who row) who ≡ (if b then None else Some row)
+row_put : (b : Bool) (rows : RowTable) (who : UniqueModel) (row : Row) → map.get rows who ≡ None → map.get (if b then rows else with_row rows who row) who ≡ (if b then None else Some row)
 row_put true rows who row none = none
 row_put false rows who row none = get-insert_here rows who (value_with later_row (map.get rows who) row) ∙ ap (λ a. Some (value_with later_row a row)) none
 
-row_kept : (b : Bool) (rows : RowTable) (who q : Process) (row : Row) → q ≢ who → map.get (if b then rows else with_row rows who row) q ≡ map.get rows q
+row_kept : (b : Bool) (rows : RowTable) (who q : UniqueModel) (row : Row) → q ≢ who → map.get (if b then rows else with_row rows who row) q ≡ map.get rows q
 row_kept true rows who q row apart = refl
 row_kept false rows who q row apart = get-insert_elsewhere rows who (value_with later_row (map.get rows who) row) q apart
 
 module _ (all : List Part) where
-  row_apart : (rows : RowTable) (part : Part) (q : Process) → q ≢ part.unique → map.get (with_part_row all rows part) q ≡ map.get rows q
-  row_apart rows part q apart = row_kept (nat_eq part.row_number 0) rows part.unique q (record { number = part.row_number; subjects = with_places all no_one part.subjects }) apart
+  row_apart : (rows : RowTable) (part : Part) (q : UniqueModel) → q ≢ part.unique → map.get (with_part_row all rows part) q ≡ map.get rows q
+  row_apart rows part q apart = row_kept (nat_eq part.row_number 0) rows part.unique q (record { number = part.row_number; subjects = with_indices all no_one part.subjects }) apart
 
   rows_are_steps : (rows : RowTable) (parts : List Part) → with_part_rows all rows parts ≡ all_steps (with_part_row all) map.get row_apart rows parts
   rows_are_steps rows [] = refl
@@ -172,7 +172,7 @@ module _ (all : List Part) where
   row_of_part parts a i part is =
       let there = steps_here (with_part_row all) map.get row_apart map.empty parts a i part is in
       ap (λ r. map.get r part.unique) (rows_are_steps map.empty parts) ∙ there.made
-      ∙ row_put (nat_eq part.row_number 0) there.before part.unique (record { number = part.row_number; subjects = with_places all no_one part.subjects }) (there.untouched ∙ get-empty part.unique)
+      ∙ row_put (nat_eq part.row_number 0) there.before part.unique (record { number = part.row_number; subjects = with_indices all no_one part.subjects }) (there.untouched ∙ get-empty part.unique)
 
-  pub row_of_other : (parts : List Part) (q : Process) → ((i : ℕ) (part : Part) → slice_get parts i ≡ Some part → q ≢ part.unique) → map.get (with_part_rows all map.empty parts) q ≡ None
+  pub row_of_other : (parts : List Part) (q : UniqueModel) → ((i : ℕ) (part : Part) → slice_get parts i ≡ Some part → q ≢ part.unique) → map.get (with_part_rows all map.empty parts) q ≡ None
   row_of_other parts q none = ap (λ r. map.get r q) (rows_are_steps map.empty parts) ∙ steps_elsewhere (with_part_row all) map.get row_apart map.empty parts q none ∙ get-empty q

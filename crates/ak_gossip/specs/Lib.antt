@@ -1,4 +1,4 @@
 pub mod Gossip
-pub mod GossipWords
+pub mod GossipContracts
 pub mod Parts
 pub mod PartsWalk

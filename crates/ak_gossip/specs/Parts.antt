@@ -1,9 +1,9 @@
 -- A gossip as a list of parts, one for each process in it, as it stands in a datagram (this project's choice). The parts
--- ascend by process; a part names other processes by their places in the list, from 0 on.
+-- ascend by process; a part names other processes by their indices in the list, from 0 on.
 use Rattle.std.specs.Prelude.{◌≡◌, ℕ, ◌+◌, ◌<◌, ◌≤◌, Bool, true, false, IsTrue, List, [], ◌∷◌, map, length, slice_get, Option, Some, None, if◌then◌else◌, IsSome}
 use Rattle.std.specs.FinMap as table
 use Rattle.std.specs.declared.cmp.Ordering.TheVariants.{Less}
-use Rattle.ak_address.specs.Unique.{Process, unique_cmp}
+use Rattle.ak_address.specs.Unique.{UniqueModel, unique_cmp}
 use Rattle.ak_address.specs.Uniques.{UniqueSet, has}
 use Rattle.ak_clock.specs.declared.version.TheConstants.{BOUND}
 use Rattle.ak_clock.specs.Version.{count}
@@ -29,16 +29,16 @@ abbrev pub row_number_of : Option Row → ℕ
 row_number_of None = 0
 row_number_of (Some row) = row.number
 
--- the places, counted on from the first, of those in a list that are in a set
-abbrev pub places_of : UniqueSet → ℕ → List Process → List ℕ
-places_of set first [] = []
-places_of set first (who ∷ rest) = if has set who then first ∷ places_of set (first + 1) rest else places_of set (first + 1) rest
+-- the indices, counted on from the first, of those in a list that are in a set
+abbrev pub indices_of : UniqueSet → ℕ → List UniqueModel → List ℕ
+indices_of set first [] = []
+indices_of set first (who ∷ rest) = if has set who then first ∷ indices_of set (first + 1) rest else indices_of set (first + 1) rest
 
-abbrev pub subjects_of : Option Row → List Process → List ℕ
+abbrev pub subjects_of : Option Row → List UniqueModel → List ℕ
 subjects_of None everybody = []
-subjects_of (Some row) everybody = places_of row.subjects 0 everybody
+subjects_of (Some row) everybody = indices_of row.subjects 0 everybody
 
-abbrev pub part_of : GossipState → Process × Standing → Part
+abbrev pub part_of : GossipState → UniqueModel × Standing → Part
 part_of g row =
     record {
       unique = row.0;
@@ -64,7 +64,7 @@ pub record IsState (state number : ℕ) (seen : Bool) : Type 0 where
 
 -- each is below the next
 abbrev pub IsAscending : List ℕ → Type 0
-IsAscending places = (i j p q : ℕ) → i < j → slice_get places i ≡ Some p → slice_get places j ≡ Some q → p < q
+IsAscending indices = (i j p q : ℕ) → i < j → slice_get indices i ≡ Some p → slice_get indices j ≡ Some q → p < q
 
 -- one part among so many
 pub record IsPart (many : ℕ) (part : Part) : Type 0 where

@@ -2,7 +2,7 @@
 use Rattle.std.specs.Prelude.{ℕ, ◌+◌, ◌==◌, nat_le, nat_lt, Bool, true, false, ◌&&◌, List, [], ◌∷◌, Option, None, Some, if◌then◌else◌}
 use Rattle.std.specs.Ordering.{is_lt}
 use Rattle.std.specs.Prelude.{slice_get}
-use Rattle.ak_address.specs.Unique.{Process, unique_cmp}
+use Rattle.ak_address.specs.Unique.{UniqueModel, unique_cmp}
 use Rattle.ak_address.specs.Uniques.{UniqueSet, no_one, has, with_one}
 use Rattle.ak_clock.specs.Version.{Counts, reaching}
 use Rattle.ak_member.specs.declared.standing.Standing.{Standing}
@@ -25,23 +25,23 @@ standing_of state number =
     else (if state == 7 then Some (Buried true)
     else None))))))
 
--- the places ascend from the least on, below the end
+-- the indices ascend from the least on, below the end
 abbrev pub ascend_from : ℕ → ℕ → List ℕ → Bool
 ascend_from least end [] = true
-ascend_from least end (place ∷ rest) = nat_le least place && (nat_lt place end && ascend_from (place + 1) end rest)
+ascend_from least end (index ∷ rest) = nat_le least index && (nat_lt index end && ascend_from (index + 1) end rest)
 
 -- the process is above the last one, where there is one
-abbrev pub is_above : Option Process → Process → Bool
+abbrev pub is_above : Option UniqueModel → UniqueModel → Bool
 is_above None who = true
 is_above (Some last) who = is_lt (unique_cmp last who)
 
 -- the processes of the parts ascend, all above the last one
-abbrev pub ascend_after : Option Process → List Part → Bool
+abbrev pub ascend_after : Option UniqueModel → List Part → Bool
 ascend_after last [] = true
 ascend_after last (part ∷ rest) = is_above last part.unique && ascend_after (Some part.unique) rest
 
 -- the process, if there is one, is in the set
-abbrev pub has_there : UniqueSet → Option Process → Bool
+abbrev pub has_there : UniqueSet → Option UniqueModel → Bool
 has_there set None = false
 has_there set (Some who) = has set who
 
@@ -50,8 +50,8 @@ abbrev pub with_counts : Counts → List Part → Counts
 with_counts v [] = v
 with_counts v (part ∷ rest) = with_counts (reaching v part.unique part.count) rest
 
--- the standing of a process, where there is one, joined with what is known
-abbrev pub with_known : Standings → Process → Option Standing → Standings
+-- the standing of a process, where there is one, merged with what is known
+abbrev pub with_known : Standings → UniqueModel → Option Standing → Standings
 with_known s who None = s
 with_known s who (Some standing) = known s who standing
 
@@ -68,16 +68,16 @@ abbrev pub with_process : UniqueSet → Option Part → UniqueSet
 with_process set None = set
 with_process set (Some part) = with_one set part.unique
 
--- the processes of the parts at these places are added
-abbrev pub with_places : List Part → UniqueSet → List ℕ → UniqueSet
-with_places parts set [] = set
-with_places parts set (place ∷ rest) = with_places parts (with_process set (slice_get parts place)) rest
+-- the processes of the parts at these indices are added
+abbrev pub with_indices : List Part → UniqueSet → List ℕ → UniqueSet
+with_indices parts set [] = set
+with_indices parts set (index ∷ rest) = with_indices parts (with_process set (slice_get parts index)) rest
 
 -- the row of a part, where it has one, among these parts
 abbrev pub with_part_row : List Part → RowTable → Part → RowTable
 with_part_row parts rows part =
     if part.row_number == 0 then rows
-    else with_row rows part.unique (record { number = part.row_number; subjects = with_places parts no_one part.subjects })
+    else with_row rows part.unique (record { number = part.row_number; subjects = with_indices parts no_one part.subjects })
 
 abbrev pub with_part_rows : List Part → RowTable → List Part → RowTable
 with_part_rows parts rows [] = rows

@@ -2,11 +2,11 @@ ghost use Rattle.std.specs.Prelude.{◌≡◌, ◌+◌, ◌≤◌, if◌then◌e
 ghost use Rattle.std.specs.FinMap as map;
 ghost use Rattle.ak_address.specs.Uniques.{has, with_one, those, union};
 ghost use Rattle.ak_clock.specs.Version.{count};
-ghost use Rattle.ak_member.specs.Standing.{is_member, joined_standings};
+ghost use Rattle.ak_member.specs.Standing.{is_member, merged_standings};
 ghost use Rattle.ak_member.specs.View.{observed, after_observed};
 ghost use Rattle.ak_reach.specs.Reach.{is_as_new};
 ghost use Rattle.ak_gossip.specs.Gossip.{GossipState, IsGossip, most_uniques, nothing_known, MayUpdate, updated, seen_by, same, both};
-ghost use Rattle.ak_gossip.specs.GossipWords.{Receives, excess_of};
+ghost use Rattle.ak_gossip.specs.GossipContracts.{Receives, excess_of};
 
 use ak_address::{Unique, Uniques};
 use ak_clock::{Relation, Version};
@@ -243,7 +243,7 @@ impl Gossip {
         me: &Unique,
         incoming: &Gossip,
     ) -> Result<Received, AllocError>
-        requires { map.len (joined_standings self.old.view.standings incoming.now.view.standings) ≤ most_uniques }
+        requires { map.len (merged_standings self.old.view.standings incoming.now.view.standings) ≤ most_uniques }
         ensures ok { OnOk result (self.new ≡ seen_by me.now (both self.old incoming.now)) }
         ensures answer { IfOk result (λ r. r ≡ Received.Merged) }
         ensures err { OnErr result (self.new ≡ self.old) }
@@ -267,7 +267,7 @@ impl Gossip {
 
     // How many processes both know together, where a gossip may not hold so many.
     fn excess(&self, alloc: Global, incoming: &Gossip) -> Result<Option<u32>, AllocError>
-        ensures { IfOk result (λ excess. excess ≡ excess_of (map.len (joined_standings self.now.view.standings incoming.now.view.standings))) }
+        ensures { IfOk result (λ excess. excess ≡ excess_of (map.len (merged_standings self.now.view.standings incoming.now.view.standings))) }
     {
         let own = self.members.uniques();
         let theirs = incoming.members.uniques();
@@ -287,7 +287,7 @@ pub(crate) const MOST_UNIQUES: usize = 128;
 
 // How many processes are known to either.
 fn size_of_both(alloc: Global, one: &Members, other: &Members) -> Result<usize, AllocError>
-    ensures { IfOk result (λ size. size ≡ map.len (joined_standings one.now other.now)) }
+    ensures { IfOk result (λ size. size ≡ map.len (merged_standings one.now other.now)) }
 {
     let mut both = one.copy(alloc)?;
     both.merge(alloc, other)?;
@@ -335,8 +335,8 @@ fn add_members(
 ) -> Result<(), AllocError>
     ensures { OnOk result (seen.new ≡ union seen.old (those others.now (is_member members.now))) }
 {
-    'others: for place in 0..others.len() {
-        if let Some(who) = others.at(place) {
+    'others: for index in 0..others.len() {
+        if let Some(who) = others.at(index) {
             add_member(alloc, who, members, seen)?;
         }
     }

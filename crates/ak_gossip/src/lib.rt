@@ -5,14 +5,14 @@ mod gossip;
 mod laws;
 mod part;
 mod parts;
-mod parts_laws;
 #[cfg(test)]
 mod parts_tests;
 #[cfg(test)]
 mod tests;
 
 pub use gossip::{Gossip, GossipFault, Received};
-pub use laws::{joining_may_be_made, merged_gossips_know_both, same_versions_join_the_seen};
-pub use part::{Part, Parts, Places};
+pub use laws::{
+    gossips_are_their_parts, joining_may_be_made, merged_gossips_know_both, same_versions_join_the_seen,
+};
+pub use part::{Indices, Part, Parts};
 pub use parts::parts_valid;
-pub use parts_laws::gossips_are_their_parts;

@@ -7,11 +7,11 @@ use std::marker::Model;
 
 /// Places in a list of parts.
 #[derive(Drop)]
-pub struct Places {
+pub struct Indices {
     list: Vec<u8>,
 }
 
-impl Model for Places {
+impl Model for Indices {
     ghost use Rattle.std.specs.Prelude.{List, ℕ};
 
     ghost Value = { List ℕ };
@@ -19,15 +19,15 @@ impl Model for Places {
     ghost view = { λ p. p.list.items };
 }
 
-impl Places {
-    /// These places.
-    pub fn new(list: Vec<u8>) -> Places
+impl Indices {
+    /// These indices.
+    pub fn new(list: Vec<u8>) -> Indices
         ensures { result ≡ list.items }
     {
-        Places { list }
+        Indices { list }
     }
 
-    /// The places, in order.
+    /// The indices, in order.
     pub fn as_slice(&self) -> &[u8]
         ensures { result.now ≡ self.now }
     {
@@ -37,7 +37,7 @@ impl Places {
 
 /// One process of a gossip, as it stands in a datagram: what its version counts of it, its state (1 Joining, 2 Up,
 /// 3 Leaving, 4 Exiting, 5 Down, 6 removed, 7 removed and confirmed) and up number, whether it has seen the gossip, and
-/// its row as an observer: the number, 0 where there is none, and the places of the subjects among the parts.
+/// its row as an observer: the number, 0 where there is none, and the indices of the subjects among the parts.
 #[derive(Drop)]
 pub struct Part {
     pub unique: Unique,
@@ -46,7 +46,7 @@ pub struct Part {
     pub up_number: u64,
     pub seen: bool,
     pub row_number: u64,
-    pub subjects: Places,
+    pub subjects: Indices,
 }
 
 /// A list of parts.
@@ -94,11 +94,11 @@ impl Parts {
         self.list.len()
     }
 
-    /// The part at a place from 0 on; none past the end.
-    pub fn at(&self, place: usize) -> Option<&Part>
-        ensures { option_copied result ≡ slice_get self.now place }
+    /// The part at an index from 0 on; none past the end.
+    pub fn at(&self, index: usize) -> Option<&Part>
+        ensures { option_copied result ≡ slice_get self.now index }
     {
-        self.list.get(place)
+        self.list.get(index)
     }
 
     /// The parts, in order.

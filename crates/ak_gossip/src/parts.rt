@@ -4,11 +4,11 @@ ghost use Rattle.ak_address.specs.Uniques.{no_one, with_one};
 ghost use Rattle.ak_member.specs.Standing.{nobody};
 ghost use Rattle.ak_clock.specs.declared.version.TheConstants.{BOUND};
 ghost use Rattle.ak_gossip.specs.Gossip.{GossipState, IsGossip, IsNumber, most_uniques};
-ghost use Rattle.ak_gossip.specs.Parts.{state_of, number_of, row_number_of, places_of, subjects_of, part_of, parts_of, IsState, IsPart, AreParts};
-ghost use Rattle.ak_gossip.specs.PartsWalk.{standing_of, ascend_from, is_above, ascend_after, has_there, with_counts, with_known, with_standings, with_seen, with_process, with_places, with_part_row, with_part_rows};
+ghost use Rattle.ak_gossip.specs.Parts.{state_of, number_of, row_number_of, indices_of, subjects_of, part_of, parts_of, IsState, IsPart, AreParts};
+ghost use Rattle.ak_gossip.specs.PartsWalk.{standing_of, ascend_from, is_above, ascend_after, has_there, with_counts, with_known, with_standings, with_seen, with_process, with_indices, with_part_row, with_part_rows};
 
 use crate::gossip::{Gossip, MOST_UNIQUES};
-use crate::part::{Part, Parts, Places};
+use crate::part::{Part, Parts, Indices};
 use ak_address::{Unique, Uniques};
 use ak_clock::{BOUND, Version};
 use ak_member::{Members, Standing, Status};
@@ -23,8 +23,8 @@ impl Gossip {
     {
         let members = &self.members;
         let mut parts = Parts::empty(alloc);
-        'places: for place in 0..members.uniques() {
-            if let Some((who, standing)) = members.row(place) {
+        'indices: for index in 0..members.uniques() {
+            if let Some((who, standing)) = members.pair(index) {
                 let part = self.part_of(alloc, who, standing)?;
                 parts.push(part)?;
             }
@@ -72,7 +72,7 @@ impl Gossip {
 /// Whether the parts keep the ranges and the order of a gossip's parts (this project's choice): at most 128 of them,
 /// their processes ascending; a count at most 4611686018427387904; a state from 1 to 7, an up number that is 0 while
 /// Joining and of a tombstone, from 1 to the greatest count of an Up, Leaving or Exiting member, and up to it of one that
-/// is Down; seen by members alone; a row's number at most the count; without a row no subjects, and else places of parts
+/// is Down; seen by members alone; a row's number at most the count; without a row no subjects, and else indices of parts
 /// that ascend. Takes no memory.
 pub fn parts_valid(parts: &[Part]) -> bool
     ensures { IsTrue result ↔ AreParts parts.now }
@@ -102,7 +102,7 @@ fn part_valid(many: usize, part: &Part) -> bool
     if part.count > BOUND || !state_valid(part.state, part.up_number, part.seen) {
         return false;
     }
-    row_valid(part) && places_ascend(part.subjects.as_slice(), many)
+    row_valid(part) && indices_ascend(part.subjects.as_slice(), many)
 }
 
 // Whether there is a standing of this state and number, which may have seen a gossip where it has.
@@ -154,17 +154,17 @@ fn row_valid(part: &Part) -> bool
     part.row_number > 0 || part.subjects.as_slice().is_empty()
 }
 
-// Whether the places ascend below the end.
-fn places_ascend(places: &[u8], end: usize) -> bool
-    ensures { result ≡ ascend_from 0 end places.now }
+// Whether the indices ascend below the end.
+fn indices_ascend(indices: &[u8], end: usize) -> bool
+    ensures { result ≡ ascend_from 0 end indices.now }
 {
     let mut least = 0;
-    'places: for place in places {
-        let place = usize::from(*place);
-        if place < least || end <= place {
+    'indices: for index in indices {
+        let index = usize::from(*index);
+        if index < least || end <= index {
             return false;
         }
-        least = place + 1;
+        least = index + 1;
     }
     true
 }
@@ -222,36 +222,36 @@ fn row_number_of(row: Option<&Row>) -> u64
     }
 }
 
-// The places of a row's subjects among all that are known; no place where there is no row.
-fn subjects_of(alloc: Global, row: Option<&Row>, everybody: &Members) -> Result<Places, AllocError>
+// The indices of a row's subjects among all that are known; no index where there is no row.
+fn subjects_of(alloc: Global, row: Option<&Row>, everybody: &Members) -> Result<Indices, AllocError>
     requires { map.len everybody.now ≤ most_uniques }
-    ensures { IfOk result (λ places. places ≡ subjects_of (option_copied row.entry) (map.keys everybody.now)) }
+    ensures { IfOk result (λ indices. indices ≡ subjects_of (option_copied row.entry) (map.keys everybody.now)) }
 {
     match row {
-        Some(row) => places_of(alloc, &row.subjects, everybody),
-        None => Ok(Places::new(Vec::new(alloc))),
+        Some(row) => indices_of(alloc, &row.subjects, everybody),
+        None => Ok(Indices::new(Vec::new(alloc))),
     }
 }
 
-// The places of those that are in the set, among all that are known.
-fn places_of(alloc: Global, set: &Uniques, everybody: &Members) -> Result<Places, AllocError>
+// The indices of those that are in the set, among all that are known.
+fn indices_of(alloc: Global, set: &Uniques, everybody: &Members) -> Result<Indices, AllocError>
     requires { map.len everybody.now ≤ most_uniques }
-    ensures { IfOk result (λ places. places ≡ places_of set.now 0 (map.keys everybody.now)) }
+    ensures { IfOk result (λ indices. indices ≡ indices_of set.now 0 (map.keys everybody.now)) }
 {
-    let mut places = Vec::new(alloc);
-    'everybody: for place in 0..everybody.uniques() {
-        if has_at(set, everybody, place) {
-            places.push(place as u8)?;
+    let mut indices = Vec::new(alloc);
+    'everybody: for index in 0..everybody.uniques() {
+        if has_at(set, everybody, index) {
+            indices.push(index as u8)?;
         }
     }
-    Ok(Places::new(places))
+    Ok(Indices::new(indices))
 }
 
-// Whether the process at a place is in the set.
-fn has_at(set: &Uniques, everybody: &Members, place: usize) -> bool
-    ensures { result ≡ has_there set.now (slice_get (map.keys everybody.now) place) }
+// Whether the process at an index is in the set.
+fn has_at(set: &Uniques, everybody: &Members, index: usize) -> bool
+    ensures { result ≡ has_there set.now (slice_get (map.keys everybody.now) index) }
 {
-    match everybody.row(place) {
+    match everybody.pair(index) {
         Some((who, _)) => set.contains(who),
         None => false,
     }
@@ -331,22 +331,22 @@ fn add_row(alloc: Global, parts: &[Part], part: &Part, rows: &mut Rows) -> Resul
     rows.set_row(alloc, &part.unique, part.row_number, &subjects)
 }
 
-// The processes of the parts at these places.
-fn those_at(alloc: Global, parts: &[Part], places: &[u8]) -> Result<Uniques, AllocError>
-    ensures { IfOk result (λ them. them ≡ with_places parts.now no_one places.now) }
+// The processes of the parts at these indices.
+fn those_at(alloc: Global, parts: &[Part], indices: &[u8]) -> Result<Uniques, AllocError>
+    ensures { IfOk result (λ them. them ≡ with_indices parts.now no_one indices.now) }
 {
     let mut them = Uniques::empty(alloc);
-    'places: for place in places {
-        add_at(alloc, parts, usize::from(*place), &mut them)?;
+    'indices: for index in indices {
+        add_at(alloc, parts, usize::from(*index), &mut them)?;
     }
     Ok(them)
 }
 
-// Adds the process of the part at a place.
-fn add_at(alloc: Global, parts: &[Part], place: usize, them: &mut Uniques) -> Result<(), AllocError>
-    ensures { OnOk result (them.new ≡ with_process them.old (slice_get parts.now place)) }
+// Adds the process of the part at an index.
+fn add_at(alloc: Global, parts: &[Part], index: usize, them: &mut Uniques) -> Result<(), AllocError>
+    ensures { OnOk result (them.new ≡ with_process them.old (slice_get parts.now index)) }
 {
-    match parts.get(place) {
+    match parts.get(index) {
         Some(part) => them.insert(alloc, &part.unique),
         None => Ok(()),
     }

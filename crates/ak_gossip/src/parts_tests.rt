@@ -1,5 +1,5 @@
 use crate::gossip::Gossip;
-use crate::part::{Part, Parts, Places};
+use crate::part::{Part, Parts, Indices};
 use crate::parts::parts_valid;
 use ak_address::{Address, Text, Unique, Uniques};
 use ak_member::Status;
@@ -26,17 +26,17 @@ pub(crate) fn process(alloc: Global, uid: u32) -> Result<Unique, AllocError> {
     Ok(Unique { address, uid })
 }
 
-fn places(alloc: Global, list: &[u8]) -> Result<Places, AllocError> {
-    let mut places = Vec::new(alloc);
-    for place in list {
-        places.push(*place)?;
+fn indices(alloc: Global, list: &[u8]) -> Result<Indices, AllocError> {
+    let mut indices = Vec::new(alloc);
+    for index in list {
+        indices.push(*index)?;
     }
-    Ok(Places::new(places))
+    Ok(Indices::new(indices))
 }
 
 fn push_line(alloc: Global, line: Line, parts: &mut Parts) -> Result<(), AllocError> {
     let unique = process(alloc, line.uid)?;
-    let subjects = places(alloc, line.subjects)?;
+    let subjects = indices(alloc, line.subjects)?;
     parts.push(Part {
         unique,
         count: line.count,
@@ -64,8 +64,8 @@ fn is_line(part: &Part, line: &Line) -> bool {
 }
 
 fn are_lines(parts: &Parts, lines: &[Line]) -> bool {
-    for (place, line) in lines.iter().enumerate() {
-        match parts.at(place) {
+    for (index, line) in lines.iter().enumerate() {
+        match parts.at(index) {
             Some(part) => {
                 if !is_line(part, line) {
                     return false;
@@ -153,8 +153,8 @@ fn lines() -> [Line; 5] {
     ]
 }
 
-fn has_uid(set: &Uniques, place: usize) -> u64 {
-    match set.at(place) {
+fn has_uid(set: &Uniques, index: usize) -> u64 {
+    match set.at(index) {
         Some(who) => who.uid,
         None => 0,
     }
@@ -176,16 +176,16 @@ fn first_row(gossip: &Gossip) -> (u64, u64, u64, usize) {
     }
 }
 
-// The status and the number of the member at a place.
-fn member(gossip: &Gossip, place: usize) -> Option<(Status, u64)> {
-    match gossip.members().at(place) {
+// The status and the number of the member at an index.
+fn member(gossip: &Gossip, index: usize) -> Option<(Status, u64)> {
+    match gossip.members().at(index) {
         Some(member) => Some((member.status, member.up_number)),
         None => None,
     }
 }
 
-fn tombstone(gossip: &Gossip, place: usize) -> Option<(u64, bool)> {
-    match gossip.members().buried_at(place) {
+fn tombstone(gossip: &Gossip, index: usize) -> Option<(u64, bool)> {
+    match gossip.members().buried_at(index) {
         Some(tombstone) => {
             let who = tombstone.unique;
             Some((who.uid, tombstone.confirmed))
@@ -221,7 +221,7 @@ fn a_gossip_is_made_of_parts(rt: HostRuntime) -> Result<(), Fail> {
 }
 
 #[test]
-fn valid_parts_are_taken(rt: HostRuntime) -> Result<(), Fail> {
+fn valid_parts_are_accepted(rt: HostRuntime) -> Result<(), Fail> {
     let cases = [
         [plain(1, 2, 1), plain(2, 1, 0)],
         [plain(1, 3, 9), plain(2, 4, 9)],

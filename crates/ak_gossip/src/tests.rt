@@ -54,33 +54,33 @@ fn after(alloc: Global, own: &[Line], me: u32, incoming: &[Line]) -> Result<Goss
     Ok(own)
 }
 
-// The uid and the count at a place of the version, zeros past the end.
-fn count_at(gossip: &Gossip, place: usize) -> (u64, u64) {
-    match gossip.version().at(place) {
+// The uid and the count at an index of the version, zeros past the end.
+fn count_at(gossip: &Gossip, index: usize) -> (u64, u64) {
+    match gossip.version().at(index) {
         Some((who, count)) => (who.uid, count),
         None => (0, 0),
     }
 }
 
-// The uid and the standing at a place of the processes.
-fn stands(gossip: &Gossip, place: usize) -> Option<(u64, Standing)> {
-    match gossip.members().row(place) {
+// The uid and the standing at an index of the processes.
+fn stands(gossip: &Gossip, index: usize) -> Option<(u64, Standing)> {
+    match gossip.members().pair(index) {
         Some((who, standing)) => Some((who.uid, standing)),
         None => None,
     }
 }
 
-// The uid at a place of those that have seen it, zero past the end.
-fn saw(gossip: &Gossip, place: usize) -> u64 {
-    match gossip.seen().at(place) {
+// The uid at an index of those that have seen it, zero past the end.
+fn saw(gossip: &Gossip, index: usize) -> u64 {
+    match gossip.seen().at(index) {
         Some(who) => who.uid,
         None => 0,
     }
 }
 
-// The observer's uid and the number of its row at a place; zeros past the end.
-fn observes(gossip: &Gossip, place: usize) -> (u64, u64) {
-    match gossip.rows().at(place) {
+// The observer's uid and the number of its row at an index; zeros past the end.
+fn observes(gossip: &Gossip, index: usize) -> (u64, u64) {
+    match gossip.rows().at(index) {
         Some((observer, row)) => (observer.uid, row.number),
         None => (0, 0),
     }

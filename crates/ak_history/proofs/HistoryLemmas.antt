@@ -2,7 +2,7 @@
 use Rattle.std.proofs.Common.{◌≡◌, ◌≢◌, ℕ, zero, suc, ◌+◌, ◌≤◌, ◌<◌, max, leb, Bool, true, false, ◌||◌, if◌then◌else◌, ◌⊎◌, inl, inr, List, [], ◌∷◌, ◌++◌, Contains, refl, sym, ap, ◌∙◌, subst, arith, le-leb}
 use Rattle.std.proofs.lemmas.Bool.{leb-true, leb-false, lt-leb}
 use Rattle.std.specs.Ordering.{is_eq}
-use Rattle.ak_address.specs.Unique.{Process, unique_cmp}
+use Rattle.ak_address.specs.Unique.{UniqueModel, unique_cmp}
 use Rattle.ak_address.proofs.TableLaws.{key_itself, other_key, same_or_apart}
 use Rattle.ak_clock.specs.Version.{Counts, count, merged, bumped}
 use Rattle.ak_clock.proofs.VersionLaws.{count-merged, count-bumped_author, count-bumped_others}
@@ -28,18 +28,18 @@ entries-if : (b : Bool) (k : ℕ) → k ≤ (if b then k + 1 else k)
 entries-if true k = omega arith
 entries-if false k = omega arith
 
-pub entries-more : (e : Entry) (history : List Entry) (u : Process) → entries_of u history ≤ entries_of u (e ∷ history)
+pub entries-more : (e : Entry) (history : List Entry) (u : UniqueModel) → entries_of u history ≤ entries_of u (e ∷ history)
 entries-more e history u = entries-if (is_eq (unique_cmp u e.author)) (entries_of u history)
 
 pub entries-author : (e : Entry) (history : List Entry) → entries_of e.author (e ∷ history) ≡ entries_of e.author history + 1
 entries-author e history = ap (λ b. if b then entries_of e.author history + 1 else entries_of e.author history) (key_itself e.author)
 
-pub entries-others : (e : Entry) (history : List Entry) (u : Process) → u ≢ e.author → entries_of u (e ∷ history) ≡ entries_of u history
+pub entries-others : (e : Entry) (history : List Entry) (u : UniqueModel) → u ≢ e.author → entries_of u (e ∷ history) ≡ entries_of u history
 entries-others e history u apart = ap (λ b. if b then entries_of u history + 1 else entries_of u history) (other_key u e.author apart)
 
-pub entries-front : (more history : List Entry) (u : Process) → entries_of u history ≤ entries_of u (more ++ history)
-entries-front [] history u = omega arith
-entries-front (e ∷ more) history u = let rest = entries-front more history u in let one = entries-more e (more ++ history) u in omega arith
+pub entries-prefix : (more history : List Entry) (u : UniqueModel) → entries_of u history ≤ entries_of u (more ++ history)
+entries-prefix [] history u = omega arith
+entries-prefix (e ∷ more) history u = let rest = entries-prefix more history u in let one = entries-more e (more ++ history) u in omega arith
 
 -- ---- the numbers of entries
 pub numbered-rest : (more history : List Entry) → IsNumbered (more ++ history) → IsNumbered history
@@ -111,7 +111,7 @@ covered_count v e is = leb-true e.number (count v e.author) is
 
 -- two versions cover the same entries of a history
 pub record Agree (history : List Entry) (v w : Counts) : Type 0 where
-  pub tests : (u : Process) (n : ℕ) → n ≤ entries_of u history → leb n (count v u) ≡ leb n (count w u)
+  pub tests : (u : UniqueModel) (n : ℕ) → n ≤ entries_of u history → leb n (count v u) ≡ leb n (count w u)
 
 pub agree_rest : (e : Entry) (history : List Entry) (v w : Counts) → Agree (e ∷ history) v w → Agree history v w
 agree_rest e history v w agree = record { tests = λ u n le. agree.tests u n (let more = entries-more e history u in omega arith) }
@@ -129,11 +129,11 @@ later_uncovered e history v numbered bounded =
     let below : count v e.author ≤ entries_of e.author history = bounded e.author in
     lt-leb e.number (count v e.author) (omega arith)
 
-pub bounded-front : (more history : List Entry) (v : Counts) → IsBounded history v → IsBounded (more ++ history) v
-bounded-front more history v bounded u = let below : count v u ≤ entries_of u history = bounded u in let more_entries = entries-front more history u in omega arith
+pub bounded-prefix : (more history : List Entry) (v : Counts) → IsBounded history v → IsBounded (more ++ history) v
+bounded-prefix more history v bounded u = let below : count v u ≤ entries_of u history = bounded u in let more_entries = entries-prefix more history u in omega arith
 
 -- ---- one more entry
-pub bumped-agree : (author : Process) (history : List Entry) (v : Counts) → count v author ≡ entries_of author history → Agree history (bumped v author) v
+pub bumped-agree : (author : UniqueModel) (history : List Entry) (v : Counts) → count v author ≡ entries_of author history → Agree history (bumped v author) v
 bumped-agree author history v own = record {
   tests = λ u n le. elim (same_or_apart u author) [
     | inl same ↦

@@ -1,5 +1,5 @@
 pub mod HistoryLemmas
 pub mod RowsShown
 pub mod StandingsShown
-pub mod ViewsJoined
-mod Walks
+pub mod ViewsMerged
+mod WalkLemmas

@@ -3,7 +3,7 @@ use Rattle.std.proofs.Common.{◌≡◌, ◌<◌, ◌≢◌, ℕ, ◌≤◌, Boo
 use Rattle.std.proofs.lemmas.Bool.{ltb-true, ltb-false}
 use Rattle.std.proofs.lemmas.Option.{same_Some}
 use Rattle.std.specs.FinMap as map
-use Rattle.ak_address.specs.Unique.{Process}
+use Rattle.ak_address.specs.Unique.{UniqueModel}
 use Rattle.ak_address.specs.Uniques.{UniqueSet}
 use Rattle.ak_address.proofs.TableLaws.{same_or_apart, get-empty, get-insert_here, get-insert_elsewhere}
 use Rattle.ak_clock.specs.Version.{Counts, count}
@@ -14,19 +14,19 @@ use Rattle.ak_history.specs.Shown.{IsLastRow, Observes}
 use Rattle.ak_history.proofs.HistoryLemmas.{first_or_rest, contains_first, contains_rest, contains_nothing, number_range, number_below, one_entry, covered_count}
 
 -- ---- what an entry makes of the rows
-pub get-observed_here : (author : Process) (number : ℕ) (subjects : UniqueSet) (rows : RowTable) → map.get (after_observed author number (Some subjects) rows) author ≡ Some (record { number = number; subjects = subjects })
+pub get-observed_here : (author : UniqueModel) (number : ℕ) (subjects : UniqueSet) (rows : RowTable) → map.get (after_observed author number (Some subjects) rows) author ≡ Some (record { number = number; subjects = subjects })
 get-observed_here author number subjects rows = get-insert_here rows author (record { number = number; subjects = subjects })
 
-pub get-observed_elsewhere : (author : Process) (number : ℕ) (o : Option UniqueSet) (rows : RowTable) (q : Process) → q ≢ author → map.get (after_observed author number o rows) q ≡ map.get rows q
+pub get-observed_elsewhere : (author : UniqueModel) (number : ℕ) (o : Option UniqueSet) (rows : RowTable) (q : UniqueModel) → q ≢ author → map.get (after_observed author number o rows) q ≡ map.get rows q
 get-observed_elsewhere author number None rows q apart = refl
 get-observed_elsewhere author number (Some subjects) rows q apart = get-insert_elsewhere rows author (record { number = number; subjects = subjects }) q apart
 
 -- ---- one entry more
 -- the newest entry says nothing of the observer
-abbrev Silent : Counts → Process → Entry → Type 0
+abbrev Silent : Counts → UniqueModel → Entry → Type 0
 Silent v observer e = e.author ≡ observer → IsTrue (is_covered v e) → observed e.effects ≡ None
 
-last_stays : (e : Entry) (history : List Entry) (v : Counts) (observer : Process) (row : Row) → Silent v observer e → IsLastRow history v observer row → IsLastRow (e ∷ history) v observer row
+last_stays : (e : Entry) (history : List Entry) (v : Counts) (observer : UniqueModel) (row : Row) → Silent v observer e → IsLastRow history v observer row → IsLastRow (e ∷ history) v observer row
 last_stays e history v observer row silent r = record {
   entry = r.entry;
   in_history = contains_rest e r.entry history r.in_history;
@@ -40,7 +40,7 @@ last_stays e history v observer row silent r = record {
   ];
 }
 
-pub stays_observed : (e : Entry) (history : List Entry) (v : Counts) (observer : Process) (o : Option Row) → Silent v observer e → Observes history v observer o → Observes (e ∷ history) v observer o
+pub stays_observed : (e : Entry) (history : List Entry) (v : Counts) (observer : UniqueModel) (o : Option Row) → Silent v observer e → Observes history v observer o → Observes (e ∷ history) v observer o
 stays_observed e history v observer None silent none = λ entry there author covered. elim (first_or_rest e entry history there) [
   | inl same ↦ ap (λ (x : Entry). observed x.effects) same ∙ silent (sym (ap (λ (x : Entry). x.author) same) ∙ author) (sym (ap (is_covered v) same) ∙ covered)
   | inr before ↦ none entry before author covered
@@ -62,7 +62,7 @@ newest_row e history v subjects numbered covered observes = record {
   ];
 }
 
-entry_observed : (e : Entry) (history : List Entry) (v : Counts) (observer : Process) (o : Option UniqueSet) → IsNumbered (e ∷ history) → is_covered v e ≡ true → observed e.effects ≡ o
+entry_observed : (e : Entry) (history : List Entry) (v : Counts) (observer : UniqueModel) (o : Option UniqueSet) → IsNumbered (e ∷ history) → is_covered v e ≡ true → observed e.effects ≡ o
     → Observes history v observer (map.get (view history v).rows observer)
     → Observes (e ∷ history) v observer (map.get (after_observed e.author e.number o (view history v).rows) observer)
 entry_observed e history v observer None numbered covered observes before = stays_observed e history v observer _ (λ _ _. observes) before
@@ -76,7 +76,7 @@ entry_observed e history v observer (Some subjects) numbered covered observes be
 ]
 
 -- ---- the whole history
-pub rows_shown : (history : List Entry) (v : Counts) (observer : Process) → IsNumbered history → Observes history v observer (map.get (view history v).rows observer)
+pub rows_shown : (history : List Entry) (v : Counts) (observer : UniqueModel) → IsNumbered history → Observes history v observer (map.get (view history v).rows observer)
 rows_shown [] v observer numbered = subst (Observes [] v observer) (sym (get-empty observer)) (λ entry there author covered. absurd (contains_nothing entry there))
 rows_shown (e ∷ history) v observer numbered = by_cover (is_covered v e) refl (rows_shown history v observer numbered.1)
   where
@@ -86,10 +86,10 @@ rows_shown (e ∷ history) v observer numbered = by_cover (is_covered v e) refl 
     by_cover false uncovered before = stays_observed e history v observer _ (λ _ covered. absurd (true≢false (sym covered ∙ uncovered))) before
 
 -- the row that a version shows of an observer
-pub row_shown : (history : List Entry) (v : Counts) (observer : Process) (row : Row) → IsNumbered history → map.get (view history v).rows observer ≡ Some row → IsLastRow history v observer row
+pub row_shown : (history : List Entry) (v : Counts) (observer : UniqueModel) (row : Row) → IsNumbered history → map.get (view history v).rows observer ≡ Some row → IsLastRow history v observer row
 row_shown history v observer row numbered is = subst (Observes history v observer) is (rows_shown history v observer numbered)
 
-pub rows-counted : (history : List Entry) (v : Counts) (o : Process) (row : Row) → IsNumbered history → map.get (view history v).rows o ≡ Some row → (1 ≤ row.number) × (row.number ≤ count v o) × (row.number ≤ entries_of o history)
+pub rows-counted : (history : List Entry) (v : Counts) (o : UniqueModel) (row : Row) → IsNumbered history → map.get (view history v).rows o ≡ Some row → (1 ≤ row.number) × (row.number ≤ count v o) × (row.number ≤ entries_of o history)
 rows-counted history v o row numbered is =
     let r = row_shown history v o row numbered is in
     let range = number_range history r.entry numbered r.in_history in
@@ -114,7 +114,7 @@ rows-agree history v w numbered observer row other is others number =
 none_or_some : {X : Type 0} (o : Option X) (x : X) → o ≡ None → o ≡ Some x → ⊥
 none_or_some o x none some = true≢false (ap is_some (sym some ∙ none))
 
-module _ (history : List Entry) (v : Counts) (observer : Process) (numbered : IsNumbered history) where
+module _ (history : List Entry) (v : Counts) (observer : UniqueModel) (numbered : IsNumbered history) where
   not_below : (row other : Row) → IsLastRow history v observer row → IsLastRow history v observer other → row.number < other.number → ⊥
   not_below row other r s below =
       none_or_some (observed s.entry.effects) other.subjects

@@ -3,7 +3,7 @@ use Rattle.std.proofs.Common.{◌≡◌, ◌≢◌, ℕ, ◌≤◌, min, leb, na
 use Rattle.std.proofs.lemmas.Bool.{leb-true, leb-false, ltb-true, ltb-false}
 use Rattle.std.proofs.lemmas.Bool.Decides.{eqb_tells}
 use Rattle.std.specs.FinMap as map
-use Rattle.ak_address.specs.Unique.{Process}
+use Rattle.ak_address.specs.Unique.{UniqueModel}
 use Rattle.ak_address.specs.Table.{value_with}
 use Rattle.ak_address.proofs.TableLaws.{same_or_apart, get-empty}
 use Rattle.ak_clock.specs.Version.{Counts}
@@ -13,7 +13,7 @@ use Rattle.ak_member.specs.declared.standing.Standing.{Standing}
 use Rattle.ak_member.specs.declared.standing.Standing.TheVariants.{Member, Buried}
 use Rattle.ak_member.specs.declared.effect.Effect.{Effect}
 use Rattle.ak_member.specs.declared.effect.Effect.TheVariants.{Joined, Rise, Removed, Observed}
-use Rattle.ak_member.specs.Standing.{Standings, rank, greater_status, older_number, joined_standing}
+use Rattle.ak_member.specs.Standing.{Standings, rank, greater_status, older_number, merged_standing}
 use Rattle.ak_member.specs.View.{after_effect, after_effects, after_entry}
 use Rattle.ak_member.proofs.StandingLaws.{same_rank}
 use Rattle.ak_member.proofs.ViewLaws.{get-known_here, get-known_elsewhere}
@@ -23,32 +23,32 @@ use Rattle.ak_history.specs.Shown.{Did, IsGreatest, IsLeast, Stands}
 use Rattle.ak_history.proofs.HistoryLemmas.{contains_first, contains_rest, contains_nothing, first_or_rest}
 
 -- ---- what stands after some effects, said of the effects that were done
-abbrev NamedBy : (Effect → Type 0) → Process → Type 0
+abbrev NamedBy : (Effect → Type 0) → UniqueModel → Type 0
 NamedBy did who = did (Joined who) ⊎ ((status : Status) × (number : ℕ) × did (Rise who status number))
 
-abbrev RemovedBy : (Effect → Type 0) → Process → Type 0
+abbrev RemovedBy : (Effect → Type 0) → UniqueModel → Type 0
 RemovedBy did who = did (Removed who true) ⊎ did (Removed who false)
 
-record GreatestBy (did : Effect → Type 0) (who : Process) (status : Status) : Type 0 where
+record GreatestBy (did : Effect → Type 0) (who : UniqueModel) (status : Status) : Type 0 where
   pub reached : (status ≡ Joining) ⊎ ((number : ℕ) × did (Rise who status number))
   pub greatest : (other : Status) (number : ℕ) → did (Rise who other number) → rank other ≤ rank status
 
-record LeastBy (did : Effect → Type 0) (who : Process) (number : ℕ) : Type 0 where
+record LeastBy (did : Effect → Type 0) (who : UniqueModel) (number : ℕ) : Type 0 where
   pub reached : (number ≡ 0) ⊎ ((status : Status) × did (Rise who status number))
   pub least : (status : Status) (other : ℕ) → did (Rise who status other) → (other ≡ 0) ⊎ ((1 ≤ number) × (number ≤ other))
 
-abbrev StandsBy : (Effect → Type 0) → Process → Option Standing → Type 0
+abbrev StandsBy : (Effect → Type 0) → UniqueModel → Option Standing → Type 0
 StandsBy did who None = (NamedBy did who → ⊥) × (RemovedBy did who → ⊥)
 StandsBy did who (Some (Buried confirmed)) = RemovedBy did who × ((confirmed ≡ true) ↔ did (Removed who true))
 StandsBy did who (Some (Member status number)) = NamedBy did who × (RemovedBy did who → ⊥) × GreatestBy did who status × LeastBy did who number
 
 -- ---- effects that say the same of a process
-record Alike (before after : Effect → Type 0) (who : Process) : Type 0 where
+record Alike (before after : Effect → Type 0) (who : UniqueModel) : Type 0 where
   pub joined : after (Joined who) ↔ before (Joined who)
   pub rose : (status : Status) (number : ℕ) → after (Rise who status number) ↔ before (Rise who status number)
   pub removed : (confirmed : Bool) → after (Removed who confirmed) ↔ before (Removed who confirmed)
 
-module _ (before after : Effect → Type 0) (who : Process) where
+module _ (before after : Effect → Type 0) (who : UniqueModel) where
   removed_kept : ((c : Bool) → before (Removed who c) → after (Removed who c)) → RemovedBy before who → RemovedBy after who
   removed_kept was (inl d) = inl (was true d)
   removed_kept was (inr d) = inr (was false d)
@@ -122,7 +122,7 @@ confirmed_in (Removed who confirmed) = confirmed
 confirmed_in (Observed subjects) = false
 
 -- an effect says nothing of a process
-abbrev IsApart : Process → Effect → Type 0
+abbrev IsApart : UniqueModel → Effect → Type 0
 IsApart who (Joined other) = who ≢ other
 IsApart who (Rise other status number) = who ≢ other
 IsApart who (Removed other confirmed) = who ≢ other
@@ -135,7 +135,7 @@ module _ (before after : Effect → Type 0) (e : Effect) (m : More before after 
   other_kind : (x : Effect) → kind x ≢ kind e → after x → before x
   other_kind x apart h = old x (λ is. apart (ap kind is)) h
 
-  alike_apart : (who : Process) → IsApart who e → Alike before after who
+  alike_apart : (who : UniqueModel) → IsApart who e → Alike before after who
   alike_apart who apart = record {
     joined = (old (Joined who) (λ is. (subst (IsApart who) (sym is) apart) refl), m.was (Joined who));
     rose = λ s n. (old (Rise who s n) (λ is. (subst (IsApart who) (sym is) apart) refl), m.was (Rise who s n));
@@ -183,9 +183,9 @@ min_of m n = by_test (leb m n) refl
     by_test true is = let le = leb-true m n is in inl (omega arith)
     by_test false is = let lt = leb-false m n is in inr (omega arith)
 
-module _ (before after : Effect → Type 0) (who : Process) (m : More before after (Joined who)) where
-  joined_here : (o : Option Standing) → StandsBy before who o → StandsBy after who (Some (value_with joined_standing o (Member Joining 0)))
-  joined_here None (unnamed, unremoved) = (
+module _ (before after : Effect → Type 0) (who : UniqueModel) (m : More before after (Joined who)) where
+  merged_here : (o : Option Standing) → StandsBy before who o → StandsBy after who (Some (value_with merged_standing o (Member Joining 0)))
+  merged_here None (unnamed, unremoved) = (
     inl m.here,
     λ removed. unremoved (removed_back before after who (λ c. other_kind before after (Joined who) m (Removed who c) (λ is. omega arith)) removed),
     record { reached = inl refl; greatest = λ other n rose. absurd (unnamed (inr (other, n, back other n rose))) },
@@ -194,11 +194,11 @@ module _ (before after : Effect → Type 0) (who : Process) (m : More before aft
     where
       back : (s : Status) (n : ℕ) → after (Rise who s n) → before (Rise who s n)
       back s n rose = other_kind before after (Joined who) m (Rise who s n) (λ is. omega arith) rose
-  joined_here (Some (Buried confirmed)) (removed, is) = (
+  merged_here (Some (Buried confirmed)) (removed, is) = (
     removed_kept before after who (λ c. m.was (Removed who c)) removed,
     (λ done. m.was (Removed who true) (is.0 done), λ d. is.1 (other_kind before after (Joined who) m (Removed who true) (λ is. omega arith) d)),
   )
-  joined_here (Some (Member status number)) (named, unremoved, greatest, least) =
+  merged_here (Some (Member status number)) (named, unremoved, greatest, least) =
       let back : (s : Status) (n : ℕ) → after (Rise who s n) → before (Rise who s n) = λ s n. other_kind before after (Joined who) m (Rise who s n) (λ is. omega arith) in (
         inl m.here,
         λ removed. unremoved (removed_back before after who (λ c. other_kind before after (Joined who) m (Removed who c) (λ is. omega arith)) removed),
@@ -207,7 +207,7 @@ module _ (before after : Effect → Type 0) (who : Process) (m : More before aft
       )
 
 -- ---- a member rises
-module _ (before after : Effect → Type 0) (who : Process) (st : Status) (n : ℕ) (m : More before after (Rise who st n)) where
+module _ (before after : Effect → Type 0) (who : UniqueModel) (st : Status) (n : ℕ) (m : More before after (Rise who st n)) where
   greatest_more : (own : Status) → GreatestBy before who own → GreatestBy after who (greater_status own st)
   greatest_more own g = by_test (nat_lt (rank own) (rank st)) refl
     where
@@ -281,7 +281,7 @@ module _ (before after : Effect → Type 0) (who : Process) (st : Status) (n : �
   removed_before : RemovedBy after who → RemovedBy before who
   removed_before removed = removed_back before after who (λ c. other_kind before after (Rise who st n) m (Removed who c) (λ is. omega arith)) removed
 
-  rise_here : (o : Option Standing) → StandsBy before who o → StandsBy after who (Some (value_with joined_standing o (Member st n)))
+  rise_here : (o : Option Standing) → StandsBy before who o → StandsBy after who (Some (value_with merged_standing o (Member st n)))
   rise_here None (unnamed, unremoved) = (
     inr (st, n, m.here),
     λ removed. unremoved (removed_before removed),
@@ -296,7 +296,7 @@ module _ (before after : Effect → Type 0) (who : Process) (st : Status) (n : �
       (inr (st, n, m.here), λ removed. unremoved (removed_before removed), greatest_more status greatest, least_more number least)
 
 -- ---- a process is removed
-module _ (before after : Effect → Type 0) (who : Process) (confirmed : Bool) (m : More before after (Removed who confirmed)) where
+module _ (before after : Effect → Type 0) (who : UniqueModel) (confirmed : Bool) (m : More before after (Removed who confirmed)) where
   removed_by : (c : Bool) → after (Removed who c) → RemovedBy after who
   removed_by true d = inl d
   removed_by false d = inr d
@@ -314,7 +314,7 @@ module _ (before after : Effect → Type 0) (who : Process) (confirmed : Bool) (
     (confirmed_here, λ d. elim (confirmed_back d) [ inl done ↦ done | inr d ↦ absurd (unremoved (inl d)) ]),
   )
 
-  removed_here : (o : Option Standing) → StandsBy before who o → StandsBy after who (Some (value_with joined_standing o (Buried confirmed)))
+  removed_here : (o : Option Standing) → StandsBy before who o → StandsBy after who (Some (value_with merged_standing o (Buried confirmed)))
   removed_here None (unnamed, unremoved) = first_removal unremoved
   removed_here (Some (Member status number)) (named, unremoved, greatest, least) = first_removal unremoved
   removed_here (Some (Buried true)) (removed, is) =
@@ -325,25 +325,25 @@ module _ (before after : Effect → Type 0) (who : Process) (confirmed : Bool) (
   )
 
 -- ---- one effect, several, and a history
-stands_after : (before after : Effect → Type 0) (e : Effect) (s : Standings) (who : Process) → More before after e → StandsBy before who (map.get s who) → StandsBy after who (map.get (after_effect e s) who)
+stands_after : (before after : Effect → Type 0) (e : Effect) (s : Standings) (who : UniqueModel) → More before after e → StandsBy before who (map.get s who) → StandsBy after who (map.get (after_effect e s) who)
 stands_after before after (Joined other) s who m h = elim (same_or_apart who other) [
   | inl same ↦
       subst (StandsBy after who) (sym (ap (map.get (after_effect (Joined other) s)) same ∙ get-known_here s other (Member Joining 0)))
-      (subst (λ k. StandsBy after who (Some (value_with joined_standing (map.get s k) (Member Joining 0)))) same
-      (joined_here before after who (subst (λ k. More before after (Joined k)) (sym same) m) (map.get s who) h))
+      (subst (λ k. StandsBy after who (Some (value_with merged_standing (map.get s k) (Member Joining 0)))) same
+      (merged_here before after who (subst (λ k. More before after (Joined k)) (sym same) m) (map.get s who) h))
   | inr apart ↦ subst (StandsBy after who) (sym (get-known_elsewhere s other who (Member Joining 0) apart)) (stands_alike before after who (map.get s who) (alike_apart before after (Joined other) m who apart) h)
 ]
 stands_after before after (Rise other st n) s who m h = elim (same_or_apart who other) [
   | inl same ↦
       subst (StandsBy after who) (sym (ap (map.get (after_effect (Rise other st n) s)) same ∙ get-known_here s other (Member st n)))
-      (subst (λ k. StandsBy after who (Some (value_with joined_standing (map.get s k) (Member st n)))) same
+      (subst (λ k. StandsBy after who (Some (value_with merged_standing (map.get s k) (Member st n)))) same
       (rise_here before after who st n (subst (λ k. More before after (Rise k st n)) (sym same) m) (map.get s who) h))
   | inr apart ↦ subst (StandsBy after who) (sym (get-known_elsewhere s other who (Member st n) apart)) (stands_alike before after who (map.get s who) (alike_apart before after (Rise other st n) m who apart) h)
 ]
 stands_after before after (Removed other c) s who m h = elim (same_or_apart who other) [
   | inl same ↦
       subst (StandsBy after who) (sym (ap (map.get (after_effect (Removed other c) s)) same ∙ get-known_here s other (Buried c)))
-      (subst (λ k. StandsBy after who (Some (value_with joined_standing (map.get s k) (Buried c)))) same
+      (subst (λ k. StandsBy after who (Some (value_with merged_standing (map.get s k) (Buried c)))) same
       (removed_here before after who c (subst (λ k. More before after (Removed k c)) (sym same) m) (map.get s who) h))
   | inr apart ↦ subst (StandsBy after who) (sym (get-known_elsewhere s other who (Buried c) apart)) (stands_alike before after who (map.get s who) (alike_apart before after (Removed other c) m who apart) h)
 ]
@@ -353,7 +353,7 @@ stands_after before after (Observed subjects) s who m h = stands_alike before af
 abbrev DoneWith : (Effect → Type 0) → List Effect → Effect → Type 0
 DoneWith before effects x = before x ⊎ Contains effects x
 
-stands_after_all : (before : Effect → Type 0) (effects : List Effect) (s : Standings) (who : Process) → StandsBy before who (map.get s who) → StandsBy (DoneWith before effects) who (map.get (after_effects effects s) who)
+stands_after_all : (before : Effect → Type 0) (effects : List Effect) (s : Standings) (who : UniqueModel) → StandsBy before who (map.get s who) → StandsBy (DoneWith before effects) who (map.get (after_effects effects s) who)
 stands_after_all before [] s who h = stands_alike before (DoneWith before []) who (map.get s who) (record {
   joined = (nothing (Joined who), inl);
   rose = λ st n. (nothing (Rise who st n), inl);
@@ -401,7 +401,7 @@ done_when e history v x d = elim (first_or_rest e d.entry history d.in_history) 
   | inr before ↦ inl (record { entry = d.entry; in_history = before; covered = d.covered; does = d.does })
 ]
 
-by_cover : (b : Bool) (e : Entry) (history : List Entry) (v : Counts) (who : Process) → is_covered v e ≡ b
+by_cover : (b : Bool) (e : Entry) (history : List Entry) (v : Counts) (who : UniqueModel) → is_covered v e ≡ b
     → StandsBy (Did history v) who (map.get (view history v).standings who)
     → StandsBy (Did (e ∷ history) v) who (map.get (if b then after_entry e.author e.number e.effects (view history v) else view history v).standings who)
 by_cover true e history v who covered before =
@@ -423,7 +423,7 @@ by_cover false e history v who uncovered before =
     back : (x : Effect) → Did (e ∷ history) v x → Did history v x
     back x d = elim (done_when e history v x d) [ inl before ↦ before | inr now ↦ absurd (true≢false (sym now.0 ∙ uncovered)) ]
 
-stands_by : (history : List Entry) (v : Counts) (who : Process) → StandsBy (Did history v) who (map.get (view history v).standings who)
+stands_by : (history : List Entry) (v : Counts) (who : UniqueModel) → StandsBy (Did history v) who (map.get (view history v).standings who)
 stands_by [] v who =
     subst (StandsBy (Did [] v) who) (sym (get-empty who)) (
       λ named. elim named [ inl d ↦ contains_nothing d.entry d.in_history | inr d ↦ let e = d.2 in contains_nothing e.entry e.in_history ],
@@ -432,13 +432,13 @@ stands_by [] v who =
 stands_by (e ∷ history) v who = by_cover (is_covered v e) e history v who refl (stands_by history v who)
 
 -- in the words of the law
-in_words : (history : List Entry) (v : Counts) (who : Process) (o : Option Standing) → StandsBy (Did history v) who o → Stands history v who o
+in_words : (history : List Entry) (v : Counts) (who : UniqueModel) (o : Option Standing) → StandsBy (Did history v) who o → Stands history v who o
 in_words history v who None h = h
 in_words history v who (Some (Buried confirmed)) h = h
 in_words history v who (Some (Member status number)) (named, unremoved, greatest, least) =
     (named, unremoved, record { reached = greatest.reached; greatest = greatest.greatest }, record { reached = least.reached; least = least.least })
 
-pub standings_shown : (history : List Entry) (v : Counts) (who : Process) → Stands history v who (map.get (view history v).standings who)
+pub standings_shown : (history : List Entry) (v : Counts) (who : UniqueModel) → Stands history v who (map.get (view history v).standings who)
 standings_shown history v who = in_words history v who (map.get (view history v).standings who) (stands_by history v who)
 
 -- ---- one standing alone is what the words allow
@@ -449,7 +449,7 @@ least_rank Leaving = omega arith
 least_rank Exiting = omega arith
 least_rank Down = omega arith
 
-module _ (history : List Entry) (v : Counts) (who : Process) where
+module _ (history : List Entry) (v : Counts) (who : UniqueModel) where
   rank_below : (s t : Status) → IsGreatest history v who s → IsGreatest history v who t → rank s ≤ rank t
   rank_below s t g h = elim g.reached [
     | inl joining ↦ let first : rank s ≡ 1 = ap rank joining in let least = least_rank t in omega arith

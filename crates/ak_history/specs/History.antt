@@ -2,13 +2,13 @@
 -- says which updates a view has seen).
 use Rattle.std.specs.Prelude.{◌≡◌, ℕ, ◌+◌, ◌≤◌, Bool, nat_le, List, [], ◌∷◌, if◌then◌else◌}
 use Rattle.std.specs.Ordering.{is_eq}
-use Rattle.ak_address.specs.Unique.{Process, unique_cmp}
+use Rattle.ak_address.specs.Unique.{UniqueModel, unique_cmp}
 use Rattle.ak_clock.specs.Version.{Counts, count}
 use Rattle.ak_member.specs.View.{View, empty_view, after_entry}
 use Rattle.ak_history.specs.declared.entry.Entry.{Entry}
 
 -- A history has its newest entry first. Each entry has its author's next number.
-abbrev pub entries_of : Process → List Entry → ℕ
+abbrev pub entries_of : UniqueModel → List Entry → ℕ
 entries_of author [] = 0
 entries_of author (e ∷ history) =
     if is_eq (unique_cmp author e.author) then entries_of author history + 1 else entries_of author history
@@ -29,4 +29,4 @@ view (e ∷ history) version =
 
 -- a version counts no more entries of any author than a history has
 abbrev pub IsBounded : List Entry → Counts → Type 0
-IsBounded history version = (u : Process) → count version u ≤ entries_of u history
+IsBounded history version = (u : UniqueModel) → count version u ≤ entries_of u history

@@ -1,7 +1,7 @@
 -- A view after some entries, as the call walks them: a row that is as new as the entry's stays. Under the numbering of a
 -- history no row is, and then all of it is what `view` of `History` is.
 use Rattle.std.specs.Prelude.{ℕ, List, [], ◌∷◌, Option, None, Some, if◌then◌else◌}
-use Rattle.ak_address.specs.Unique.{Process}
+use Rattle.ak_address.specs.Unique.{UniqueModel}
 use Rattle.ak_address.specs.Uniques.{UniqueSet}
 use Rattle.ak_clock.specs.Version.{Counts}
 use Rattle.ak_member.specs.View.{RowTable, View, empty_view, after_effects, observed}
@@ -9,7 +9,7 @@ use Rattle.ak_reach.specs.Reach.{with_row}
 use Rattle.ak_history.specs.declared.entry.Entry.{Entry}
 use Rattle.ak_history.specs.History.{is_covered}
 
-abbrev pub with_observed : Process → ℕ → Option UniqueSet → RowTable → RowTable
+abbrev pub with_observed : UniqueModel → ℕ → Option UniqueSet → RowTable → RowTable
 with_observed author number None rows = rows
 with_observed author number (Some subjects) rows = with_row rows author (record { number = number; subjects = subjects })
 

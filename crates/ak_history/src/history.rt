@@ -75,11 +75,11 @@ impl History {
         self.list.len()
     }
 
-    /// The entry at a place, from 0 on in the order of their making; none past the end.
-    pub fn at(&self, place: usize) -> Option<&Entry>
-        ensures { option_copied result ≡ slice_get (reverse self.now) place }
+    /// The entry at an index, from 0 on in the order of their making; none past the end.
+    pub fn at(&self, index: usize) -> Option<&Entry>
+        ensures { option_copied result ≡ slice_get (reverse self.now) index }
     {
-        self.list.get(place)
+        self.list.get(index)
     }
 
     /// What a version shows: what the entries did that it covers, in their order. Only memory can fail.

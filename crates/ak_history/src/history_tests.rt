@@ -63,9 +63,9 @@ fn shown(alloc: Global, history: &History, counts: (u64, u64)) -> Result<View, F
     Ok(history.view(alloc, &version)?)
 }
 
-// The letter of the author's host and the number of the entry at a place; zeros past the end.
-fn entry(history: &History, place: usize) -> (u8, u64) {
-    match history.at(place) {
+// The letter of the author's host and the number of the entry at an index; zeros past the end.
+fn entry(history: &History, index: usize) -> (u8, u64) {
+    match history.at(index) {
         Some(entry) => (letter(&entry.author), entry.number),
         None => (0, 0),
     }
@@ -78,17 +78,17 @@ fn letter(who: &Unique) -> u8 {
     }
 }
 
-// The rank of the status of a member at a place, with the letter of its host; zeros past the end.
-fn member(view: &View, place: usize) -> (u8, u8) {
-    match view.members.at(place) {
+// The rank of the status of a member at an index, with the letter of its host; zeros past the end.
+fn member(view: &View, index: usize) -> (u8, u8) {
+    match view.members.at(index) {
         Some(member) => (letter(member.unique), member.status.rank()),
         None => (0, 0),
     }
 }
 
-// The observer, the number and the first subject of the row at a place; zeros past the end.
-fn row(view: &View, place: usize) -> (u8, u64, u8) {
-    match view.rows.at(place) {
+// The observer, the number and the first subject of the row at an index; zeros past the end.
+fn row(view: &View, index: usize) -> (u8, u64, u8) {
+    match view.rows.at(index) {
         Some((observer, row)) => (letter(observer), row.number, first_of(&row.subjects)),
         None => (0, 0, 0),
     }

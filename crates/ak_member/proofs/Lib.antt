@@ -1,7 +1,7 @@
 pub mod ByAgeLaws
 pub mod CountedLaws
-pub mod Joins
+pub mod Merges
 pub mod OldestLaws
 pub mod StandingLaws
 pub mod ViewLaws
-pub mod Walks
+pub mod MemberLemmas

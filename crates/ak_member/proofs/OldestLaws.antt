@@ -1,46 +1,46 @@
--- The oldest of the counted members: found along the rows, and what it is.
+-- The oldest of the counted members: found along the pairs, and what it is.
 use Rattle.std.proofs.Common.{◌≡◌, ℕ, ◌+◌, ◌<◌, ◌≤◌, true, false, cond, ltb, T, IsTrue, List, [], ◌∷◌, ◌++◌, length, drop, slice_get, Option, Some, None, option_map, option_to_list, ◌⊎◌, inl, inr, refl, sym, ap, ◌∙◌, append_assoc, append-nil, subst, arith, true≢false}
 use Rattle.std.proofs.lemmas.Bool.{ltb-true, ltb-false, lt-ltb, le-ltb}
 use Rattle.std.proofs.lemmas.Option.{same_Some, none-some}
 use Rattle.std.specs.declared.cmp.Ordering.TheVariants.{Less}
 use Rattle.std.specs.Ordering.{eq_by_cmp}
 use Rattle.std.specs.FinMap as map
-use Rattle.ak_address.specs.Unique.{Process, unique_cmp}
-use Rattle.ak_address.proofs.Order.{unique_total, unique_exact}
-use Rattle.ak_address.proofs.Rows.{first, second, find_below, below_at, place_of_found}
+use Rattle.ak_address.specs.Unique.{UniqueModel, unique_cmp}
+use Rattle.ak_address.proofs.OrderLemmas.{unique_total, unique_exact}
+use Rattle.ak_address.proofs.Pairs.{first, second, find_below, below_at, index_of_found}
 use Rattle.ak_address.proofs.TableLaws.{same_key, key_itself}
 use Rattle.ak_member.specs.declared.status.Status.{Status}
 use Rattle.ak_member.specs.declared.standing.Standing.{Standing}
 use Rattle.ak_member.specs.declared.standing.Standing.TheVariants.{Member, Buried}
-use Rattle.ak_member.specs.Standing.{Standings, as_member, member_of, member_rows, members_of}
-use Rattle.ak_member.specs.Age.{counts, counted_rows, older_row, least_row, IsOldest}
-use Rattle.ak_member.proofs.Walks.{KeepsRows, kept_row, kept_at_end}
+use Rattle.ak_member.specs.Standing.{Standings, as_member, member_of, member_pairs, members_of}
+use Rattle.ak_member.specs.Age.{counts, counted_pairs, older_pair, least_pair, IsOldest}
+use Rattle.ak_member.proofs.MemberLemmas.{KeepsPairs, kept_pair, kept_at_end}
 
--- ---- along the rows
--- the counted ones among the rows of a table
-abbrev pub counted_among : List (Process × Standing) → List (Process × ℕ)
-counted_among rows = counted_rows (member_rows rows)
+-- ---- along the pairs
+-- the counted ones among the pairs of a table
+abbrev pub counted_among : List (UniqueModel × Standing) → List (UniqueModel × ℕ)
+counted_among pairs = counted_pairs (member_pairs pairs)
 
-counted_more : (row : Process × (Status × ℕ)) (rows : List (Process × (Status × ℕ))) → counted_rows (row ∷ rows) ≡ counted_rows (row ∷ []) ++ counted_rows rows
-counted_more row rows = elim (counts row.1.0) as (λ b. cond b ((row.0, row.1.1) ∷ counted_rows rows) (counted_rows rows) ≡ cond b ((row.0, row.1.1) ∷ []) [] ++ counted_rows rows) [ true ↦ refl | false ↦ refl ]
+counted_more : (pair : UniqueModel × (Status × ℕ)) (pairs : List (UniqueModel × (Status × ℕ))) → counted_pairs (pair ∷ pairs) ≡ counted_pairs (pair ∷ []) ++ counted_pairs pairs
+counted_more pair pairs = elim (counts pair.1.0) as (λ b. cond b ((pair.0, pair.1.1) ∷ counted_pairs pairs) (counted_pairs pairs) ≡ cond b ((pair.0, pair.1.1) ∷ []) [] ++ counted_pairs pairs) [ true ↦ refl | false ↦ refl ]
 
-pub keeps_counted : KeepsRows counted_among
+pub keeps_counted : KeepsPairs counted_among
 keeps_counted = record { none = refl; more = more }
   where
-    more : (x : Process × Standing) (xs : List (Process × Standing)) → counted_among (x ∷ xs) ≡ counted_among (x ∷ []) ++ counted_among xs
-    more (who, Member status number) xs = counted_more (who, (status, number)) (member_rows xs)
+    more : (x : UniqueModel × Standing) (xs : List (UniqueModel × Standing)) → counted_among (x ∷ xs) ≡ counted_among (x ∷ []) ++ counted_among xs
+    more (who, Member status number) xs = counted_more (who, (status, number)) (member_pairs xs)
     more (who, Buried confirmed) xs = refl
 
 -- the older of two, the first at equal numbers
-abbrev earlier : Option (Process × ℕ) → Option (Process × ℕ) → Option (Process × ℕ)
+abbrev earlier : Option (UniqueModel × ℕ) → Option (UniqueModel × ℕ) → Option (UniqueModel × ℕ)
 earlier None b = b
-earlier (Some row) b = older_row row b
+earlier (Some pair) b = older_pair pair b
 
-older_grouped : (x y z : Process × ℕ) → older_row x (older_row y (Some z)) ≡ earlier (older_row x (Some y)) (Some z)
+older_grouped : (x y z : UniqueModel × ℕ) → older_pair x (older_pair y (Some z)) ≡ earlier (older_pair x (Some y)) (Some z)
 older_grouped x y z =
-    elim (ltb z.1 y.1) as (λ b. ltb z.1 y.1 ≡ b → older_row x (cond b (Some z) (Some y)) ≡ earlier (older_row x (Some y)) (Some z)) [
+    elim (ltb z.1 y.1) as (λ b. ltb z.1 y.1 ≡ b → older_pair x (cond b (Some z) (Some y)) ≡ earlier (older_pair x (Some y)) (Some z)) [
       | true ↦ λ first.
-          elim (ltb y.1 x.1) as (λ b. ltb y.1 x.1 ≡ b → older_row x (Some z) ≡ earlier (cond b (Some y) (Some x)) (Some z)) [
+          elim (ltb y.1 x.1) as (λ b. ltb y.1 x.1 ≡ b → older_pair x (Some z) ≡ earlier (cond b (Some y) (Some x)) (Some z)) [
             | true ↦ λ second. let l = ltb-true _ _ first in let m = ltb-true _ _ second in ap (λ b. cond b (Some z) (Some x)) (lt-ltb z.1 x.1 (omega arith)) ∙ sym (ap (λ b. cond b (Some z) (Some y)) first)
             | false ↦ λ second. refl
           ] refl
@@ -51,80 +51,80 @@ older_grouped x y z =
           ] refl
     ] refl
 
-earlier_grouped : (x : Process × ℕ) (a b : Option (Process × ℕ)) → older_row x (earlier a b) ≡ earlier (older_row x a) b
+earlier_grouped : (x : UniqueModel × ℕ) (a b : Option (UniqueModel × ℕ)) → older_pair x (earlier a b) ≡ earlier (older_pair x a) b
 earlier_grouped x None b = refl
 earlier_grouped x (Some y) None = elim (ltb y.1 x.1) as (λ t. cond t (Some y) (Some x) ≡ earlier (cond t (Some y) (Some x)) None) [ true ↦ refl | false ↦ refl ]
 earlier_grouped x (Some y) (Some z) = older_grouped x y z
 
-least-append : (xs ys : List (Process × ℕ)) → least_row (xs ++ ys) ≡ earlier (least_row xs) (least_row ys)
+least-append : (xs ys : List (UniqueModel × ℕ)) → least_pair (xs ++ ys) ≡ earlier (least_pair xs) (least_pair ys)
 least-append [] ys = refl
-least-append (x ∷ xs) ys = ap (older_row x) (least-append xs ys) ∙ earlier_grouped x (least_row xs) (least_row ys)
+least-append (x ∷ xs) ys = ap (older_pair x) (least-append xs ys) ∙ earlier_grouped x (least_pair xs) (least_pair ys)
 
-of_least : (a b : Option (Process × ℕ)) (xs : List (Process × ℕ)) → a ≡ least_row xs → earlier a b ≡ earlier (least_row xs) b
+of_least : (a b : Option (UniqueModel × ℕ)) (xs : List (UniqueModel × ℕ)) → a ≡ least_pair xs → earlier a b ≡ earlier (least_pair xs) b
 of_least a b xs e = ap (λ o. earlier o b) e
 
-itself : (a : Option (Process × ℕ)) → least_row (option_to_list a) ≡ a
+itself : (a : Option (UniqueModel × ℕ)) → least_pair (option_to_list a) ≡ a
 itself None = refl
 itself (Some x) = refl
 
--- the least so far, and those of the rows that are left
-pub least_more : {Z W : Type 0} (v : Z → Process × ℕ) (a : Option Z) (o : Option W) (w : W → Process × ℕ) (b : Option Z) (es : List (Process × Standing)) (i : ℕ) (least : Option (Process × ℕ))
+-- the least so far, and those of the pairs that are left
+pub least_more : {Z W : Type 0} (v : Z → UniqueModel × ℕ) (a : Option Z) (o : Option W) (w : W → UniqueModel × ℕ) (b : Option Z) (es : List (UniqueModel × Standing)) (i : ℕ) (least : Option (UniqueModel × ℕ))
     → option_to_list (option_map w o) ≡ counted_among (option_to_list (slice_get es i))
-    → option_map v b ≡ least_row (option_to_list (option_map v a) ++ option_to_list (option_map w o))
-    → least_row (option_to_list (option_map v a) ++ counted_among (drop i es)) ≡ least
-    → least_row (option_to_list (option_map v b) ++ counted_among (drop (i + 1) es)) ≡ least
-least_more v a o w b es i least row best so_far =
+    → option_map v b ≡ least_pair (option_to_list (option_map v a) ++ option_to_list (option_map w o))
+    → least_pair (option_to_list (option_map v a) ++ counted_among (drop i es)) ≡ least
+    → least_pair (option_to_list (option_map v b) ++ counted_among (drop (i + 1) es)) ≡ least
+least_more v a o w b es i least pair best so_far =
     let xs = option_to_list (option_map v a) in
     let ys = option_to_list (option_map w o) in
     let rest = counted_among (drop (i + 1) es) in
     least-append (option_to_list (option_map v b)) rest
-    ∙ ap (λ r. earlier r (least_row rest)) (itself (option_map v b) ∙ best)
+    ∙ ap (λ r. earlier r (least_pair rest)) (itself (option_map v b) ∙ best)
     ∙ sym (least-append (xs ++ ys) rest)
-    ∙ ap least_row (append_assoc xs ys rest ∙ ap (λ l. xs ++ l) (sym (kept_row counted_among keeps_counted es i (option_map w o) row)))
+    ∙ ap least_pair (append_assoc xs ys rest ∙ ap (λ l. xs ++ l) (sym (kept_pair counted_among keeps_counted es i (option_map w o) pair)))
     ∙ so_far
 
-pub least_at_end : (a : Option (Process × ℕ)) (es : List (Process × Standing)) (i : ℕ) (least : Option (Process × ℕ)) → length es ≤ i → least_row (option_to_list a ++ counted_among (drop i es)) ≡ least → a ≡ least
+pub least_at_end : (a : Option (UniqueModel × ℕ)) (es : List (UniqueModel × Standing)) (i : ℕ) (least : Option (UniqueModel × ℕ)) → length es ≤ i → least_pair (option_to_list a ++ counted_among (drop i es)) ≡ least → a ≡ least
 least_at_end a es i least past so_far =
-    sym (itself a) ∙ sym (ap least_row (append-nil (option_to_list a))) ∙ ap (λ l. least_row (option_to_list a ++ l)) (sym (kept_at_end counted_among keeps_counted es i past)) ∙ so_far
+    sym (itself a) ∙ sym (ap least_pair (append-nil (option_to_list a))) ∙ ap (λ l. least_pair (option_to_list a ++ l)) (sym (kept_at_end counted_among keeps_counted es i past)) ∙ so_far
 
 -- ---- what it is
--- a counted member among these rows, with its number
-abbrev CountedIn : List (Process × Standing) → Process → ℕ → Type 0
+-- a counted member among these pairs, with its number
+abbrev CountedIn : List (UniqueModel × Standing) → UniqueModel → ℕ → Type 0
 CountedIn es who number = (status : Status) × (member_of (map.find unique_cmp who es) ≡ Some (status, number)) × IsTrue (counts status)
 
 -- it is no younger than that
-abbrev NoYounger : Process × ℕ → Process → ℕ → Type 0
-NoYounger row other later = (row.1 < later) ⊎ ((row.1 ≡ later) × ((other ≡ row.0) ⊎ (unique_cmp row.0 other ≡ Less)))
+abbrev NoYounger : UniqueModel × ℕ → UniqueModel → ℕ → Type 0
+NoYounger pair other later = (pair.1 < later) ⊎ ((pair.1 ≡ later) × ((other ≡ pair.0) ⊎ (unique_cmp pair.0 other ≡ Less)))
 
-abbrev LeastIn : List (Process × Standing) → Option (Process × ℕ) → Type 0
-LeastIn es None = (who : Process) (number : ℕ) → CountedIn es who number → ⊥
-LeastIn es (Some row) = CountedIn es row.0 row.1 × ((other : Process) (later : ℕ) → CountedIn es other later → NoYounger row other later)
+abbrev LeastIn : List (UniqueModel × Standing) → Option (UniqueModel × ℕ) → Type 0
+LeastIn es None = (who : UniqueModel) (number : ℕ) → CountedIn es who number → ⊥
+LeastIn es (Some pair) = CountedIn es pair.0 pair.1 × ((other : UniqueModel) (later : ℕ) → CountedIn es other later → NoYounger pair other later)
 
--- the member of a row counts with this number
+-- the member of a pair counts with this number
 abbrev CountedAs : Standing → ℕ → Type 0
 CountedAs x number = (status : Status) × (as_member x ≡ Some (status, number)) × IsTrue (counts status)
 
-first_or_later : (e : Process × Standing) (es : List (Process × Standing)) (who : Process) (number : ℕ) → CountedIn (e ∷ es) who number → ((who ≡ e.0) × CountedAs e.1 number) ⊎ CountedIn es who number
+first_or_later : (e : UniqueModel × Standing) (es : List (UniqueModel × Standing)) (who : UniqueModel) (number : ℕ) → CountedIn (e ∷ es) who number → ((who ≡ e.0) × CountedAs e.1 number) ⊎ CountedIn es who number
 first_or_later e es who number c =
     elim (eq_by_cmp unique_cmp who e.0) as (λ b. eq_by_cmp unique_cmp who e.0 ≡ b → member_of (cond b (Some e.1) (map.find unique_cmp who es)) ≡ Some (c.0, number) → ((who ≡ e.0) × CountedAs e.1 number) ⊎ CountedIn es who number) [
       | true ↦ λ tied is. inl (same_key who e.0 tied, (c.0, is, c.2))
       | false ↦ λ apart is. inr (c.0, is, c.2)
     ] refl c.1
 
-in_first : (e : Process × Standing) (es : List (Process × Standing)) (number : ℕ) → CountedAs e.1 number → CountedIn (e ∷ es) e.0 number
+in_first : (e : UniqueModel × Standing) (es : List (UniqueModel × Standing)) (number : ℕ) → CountedAs e.1 number → CountedIn (e ∷ es) e.0 number
 in_first e es number c = (c.0, ap (λ b. member_of (cond b (Some e.1) (map.find unique_cmp e.0 es))) (key_itself e.0) ∙ c.1, c.2)
 
 found_some : (a : Option Standing) (m : Status × ℕ) → member_of a ≡ Some m → (x : Standing) × (a ≡ Some x)
 found_some None m is = absurd (none-some m is)
 found_some (Some x) m is = (x, refl)
 
-above_first : (e : Process × Standing) (es : List (Process × Standing)) (who : Process) (number : ℕ) → T (map.is_sorted unique_cmp (e ∷ es)) → CountedIn es who number → unique_cmp e.0 who ≡ Less
+above_first : (e : UniqueModel × Standing) (es : List (UniqueModel × Standing)) (who : UniqueModel) (number : ℕ) → T (map.is_sorted unique_cmp (e ∷ es)) → CountedIn es who number → unique_cmp e.0 who ≡ Less
 above_first e es who number h c =
     let x = found_some (map.find unique_cmp who es) (c.0, number) c.1 in
-    let p = place_of_found unique_cmp unique_exact who x.0 es x.1 in
+    let p = index_of_found unique_cmp unique_exact who x.0 es x.1 in
     below_at unique_cmp unique_total e.0 es p.0 (who, x.0) (first _ _ h) p.1
 
-in_later : (e : Process × Standing) (es : List (Process × Standing)) (who : Process) (number : ℕ) → T (map.is_sorted unique_cmp (e ∷ es)) → CountedIn es who number → CountedIn (e ∷ es) who number
+in_later : (e : UniqueModel × Standing) (es : List (UniqueModel × Standing)) (who : UniqueModel) (number : ℕ) → T (map.is_sorted unique_cmp (e ∷ es)) → CountedIn es who number → CountedIn (e ∷ es) who number
 in_later e es who number h c =
     elim (eq_by_cmp unique_cmp who e.0) as (λ b. eq_by_cmp unique_cmp who e.0 ≡ b → CountedIn (e ∷ es) who number) [
       | true ↦ λ tied.
@@ -133,17 +133,17 @@ in_later e es who number h c =
       | false ↦ λ apart. (c.0, ap (λ b. member_of (cond b (Some e.1) (map.find unique_cmp who es))) apart ∙ c.1, c.2)
     ] refl
 
--- a row that does not count
-passed : (e : Process × Standing) (es : List (Process × Standing)) (r : Option (Process × ℕ)) → T (map.is_sorted unique_cmp (e ∷ es)) → ((number : ℕ) → CountedAs e.1 number → ⊥) → LeastIn es r → LeastIn (e ∷ es) r
+-- a pair that does not count
+passed : (e : UniqueModel × Standing) (es : List (UniqueModel × Standing)) (r : Option (UniqueModel × ℕ)) → T (map.is_sorted unique_cmp (e ∷ es)) → ((number : ℕ) → CountedAs e.1 number → ⊥) → LeastIn es r → LeastIn (e ∷ es) r
 passed e es None h never rest = λ who number c. elim (first_or_later e es who number c) [ inl here ↦ never number here.1 | inr later ↦ rest who number later ]
-passed e es (Some row) h never rest =
-    (in_later e es row.0 row.1 h rest.0, λ other later c. elim (first_or_later e es other later c) [ inl here ↦ absurd (never later here.1) | inr behind ↦ rest.1 other later behind ])
+passed e es (Some pair) h never rest =
+    (in_later e es pair.0 pair.1 h rest.0, λ other later c. elim (first_or_later e es other later c) [ inl here ↦ absurd (never later here.1) | inr behind ↦ rest.1 other later behind ])
 
 one_number : (x : Standing) (m n : ℕ) → CountedAs x m → CountedAs x n → m ≡ n
 one_number x m n a b = ap (λ p. p.1) (same_Some (a.0, m) (b.0, n) (sym a.1 ∙ b.1))
 
--- a row that counts
-chosen : (e : Process × Standing) (es : List (Process × Standing)) (number : ℕ) (r : Option (Process × ℕ)) → T (map.is_sorted unique_cmp (e ∷ es)) → CountedAs e.1 number → LeastIn es r → LeastIn (e ∷ es) (older_row (e.0, number) r)
+-- a pair that counts
+chosen : (e : UniqueModel × Standing) (es : List (UniqueModel × Standing)) (number : ℕ) (r : Option (UniqueModel × ℕ)) → T (map.is_sorted unique_cmp (e ∷ es)) → CountedAs e.1 number → LeastIn es r → LeastIn (e ∷ es) (older_pair (e.0, number) r)
 chosen e es number None h is rest = (
   in_first e es number is,
   λ other later c.
@@ -152,11 +152,11 @@ chosen e es number None h is rest = (
         | inr behind ↦ absurd (rest other later behind)
       ],
 )
-chosen e es number (Some row) h is rest =
-    elim (ltb row.1 number) as (λ b. ltb row.1 number ≡ b → LeastIn (e ∷ es) (cond b (Some row) (Some (e.0, number)))) [
+chosen e es number (Some pair) h is rest =
+    elim (ltb pair.1 number) as (λ b. ltb pair.1 number ≡ b → LeastIn (e ∷ es) (cond b (Some pair) (Some (e.0, number)))) [
       | true ↦ λ less.
-          let lt = ltb-true row.1 number less in (
-            in_later e es row.0 row.1 h rest.0,
+          let lt = ltb-true pair.1 number less in (
+            in_later e es pair.0 pair.1 h rest.0,
             λ other later c.
                 elim (first_or_later e es other later c) [
                   | inl here ↦ let same = one_number e.1 number later is here.1 in inl (omega arith)
@@ -164,30 +164,30 @@ chosen e es number (Some row) h is rest =
                 ],
           )
       | false ↦ λ more.
-          let le = ltb-false row.1 number more in (
+          let le = ltb-false pair.1 number more in (
             in_first e es number is,
             λ other later c.
                 elim (first_or_later e es other later c) [
                   | inl here ↦ inr (one_number e.1 number later is here.1, inl here.0)
-                  | inr behind ↦ no_younger (e.0, number) row other later le (above_first e es other later h behind) (rest.1 other later behind)
+                  | inr behind ↦ no_younger (e.0, number) pair other later le (above_first e es other later h behind) (rest.1 other later behind)
                 ],
           )
     ] refl
   where
-    no_younger : (one row : Process × ℕ) (other : Process) (later : ℕ) → one.1 ≤ row.1 → unique_cmp one.0 other ≡ Less → NoYounger row other later → NoYounger one other later
-    no_younger one row other later le above (inl less) = inl (omega arith)
-    no_younger one row other later le above (inr same) =
+    no_younger : (one pair : UniqueModel × ℕ) (other : UniqueModel) (later : ℕ) → one.1 ≤ pair.1 → unique_cmp one.0 other ≡ Less → NoYounger pair other later → NoYounger one other later
+    no_younger one pair other later le above (inl less) = inl (omega arith)
+    no_younger one pair other later le above (inr same) =
         elim (ltb one.1 later) as (λ b. ltb one.1 later ≡ b → NoYounger one other later) [
           | true ↦ λ less. inl (ltb-true one.1 later less)
           | false ↦ λ not_less. let ge = ltb-false one.1 later not_less in let e = same.0 in inr (omega arith, inr above)
         ] refl
 
-least_in : (es : List (Process × Standing)) → T (map.is_sorted unique_cmp es) → LeastIn es (least_row (counted_among es))
+least_in : (es : List (UniqueModel × Standing)) → T (map.is_sorted unique_cmp es) → LeastIn es (least_pair (counted_among es))
 least_in [] h = λ who number c. none-some (c.0, number) c.1
 least_in ((k, Buried confirmed) ∷ es) h =
     passed (k, Buried confirmed) es _ h (λ number c. none-some (c.0, number) c.1) (least_in es (second _ _ h))
 least_in ((k, Member status number) ∷ es) h =
-    elim (counts status) as (λ b. counts status ≡ b → LeastIn ((k, Member status number) ∷ es) (least_row (cond b ((k, number) ∷ counted_among es) (counted_among es)))) [
+    elim (counts status) as (λ b. counts status ≡ b → LeastIn ((k, Member status number) ∷ es) (least_pair (cond b ((k, number) ∷ counted_among es) (counted_among es)))) [
       | true ↦ λ is. chosen (k, Member status number) es number _ h (status, refl, is) (least_in es (second _ _ h))
       | false ↦ λ is.
           passed (k, Member status number) es _ h
@@ -195,12 +195,12 @@ least_in ((k, Member status number) ∷ es) h =
           (least_in es (second _ _ h))
     ] refl
 
-told : (s : Standings) (r : Option (Process × ℕ)) → LeastIn (map.entries s) r → IsOldest s (option_map (λ row. row.0) r)
+told : (s : Standings) (r : Option (UniqueModel × ℕ)) → LeastIn (map.entries s) r → IsOldest s (option_map (λ pair. pair.0) r)
 told s None none = λ who number c. none who number (c.0, ap member_of (sym (map.get-entries s who)) ∙ c.1, c.2)
-told s (Some row) is =
+told s (Some pair) is =
     let mine = is.0 in
-    (row.1, (mine.0, ap member_of (map.get-entries s row.0) ∙ mine.1, mine.2), λ other later c. is.1 other later (c.0, ap member_of (sym (map.get-entries s other)) ∙ c.1, c.2))
+    (pair.1, (mine.0, ap member_of (map.get-entries s pair.0) ∙ mine.1, mine.2), λ other later c. is.1 other later (c.0, ap member_of (sym (map.get-entries s other)) ∙ c.1, c.2))
 
--- the member of the row that was found is the oldest of those that count
-pub oldest_is : (s : Standings) (r : Option (Process × ℕ)) → r ≡ least_row (counted_rows (members_of s)) → IsOldest s (option_map (λ row. row.0) r)
+-- the member of the pair that was found is the oldest of those that count
+pub oldest_is : (s : Standings) (r : Option (UniqueModel × ℕ)) → r ≡ least_pair (counted_pairs (members_of s)) → IsOldest s (option_map (λ pair. pair.0) r)
 oldest_is s r is = told s r (subst (LeastIn (map.entries s)) (sym is) (least_in (map.entries s) (map.entries_sorted s)))

@@ -6,7 +6,7 @@ use Rattle.ak_member.specs.declared.status.Status.{Status}
 use Rattle.ak_member.specs.declared.status.Status.TheVariants.{Joining, Up, Leaving, Exiting, Down}
 use Rattle.ak_member.specs.declared.standing.Standing.{Standing}
 use Rattle.ak_member.specs.declared.standing.Standing.TheVariants.{Member, Buried}
-use Rattle.ak_member.specs.Standing.{rank, greater_status, older_number, joined_standing}
+use Rattle.ak_member.specs.Standing.{rank, greater_status, older_number, merged_standing}
 use Rattle.ak_member.specs.View.{Row, later_row}
 
 -- ---- statuses
@@ -78,13 +78,13 @@ or_idempotent : (a : Bool) → (a || a) ≡ a
 or_idempotent true = refl
 or_idempotent false = refl
 
-pub standing_commutative : (x y : Standing) → joined_standing x y ≡ joined_standing y x
+pub standing_commutative : (x y : Standing) → merged_standing x y ≡ merged_standing y x
 standing_commutative (Member status number) (Member other other_number) = λ i. Member (status_commutative status other i) (number_commutative number other_number i)
 standing_commutative (Member status number) (Buried confirmed) = refl
 standing_commutative (Buried confirmed) (Member status number) = refl
 standing_commutative (Buried confirmed) (Buried other) = ap Buried (or_commutative confirmed other)
 
-pub standing_associative : (x y z : Standing) → joined_standing (joined_standing x y) z ≡ joined_standing x (joined_standing y z)
+pub standing_associative : (x y z : Standing) → merged_standing (merged_standing x y) z ≡ merged_standing x (merged_standing y z)
 standing_associative (Member a l) (Member b m) (Member c n) = λ i. Member (status_associative a b c i) (number_associative l m n i)
 standing_associative (Member a l) (Member b m) (Buried c) = refl
 standing_associative (Member a l) (Buried b) (Member c n) = refl
@@ -94,7 +94,7 @@ standing_associative (Buried a) (Member b m) (Buried c) = refl
 standing_associative (Buried a) (Buried b) (Member c n) = refl
 standing_associative (Buried a) (Buried b) (Buried c) = ap Buried (or_associative a b c)
 
-pub standing_idempotent : (x : Standing) → joined_standing x x ≡ x
+pub standing_idempotent : (x : Standing) → merged_standing x x ≡ x
 standing_idempotent (Member status number) = λ i. Member (status_idempotent status i) (number_idempotent number i)
 standing_idempotent (Buried confirmed) = ap Buried (or_idempotent confirmed)
 

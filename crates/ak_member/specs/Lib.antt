@@ -1,4 +1,4 @@
 pub mod Age
-pub mod Places
+pub mod Indices
 pub mod Standing
 pub mod View

@@ -2,8 +2,8 @@
 -- Lifecycle" and "Gossip": a status only rises, and a process that was removed never comes back).
 use Rattle.std.specs.Prelude.{ℕ, min, nat_lt, ◌==◌, Bool, ◌||◌, List, [], ◌∷◌, Option, None, Some, is_some, if◌then◌else◌}
 use Rattle.std.specs.FinMap as map
-use Rattle.ak_address.specs.Unique.{Process, unique_cmp}
-use Rattle.ak_address.specs.Table.{value_with, joined}
+use Rattle.ak_address.specs.Unique.{UniqueModel, unique_cmp}
+use Rattle.ak_address.specs.Table.{value_with, merged_tables}
 use Rattle.ak_member.specs.declared.status.Status.{Status}
 use Rattle.ak_member.specs.declared.status.Status.TheVariants.{Joining, Up, Leaving, Exiting, Down}
 use Rattle.ak_member.specs.declared.standing.Standing.{Standing}
@@ -24,11 +24,11 @@ abbrev pub older_number : ℕ → ℕ → ℕ
 older_number one other = if one == 0 then other else (if other == 0 then one else min one other)
 
 -- A tombstone stays one, confirmed where either is. A member has the greater status and the older number.
-abbrev pub joined_standing : Standing → Standing → Standing
-joined_standing (Member status number) (Member other other_number) = Member (greater_status status other) (older_number number other_number)
-joined_standing (Member status number) (Buried confirmed) = Buried confirmed
-joined_standing (Buried confirmed) (Member status number) = Buried confirmed
-joined_standing (Buried confirmed) (Buried other) = Buried (confirmed || other)
+abbrev pub merged_standing : Standing → Standing → Standing
+merged_standing (Member status number) (Member other other_number) = Member (greater_status status other) (older_number number other_number)
+merged_standing (Member status number) (Buried confirmed) = Buried confirmed
+merged_standing (Buried confirmed) (Member status number) = Buried confirmed
+merged_standing (Buried confirmed) (Buried other) = Buried (confirmed || other)
 
 -- who is a member or a tombstone; of everybody else nothing is known
 abbrev pub Standings : Type 0
@@ -38,19 +38,19 @@ abbrev pub nobody : Standings
 nobody = map.empty
 
 -- what is known of each process by both
-abbrev pub joined_standings : Standings → Standings → Standings
-joined_standings s t = joined joined_standing s t
+abbrev pub merged_standings : Standings → Standings → Standings
+merged_standings s t = merged_tables merged_standing s t
 
--- the same of one process, joined with what is known of it
-abbrev pub known : Standings → Process → Standing → Standings
-known s who standing = map.insert s who (value_with joined_standing (map.get s who) standing)
+-- the same of one process, merged with what is known of it
+abbrev pub known : Standings → UniqueModel → Standing → Standings
+known s who standing = map.insert s who (value_with merged_standing (map.get s who) standing)
 
 -- a member has at least this status; a tombstone stays one
-abbrev pub raised : Standings → Process → Status → ℕ → Standings
+abbrev pub raised : Standings → UniqueModel → Status → ℕ → Standings
 raised s who status number = known s who (Member status number)
 
 -- a process is removed
-abbrev pub buried : Standings → Process → Bool → Standings
+abbrev pub buried : Standings → UniqueModel → Bool → Standings
 buried s who confirmed = known s who (Buried confirmed)
 
 -- a member's status and number, and whether a tombstone is confirmed
@@ -70,25 +70,25 @@ abbrev pub tombstone_of : Option Standing → Option Bool
 tombstone_of None = None
 tombstone_of (Some standing) = as_tombstone standing
 
-abbrev pub is_member : Standings → Process → Bool
+abbrev pub is_member : Standings → UniqueModel → Bool
 is_member s who = is_some (member_of (map.get s who))
 
--- the rows that have one, in their order
-abbrev pub row_of : {X : Type 0} → Process → Option X → List (Process × X) → List (Process × X)
-row_of who None rows = rows
-row_of who (Some x) rows = (who, x) ∷ rows
+-- the pairs that have one, in their order
+abbrev pub pair_of : {X : Type 0} → UniqueModel → Option X → List (UniqueModel × X) → List (UniqueModel × X)
+pair_of who None pairs = pairs
+pair_of who (Some x) pairs = (who, x) ∷ pairs
 
-abbrev pub member_rows : List (Process × Standing) → List (Process × (Status × ℕ))
-member_rows [] = []
-member_rows (row ∷ rows) = row_of row.0 (as_member row.1) (member_rows rows)
+abbrev pub member_pairs : List (UniqueModel × Standing) → List (UniqueModel × (Status × ℕ))
+member_pairs [] = []
+member_pairs (pair ∷ pairs) = pair_of pair.0 (as_member pair.1) (member_pairs pairs)
 
-abbrev pub tombstone_rows : List (Process × Standing) → List (Process × Bool)
-tombstone_rows [] = []
-tombstone_rows (row ∷ rows) = row_of row.0 (as_tombstone row.1) (tombstone_rows rows)
+abbrev pub tombstone_pairs : List (UniqueModel × Standing) → List (UniqueModel × Bool)
+tombstone_pairs [] = []
+tombstone_pairs (pair ∷ pairs) = pair_of pair.0 (as_tombstone pair.1) (tombstone_pairs pairs)
 
 -- the members, and the tombstones, in the order of processes
-abbrev pub members_of : Standings → List (Process × (Status × ℕ))
-members_of s = member_rows (map.entries s)
+abbrev pub members_of : Standings → List (UniqueModel × (Status × ℕ))
+members_of s = member_pairs (map.entries s)
 
-abbrev pub tombstones_of : Standings → List (Process × Bool)
-tombstones_of s = tombstone_rows (map.entries s)
+abbrev pub tombstones_of : Standings → List (UniqueModel × Bool)
+tombstones_of s = tombstone_pairs (map.entries s)

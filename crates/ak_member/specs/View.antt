@@ -1,17 +1,17 @@
--- What a node knows of its cluster besides its version, how two such views are joined, and what an entry of the
+-- What a node knows of its cluster besides its version, how two such views are merged, and what an entry of the
 -- history adds (Akka's Cluster Specification, "Gossip" and "Failure Detector").
 use Rattle.std.specs.Prelude.{◌≡◌, ℕ, nat_lt, List, [], ◌∷◌, Option, None, Some, if◌then◌else◌, refl}
 use Rattle.std.specs.FinMap as map
 use Rattle.std.specs.FinSet as set
 use Rattle.std.specs.Coded.{Coded, code_by, coded×, coded_ℕ}
-use Rattle.ak_address.specs.Unique.{Process, unique_cmp, coded_unique}
+use Rattle.ak_address.specs.Unique.{UniqueModel, unique_cmp, coded_unique}
 use Rattle.ak_address.specs.Uniques.{UniqueSet}
-use Rattle.ak_address.specs.Table.{joined}
+use Rattle.ak_address.specs.Table.{merged_tables}
 use Rattle.ak_member.specs.contracts.standing.Standing as standing
 use Rattle.ak_member.specs.declared.status.Status.TheVariants.{Joining}
 use Rattle.ak_member.specs.declared.effect.Effect.{Effect}
 use Rattle.ak_member.specs.declared.effect.Effect.TheVariants.{Joined, Rise, Removed, Observed}
-use Rattle.ak_member.specs.Standing.{Standings, nobody, joined_standings, raised, buried}
+use Rattle.ak_member.specs.Standing.{Standings, nobody, merged_standings, raised, buried}
 
 -- whom an observer found unreachable, by the entry of that number
 pub record Row : Type 0 where
@@ -32,8 +32,8 @@ coded_row = code_by (ℕ × UniqueSet) (coded× coded_ℕ coded_uniques) (λ r. 
 abbrev pub later_row : Row → Row → Row
 later_row own other = if nat_lt own.number other.number then other else own
 
-abbrev pub joined_rows : RowTable → RowTable → RowTable
-joined_rows rows others = joined later_row rows others
+abbrev pub merged_rows : RowTable → RowTable → RowTable
+merged_rows rows others = merged_tables later_row rows others
 
 pub record View : Type 0 where
   pub standings : Standings
@@ -52,8 +52,8 @@ abbrev pub empty_view : View
 empty_view = record { standings = nobody; rows = map.empty }
 
 -- what two views know together: of each process what both know of it, of each observer its later row
-abbrev pub joined_views : View → View → View
-joined_views own other = record { standings = joined_standings own.standings other.standings; rows = joined_rows own.rows other.rows }
+abbrev pub merged_views : View → View → View
+merged_views own other = record { standings = merged_standings own.standings other.standings; rows = merged_rows own.rows other.rows }
 
 -- what an effect, and several in their order, make of the members and tombstones
 abbrev pub after_effect : Effect → Standings → Standings
@@ -79,15 +79,15 @@ observed [] = None
 observed (effect ∷ effects) = observed_by effect (observed effects)
 
 -- the row of the author, where its entry of this number observes
-abbrev pub after_observed : Process → ℕ → Option UniqueSet → RowTable → RowTable
+abbrev pub after_observed : UniqueModel → ℕ → Option UniqueSet → RowTable → RowTable
 after_observed author number None rows = rows
 after_observed author number (Some subjects) rows = map.insert rows author (record { number = number; subjects = subjects })
 
 -- what the author's entry of this number adds to a view
-abbrev pub after_entry : Process → ℕ → List Effect → View → View
+abbrev pub after_entry : UniqueModel → ℕ → List Effect → View → View
 after_entry author number effects v =
     record { standings = after_effects effects v.standings; rows = after_observed author number (observed effects) v.rows }
 
 -- an observer's rows of one number are one row, as all rows of one history are
 abbrev pub RowsAgree : RowTable → RowTable → Type 0
-RowsAgree rows others = (observer : Process) (row other : Row) → map.get rows observer ≡ Some row → map.get others observer ≡ Some other → row.number ≡ other.number → row ≡ other
+RowsAgree rows others = (observer : UniqueModel) (row other : Row) → map.get rows observer ≡ Some row → map.get others observer ≡ Some other → row.number ≡ other.number → row ≡ other

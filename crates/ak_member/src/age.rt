@@ -4,9 +4,9 @@ ghost use Rattle.std.specs.List.{list_any};
 ghost use Rattle.std.specs.Ordering.{is_eq};
 ghost use Rattle.std.specs.FinMap as map;
 ghost use Rattle.ak_address.specs.Unique.{address_cmp};
-ghost use Rattle.ak_member.specs.Standing.{member_rows, members_of};
-ghost use Rattle.ak_member.specs.Age.{counted_rows, least_row, oldest, IsOldest, distinct, counted_addresses, IsByAge};
-ghost use Rattle.ak_member.specs.Places.{placed_from};
+ghost use Rattle.ak_member.specs.Standing.{member_pairs, members_of};
+ghost use Rattle.ak_member.specs.Age.{counted_pairs, least_pair, oldest, IsOldest, distinct, counted_addresses, IsByAge};
+ghost use Rattle.ak_member.specs.Indices.{indexed_from};
 
 use crate::members::{Member, Members};
 use ak_address::Unique;
@@ -20,21 +20,21 @@ impl Members {
         ensures value { option_copied result ≡ oldest self.now }
         ensures meaning { IsOldest self.now (option_copied result) }
     {
-        match oldest_row(self) {
+        match oldest_pair(self) {
             Some((unique, _)) => Some(unique),
             None => None,
         }
     }
 
-    /// The places among the members of the Up and Leaving ones, the oldest first, each once (Akka's "Cluster Singleton"
+    /// The indices among the members of the Up and Leaving ones, the oldest first, each once (Akka's "Cluster Singleton"
     /// orders members by age). Only memory can fail.
     pub fn by_age(&self, alloc: Global) -> Result<Vec<u32>, AllocError>
         requires { map.len self.now < 2 ^ 32 }
-        ensures { IfOk result (λ places. IsByAge self.now places.items) }
+        ensures { IfOk result (λ indices. IsByAge self.now indices.items) }
     {
-        let mut counted = counted_places(alloc, self)?;
+        let mut counted = counted_indices(alloc, self)?;
         counted.sort_unstable();
-        places_of(alloc, &counted)
+        indices_of(alloc, &counted)
     }
 
     /// How many different addresses the Up and Leaving members have: what the resolver counts against a quorum (Akka's
@@ -46,8 +46,8 @@ impl Members {
     {
         let mut count = 0;
         let mut last = None;
-        'rows: for row in 0..self.uniques() {
-            if let Some((unique, _)) = counted_at(self, row) {
+        'pairs: for pair in 0..self.uniques() {
+            if let Some((unique, _)) = counted_at(self, pair) {
                 if !shares_address(last, unique) {
                     count += 1;
                 }
@@ -59,10 +59,10 @@ impl Members {
 }
 
 // The process and the up number of the member at a row, where there is one that counts.
-fn counted_at(members: &Members, row: usize) -> Option<(&Unique, u64)>
-    ensures { option_to_list (option_map (λ r. (r.0.now, r.1)) result) ≡ counted_rows (member_rows (option_to_list (slice_get (map.entries members.now) row))) }
+fn counted_at(members: &Members, pair: usize) -> Option<(&Unique, u64)>
+    ensures { option_to_list (option_map (λ r. (r.0.now, r.1)) result) ≡ counted_pairs (member_pairs (option_to_list (slice_get (map.entries members.now) pair))) }
 {
-    match members.member_at_row(row) {
+    match members.member_at_pair(pair) {
         Some(member) => counted_one(&member),
         None => None,
     }
@@ -70,7 +70,7 @@ fn counted_at(members: &Members, row: usize) -> Option<(&Unique, u64)>
 
 // The process and the up number of a member that counts.
 fn counted_one<'a>(member: &Member<'a>) -> Option<(&'a Unique, u64)>
-    ensures { option_to_list (option_map (λ r. (r.0.now, r.1)) result) ≡ counted_rows ((member.now.unique.now, (member.now.status, member.now.up_number)) ∷ []) }
+    ensures { option_to_list (option_map (λ r. (r.0.now, r.1)) result) ≡ counted_pairs ((member.now.unique.now, (member.now.status, member.now.up_number)) ∷ []) }
 {
     if member.status.counts() {
         return Some((member.unique, member.up_number));
@@ -78,12 +78,12 @@ fn counted_one<'a>(member: &Member<'a>) -> Option<(&'a Unique, u64)>
     None
 }
 
-fn oldest_row(members: &Members) -> Option<(&Unique, u64)>
-    ensures { option_map (λ r. (r.0.now, r.1)) result ≡ least_row (counted_rows (members_of members.now)) }
+fn oldest_pair(members: &Members) -> Option<(&Unique, u64)>
+    ensures { option_map (λ r. (r.0.now, r.1)) result ≡ least_pair (counted_pairs (members_of members.now)) }
 {
     let mut oldest = None;
-    'rows: for row in 0..members.uniques() {
-        oldest = older(oldest, counted_at(members, row));
+    'pairs: for pair in 0..members.uniques() {
+        oldest = older(oldest, counted_at(members, pair));
     }
     oldest
 }
@@ -93,7 +93,7 @@ fn older<'a>(
     first: Option<(&'a Unique, u64)>,
     second: Option<(&'a Unique, u64)>,
 ) -> Option<(&'a Unique, u64)>
-    ensures { option_map (λ r. (r.0.now, r.1)) result ≡ least_row (option_to_list (option_map (λ r. (r.0.now, r.1)) first.entry) ++ option_to_list (option_map (λ r. (r.0.now, r.1)) second.entry)) }
+    ensures { option_map (λ r. (r.0.now, r.1)) result ≡ least_pair (option_to_list (option_map (λ r. (r.0.now, r.1)) first.entry) ++ option_to_list (option_map (λ r. (r.0.now, r.1)) second.entry)) }
 {
     match (first, second) {
         (Some((one, number)), Some((other, later))) => {
@@ -117,38 +117,38 @@ fn shares_address(last: Option<&Unique>, unique: &Unique) -> bool
     }
 }
 
-// The up number and the place of each member that counts, in the order of places.
-fn counted_places(alloc: Global, members: &Members) -> Result<Vec<(u64, u32)>, AllocError>
+// The up number and the index of each member that counts, in the order of indices.
+fn counted_indices(alloc: Global, members: &Members) -> Result<Vec<(u64, u32)>, AllocError>
     requires { map.len members.now < 2 ^ 32 }
-    ensures { IfOk result (λ counted. counted.items ≡ placed_from 0 (members_of members.now)) }
+    ensures { IfOk result (λ counted. counted.items ≡ indexed_from 0 (members_of members.now)) }
 {
     let mut counted = Vec::new(alloc);
-    let mut place = 0;
-    'rows: for row in 0..members.uniques() {
-        if let Some(member) = members.member_at_row(row) {
-            push_counted(&mut counted, &member, place)?;
-            place += 1;
+    let mut index = 0;
+    'pairs: for pair in 0..members.uniques() {
+        if let Some(member) = members.member_at_pair(pair) {
+            push_counted(&mut counted, &member, index)?;
+            index += 1;
         }
     }
     Ok(counted)
 }
 
-// Appends the up number and the place of a member that counts.
+// Appends the up number and the index of a member that counts.
 fn push_counted(
     counted: &mut Vec<(u64, u32)>,
     member: &Member<'_>,
-    place: u32,
+    index: u32,
 ) -> Result<(), AllocError>
-    ensures { OnOk result (counted.new.items ≡ counted.old.items ++ placed_from place ((member.now.unique.now, (member.now.status, member.now.up_number)) ∷ [])) }
+    ensures { OnOk result (counted.new.items ≡ counted.old.items ++ indexed_from index ((member.now.unique.now, (member.now.status, member.now.up_number)) ∷ [])) }
 {
     if member.status.counts() {
-        counted.push((member.up_number, place))?;
+        counted.push((member.up_number, index))?;
     }
     Ok(())
 }
 
-fn places_of(alloc: Global, counted: &[(u64, u32)]) -> Result<Vec<u32>, AllocError>
-    ensures { IfOk result (λ places. places.items ≡ list.map (λ row. row.1) counted.now) }
+fn indices_of(alloc: Global, counted: &[(u64, u32)]) -> Result<Vec<u32>, AllocError>
+    ensures { IfOk result (λ indices. indices.items ≡ list.map (λ pair. pair.1) counted.now) }
 {
-    counted.iter().map(|row| row.1).collect(alloc)
+    counted.iter().map(|pair| pair.1).collect(alloc)
 }

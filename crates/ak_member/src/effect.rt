@@ -83,11 +83,11 @@ impl Effects {
         self.list.len()
     }
 
-    /// The effect at a place from 0 on; none past the end.
-    pub fn at(&self, place: usize) -> Option<&Effect>
-        ensures { option_copied result ≡ slice_get self.now place }
+    /// The effect at an index from 0 on; none past the end.
+    pub fn at(&self, index: usize) -> Option<&Effect>
+        ensures { option_copied result ≡ slice_get self.now index }
     {
-        self.list.get(place)
+        self.list.get(index)
     }
 
     /// The effects, in order.

@@ -13,8 +13,8 @@ mod tests;
 
 pub use effect::{Effect, Effects};
 pub use laws::{
-    effects_add_to_joins, effects_change_one_process, members_are_joined, standings_are_joined,
-    views_are_joined,
+    effects_add_to_merges, effects_change_one_process, members_are_merged, standings_are_merged,
+    views_are_merged,
 };
 pub use members::{Member, Members, Tombstone};
 pub use standing::Standing;

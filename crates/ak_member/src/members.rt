@@ -1,7 +1,7 @@
 ghost use Rattle.std.specs.Prelude.{◌≡◌, IfOk, OnOk, OnErr, IsOk, IsSome, length, slice_get, option_map, option_to_list, ◌+◌, ℕ};
 ghost use Rattle.std.specs.FinMap as map;
 ghost use Rattle.ak_address.specs.Table.{value_with};
-ghost use Rattle.ak_member.specs.Standing.{nobody, joined_standings, joined_standing, known, member_rows, tombstone_rows, raised, buried, member_of, tombstone_of, members_of, tombstones_of};
+ghost use Rattle.ak_member.specs.Standing.{nobody, merged_standings, merged_standing, known, member_pairs, tombstone_pairs, raised, buried, member_of, tombstone_of, members_of, tombstones_of};
 ghost use Rattle.ak_member.specs.View.{after_effect, after_effects};
 
 use crate::effect::{Effect, Effects};
@@ -92,12 +92,12 @@ impl Members {
         self.table.len()
     }
 
-    /// The process at a place among all that are known, from 0 on in the order of processes, and what is known of it;
+    /// The process at an index among all that are known, from 0 on in the order of processes, and what is known of it;
     /// none past the end.
-    pub fn row(&self, place: usize) -> Option<(&Unique, Standing)>
-        ensures { option_map (λ row. (row.0.now, row.1)) result ≡ slice_get (map.entries self.now) place }
+    pub fn pair(&self, index: usize) -> Option<(&Unique, Standing)>
+        ensures { option_map (λ pair. (pair.0.now, pair.1)) result ≡ slice_get (map.entries self.now) index }
     {
-        match self.table.at(place) {
+        match self.table.at(index) {
             Some((who, standing)) => Some((who, *standing)),
             None => None,
         }
@@ -110,18 +110,18 @@ impl Members {
         members_in(&self.table)
     }
 
-    /// The member at a place, from 0 on in the order of processes; none past the end.
-    pub fn at(&self, place: usize) -> Option<Member<'_>>
-        ensures { option_map (λ m. (m.unique.now, (m.status, m.up_number))) result ≡ slice_get (members_of self.now) place }
+    /// The member at an index, from 0 on in the order of processes; none past the end.
+    pub fn at(&self, index: usize) -> Option<Member<'_>>
+        ensures { option_map (λ m. (m.unique.now, (m.status, m.up_number))) result ≡ slice_get (members_of self.now) index }
     {
-        member_in(&self.table, place)
+        member_in(&self.table, index)
     }
 
-    // The member at a row, where there is one: a row is a place among all that are known.
-    pub(crate) fn member_at_row(&self, row: usize) -> Option<Member<'_>>
-        ensures { option_to_list (option_map (λ m. (m.unique.now, (m.status, m.up_number))) result) ≡ member_rows (option_to_list (slice_get (map.entries self.now) row)) }
+    // The member at an index among all that are known, where there is one.
+    pub(crate) fn member_at_pair(&self, pair: usize) -> Option<Member<'_>>
+        ensures { option_to_list (option_map (λ m. (m.unique.now, (m.status, m.up_number))) result) ≡ member_pairs (option_to_list (slice_get (map.entries self.now) pair)) }
     {
-        member_at(&self.table, row)
+        member_at(&self.table, pair)
     }
 
     /// How many tombstones there are.
@@ -131,11 +131,11 @@ impl Members {
         tombstones_in(&self.table)
     }
 
-    /// The tombstone at a place, from 0 on in the order of processes; none past the end.
-    pub fn buried_at(&self, place: usize) -> Option<Tombstone<'_>>
-        ensures { option_map (λ t. (t.unique.now, t.confirmed)) result ≡ slice_get (tombstones_of self.now) place }
+    /// The tombstone at an index, from 0 on in the order of processes; none past the end.
+    pub fn buried_at(&self, index: usize) -> Option<Tombstone<'_>>
+        ensures { option_map (λ t. (t.unique.now, t.confirmed)) result ≡ slice_get (tombstones_of self.now) index }
     {
-        tombstone_in(&self.table, place)
+        tombstone_in(&self.table, index)
     }
 
     /// The process becomes a member, or its status rises to at least this one and its number to the least that is not 0
@@ -180,7 +180,7 @@ impl Members {
     /// Takes in what another view knows: of each process what both know of it (Akka's Cluster Specification, "Gossip":
     /// gossips that conflict are merged). After an error the members are as they were.
     pub fn merge(&mut self, alloc: Global, other: &Members) -> Result<(), AllocError>
-        ensures ok { OnOk result (self.new ≡ joined_standings self.old other.now) }
+        ensures ok { OnOk result (self.new ≡ merged_standings self.old other.now) }
         ensures err { OnErr result (self.new ≡ self.old) }
     {
         self.table.merge(alloc, &other.table)
@@ -194,7 +194,7 @@ impl Members {
         Ok(Members { table })
     }
 
-    // Joins the standing with what is known of the process. After an error the members are as they were; a process
+    // Merges the standing with what is known of the process. After an error the members are as they were; a process
     // that is known takes no memory.
     fn note(&mut self, alloc: Global, who: &Unique, standing: Standing) -> Result<(), AllocError>
         ensures ok { OnOk result (self.new ≡ known self.old who.now standing) }
@@ -209,9 +209,9 @@ impl Members {
         self.table.insert(who, standing)
     }
 
-    // The standing, joined with what is known of the process.
+    // The standing, merged with what is known of the process.
     fn with(&self, who: &Unique, standing: &Standing) -> Standing
-        ensures { result ≡ value_with joined_standing (map.get self.now who.now) standing.now }
+        ensures { result ≡ value_with merged_standing (map.get self.now who.now) standing.now }
     {
         match self.table.get(who) {
             Some(before) => before.with(standing),
@@ -232,11 +232,11 @@ impl Members {
     }
 }
 
-// The member at a row of the table, where there is one.
-fn member_at(table: &Table<Standing>, row: usize) -> Option<Member<'_>>
-    ensures { option_to_list (option_map (λ m. (m.unique.now, (m.status, m.up_number))) result) ≡ member_rows (option_to_list (slice_get (map.entries table.now) row)) }
+// The member at an index of the table, where there is one.
+fn member_at(table: &Table<Standing>, pair: usize) -> Option<Member<'_>>
+    ensures { option_to_list (option_map (λ m. (m.unique.now, (m.status, m.up_number))) result) ≡ member_pairs (option_to_list (slice_get (map.entries table.now) pair)) }
 {
-    match table.at(row) {
+    match table.at(pair) {
         Some((unique, Standing::Member(status, up_number))) => Some(Member {
             unique,
             status: *status,
@@ -247,11 +247,11 @@ fn member_at(table: &Table<Standing>, row: usize) -> Option<Member<'_>>
     }
 }
 
-// The tombstone at a row of the table, where there is one.
-fn tombstone_at(table: &Table<Standing>, row: usize) -> Option<Tombstone<'_>>
-    ensures { option_to_list (option_map (λ t. (t.unique.now, t.confirmed)) result) ≡ tombstone_rows (option_to_list (slice_get (map.entries table.now) row)) }
+// The tombstone at an index of the table, where there is one.
+fn tombstone_at(table: &Table<Standing>, pair: usize) -> Option<Tombstone<'_>>
+    ensures { option_to_list (option_map (λ t. (t.unique.now, t.confirmed)) result) ≡ tombstone_pairs (option_to_list (slice_get (map.entries table.now) pair)) }
 {
-    match table.at(row) {
+    match table.at(pair) {
         Some((unique, Standing::Buried(confirmed))) => Some(Tombstone {
             unique,
             confirmed: *confirmed,
@@ -262,11 +262,11 @@ fn tombstone_at(table: &Table<Standing>, row: usize) -> Option<Tombstone<'_>>
 }
 
 fn members_in(table: &Table<Standing>) -> usize
-    ensures { result ≡ length (member_rows (map.entries table.now)) }
+    ensures { result ≡ length (member_pairs (map.entries table.now)) }
 {
     let mut count = 0;
-    'rows: for row in 0..table.len() {
-        if member_at(table, row).is_some() {
+    'pairs: for pair in 0..table.len() {
+        if member_at(table, pair).is_some() {
             count += 1;
         }
     }
@@ -274,23 +274,23 @@ fn members_in(table: &Table<Standing>) -> usize
 }
 
 fn tombstones_in(table: &Table<Standing>) -> usize
-    ensures { result ≡ length (tombstone_rows (map.entries table.now)) }
+    ensures { result ≡ length (tombstone_pairs (map.entries table.now)) }
 {
     let mut count = 0;
-    'rows: for row in 0..table.len() {
-        if tombstone_at(table, row).is_some() {
+    'pairs: for pair in 0..table.len() {
+        if tombstone_at(table, pair).is_some() {
             count += 1;
         }
     }
     count
 }
 
-fn member_in(table: &Table<Standing>, place: usize) -> Option<Member<'_>>
-    ensures { option_map (λ m. (m.unique.now, (m.status, m.up_number))) result ≡ slice_get (member_rows (map.entries table.now)) place }
+fn member_in(table: &Table<Standing>, index: usize) -> Option<Member<'_>>
+    ensures { option_map (λ m. (m.unique.now, (m.status, m.up_number))) result ≡ slice_get (member_pairs (map.entries table.now)) index }
 {
-    let mut left = place;
-    'rows: for row in 0..table.len() {
-        let found = member_at(table, row);
+    let mut left = index;
+    'pairs: for pair in 0..table.len() {
+        let found = member_at(table, pair);
         if found.is_some() {
             if left == 0 {
                 return found;
@@ -301,12 +301,12 @@ fn member_in(table: &Table<Standing>, place: usize) -> Option<Member<'_>>
     None
 }
 
-fn tombstone_in(table: &Table<Standing>, place: usize) -> Option<Tombstone<'_>>
-    ensures { option_map (λ t. (t.unique.now, t.confirmed)) result ≡ slice_get (tombstone_rows (map.entries table.now)) place }
+fn tombstone_in(table: &Table<Standing>, index: usize) -> Option<Tombstone<'_>>
+    ensures { option_map (λ t. (t.unique.now, t.confirmed)) result ≡ slice_get (tombstone_pairs (map.entries table.now)) index }
 {
-    let mut left = place;
-    'rows: for row in 0..table.len() {
-        let found = tombstone_at(table, row);
+    let mut left = index;
+    'pairs: for pair in 0..table.len() {
+        let found = tombstone_at(table, pair);
         if found.is_some() {
             if left == 0 {
                 return found;

@@ -1,8 +1,8 @@
 ghost use Rattle.std.specs.Prelude.{◌≡◌};
-ghost use Rattle.ak_member.specs.Standing.{greater_status, older_number, joined_standing};
+ghost use Rattle.ak_member.specs.Standing.{greater_status, older_number, merged_standing};
 
 use crate::status::Status;
-use ak_address::{Duplicate, Join};
+use ak_address::{Duplicate, Merge};
 use std::alloc::{AllocError, Global};
 
 /// What is known of one process (Akka's Cluster Specification, "Membership Lifecycle").
@@ -17,7 +17,7 @@ pub enum Standing {
 impl Standing {
     /// What the two standings of one process come to. Takes no memory.
     pub fn with(&self, other: &Standing) -> Standing
-        ensures { result ≡ joined_standing self.now other.now }
+        ensures { result ≡ merged_standing self.now other.now }
     {
         match (*self, *other) {
             (Standing::Member(status, number), Standing::Member(other_status, other_number)) => {
@@ -43,10 +43,10 @@ impl Duplicate for Standing {
 
 /// Two views of one process: a tombstone stays one, confirmed where either is; a member has the greater status and
 /// the least number other than 0.
-impl Join for Standing {
-    ghost join = { joined_standing };
+impl Merge for Standing {
+    ghost merged = { merged_standing };
 
-    fn join(&self, _alloc: Global, other: &Standing) -> Result<Standing, AllocError> {
+    fn merged(&self, _alloc: Global, other: &Standing) -> Result<Standing, AllocError> {
         Ok(self.with(other))
     }
 }

@@ -17,7 +17,7 @@ pub enum Status {
 }
 
 impl Status {
-    /// The place in the order of statuses, from 1 to 5. A status only ever rises. Takes no memory.
+    /// How far it has come in the order of statuses, from 1 to 5. A status only ever rises. Takes no memory.
     pub fn rank(&self) -> u8
         ensures { result ≡ rank self.now }
     {

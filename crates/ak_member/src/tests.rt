@@ -17,9 +17,9 @@ fn down(number: u64) -> Standing {
 }
 
 // The members of these processes with their standings, noted from the left.
-fn members_of(alloc: Global, rows: &[(&str, Standing)]) -> Result<Members, Fail> {
+fn members_of(alloc: Global, pairs: &[(&str, Standing)]) -> Result<Members, Fail> {
     let mut members = Members::empty(alloc);
-    'rows: for &(text, standing) in rows {
+    'pairs: for &(text, standing) in pairs {
         let who = parse_unique(alloc, text.as_bytes())?;
         match standing {
             Standing::Member(status, number) => members.raise(alloc, &who, status, number)?,
@@ -47,8 +47,8 @@ fn name(who: &Unique) -> (u8, u64) {
 }
 
 // Who stands at a row, and what is known of it.
-fn row(members: &Members, row: usize) -> Option<((u8, u64), Standing)> {
-    match members.row(row) {
+fn pair(members: &Members, pair: usize) -> Option<((u8, u64), Standing)> {
+    match members.pair(pair) {
         Some((who, standing)) => Some((name(who), standing)),
         None => None,
     }
@@ -61,8 +61,8 @@ fn members_merge_with_tombstones(rt: HostRuntime) -> Result<(), Fail> {
         &[("a:1#1", up(1)), ("b:1#1", Standing::Buried(false))],
         &[("a:1#1", up(1)), ("b:1#1", up(2))],
     )?;
-    assert_eq!(rt; row(&both, 0), Some(((b'a', 1), up(1))));
-    assert_eq!(rt; row(&both, 1), Some(((b'b', 1), Standing::Buried(false))));
+    assert_eq!(rt; pair(&both, 0), Some(((b'a', 1), up(1))));
+    assert_eq!(rt; pair(&both, 1), Some(((b'b', 1), Standing::Buried(false))));
     assert_eq!(rt; (both.len(), both.buried_len(), both.uniques()), (1, 1, 2));
     Ok(())
 }
@@ -84,7 +84,7 @@ fn standings_of_one_process_merge(rt: HostRuntime) -> Result<(), Fail> {
     ] {
         let both = merged(rt.alloc(), &[("a:1#1", own)], &[("a:1#1", other)])?;
         assert_eq!(rt;
-            row(&both, 0),
+            pair(&both, 0),
             Some(((b'a', 1), wanted)),
             "{own:?} and {other:?}"
         );
@@ -107,8 +107,8 @@ fn up_and_leaving_members_have_an_age(rt: HostRuntime) -> Result<(), Fail> {
     assert_eq!(rt; members.oldest().map(name), Some((b'b', 1)));
     assert!(rt; members.uniques() < 100);
     assert_eq!(rt; members.counted(), 2);
-    let places = members.by_age(rt.alloc())?;
-    assert_eq!(rt; places.as_slice(), [1, 2, 0].as_slice());
+    let indices = members.by_age(rt.alloc())?;
+    assert_eq!(rt; indices.as_slice(), [1, 2, 0].as_slice());
     Ok(())
 }
 
@@ -129,7 +129,7 @@ fn effects_are_applied_in_order(rt: HostRuntime) -> Result<(), Fail> {
     assert!(rt; matches!(effects.at(3), Some(Effect::Observed(_))));
     let members = members_of(rt.alloc(), &[("a:1#1", up(1))])?;
     let members = members.after(rt.alloc(), &effects)?;
-    assert_eq!(rt; row(&members, 0), Some(((b'a', 1), Standing::Buried(true))));
-    assert_eq!(rt; row(&members, 1), Some(((b'b', 1), up(2))));
+    assert_eq!(rt; pair(&members, 0), Some(((b'a', 1), Standing::Buried(true))));
+    assert_eq!(rt; pair(&members, 1), Some(((b'b', 1), up(2))));
     Ok(())
 }

@@ -4,14 +4,14 @@ use Rattle.std.proofs.lemmas.Option.{get_or_from_slice_get, slice_get_within}
 use Rattle.std.proofs.lemmas.List.Folds.{list_any_at, list_any-append}
 use Rattle.std.specs.List.{list_any}
 use Rattle.std.specs.Prelude.{IsTrue, ◌↔◌}
-use Rattle.ak_address.proofs.Order.{address_total, address_exact}
+use Rattle.ak_address.proofs.OrderLemmas.{address_total, address_exact}
 use Rattle.std.specs.List.{Contains}
 use Rattle.std.specs.Ordering.{is_eq}
 use Rattle.std.specs.declared.cmp.Ordering.TheVariants.{Less, Equal, Greater}
 use Rattle.std.specs.Cmp.{tied_itself}
 use Rattle.std.proofs.lemmas.Bool.{leb-false, ltb-false}
 use Rattle.std.specs.FinMap as map
-use Rattle.ak_address.specs.Unique.{Endpoint, Process, address_cmp, unique_cmp}
+use Rattle.ak_address.specs.Unique.{AddressModel, UniqueModel, address_cmp, unique_cmp}
 use Rattle.ak_clock.specs.Version.{count, relation}
 use Rattle.ak_clock.specs.declared.version.Relation.{Relation}
 use Rattle.ak_clock.specs.declared.version.Relation.TheVariants as relations
@@ -30,59 +30,59 @@ use Rattle.ak_wire.specs.declared.action.Action.{Action}
 use Rattle.ak_wire.specs.declared.action.Action.TheVariants as action
 use Rattle.ak_gossip.specs.Gossip.{GossipState, nothing_known, IsGossip, MayUpdate, is_known, receive, taken, noted, same, both, seen_by, most_uniques}
 use Rattle.ak_gossip.proofs.GossipLaws.{joining}
-use Rattle.ak_gossip.proofs.Kept.{known_second, known_after_effects}
+use Rattle.ak_gossip.proofs.InvariantLemmas.{known_second, known_after_effects}
 use Rattle.ak_member.specs.declared.status.Status.{Status}
 use Rattle.ak_member.specs.declared.status.Status.TheVariants.{Joining}
 use Rattle.ak_member.specs.declared.standing.Standing.{Standing}
 use Rattle.ak_member.specs.declared.standing.Standing.TheVariants.{Member}
 use Rattle.ak_member.specs.Standing as standing
 use Rattle.ak_member.specs.View.{View}
-use Rattle.ak_member.specs.Standing.{member_rows, member_of}
+use Rattle.ak_member.specs.Standing.{member_pairs, member_of}
 use Rattle.ak_member.proofs.ViewLaws.{get-known_here}
-use Rattle.ak_member.proofs.Walks.{kept_from, kept_at_end, keeps_members}
-use Rattle.ak_node.specs.Node.{Outcome, nothing, refused, update, and_sends, to_process, to_address, is_member, is_listed, is_taken, most_at_join, on_join, found, join, is_answered, is_gone, on_received, on_gossip, on_message, is_for, rule, is_other, step}
-use Rattle.ak_node.specs.NodeWords.{Does, IsOwnCount, KnowsItself, IsNode}
+use Rattle.ak_member.proofs.MemberLemmas.{kept_from, kept_at_end, keeps_members}
+use Rattle.ak_node.specs.Node.{Outcome, nothing, refused, update, and_sends, to_process, to_address, is_member, is_listed, has_member_beside, most_at_join, on_join, found, join, is_answered, is_gone, on_received, on_gossip, on_message, is_for, rule, is_other, step}
+use Rattle.ak_node.specs.NodeContracts.{Does, IsOwnCount, KnowsItself, IsNode}
 
 pub any_here : {X : Type 0} (p : X → Bool) (xs : List X) (i : ℕ) (x : X) → slice_get xs i ≡ Some x → p x ≡ true → list_any p xs ≡ true
 any_here p xs i x is passes = list_any_at p xs i x (slice_get_within xs i x is) (ap p (get_or_from_slice_get xs i x x is) ∙ passes)
 
--- within a list each place has an element
+-- within a list each index has an element
 pub not_none : {X : Type 0} (xs : List X) (i : ℕ) → i < length xs → slice_get xs i ≡ None → ⊥
 not_none [] i lt none = omega arith
 not_none (x ∷ xs) zero lt none = true≢false (ap is_some none)
 not_none (x ∷ xs) (suc i) lt none = not_none xs i (omega arith) none
 
 -- ---- a walk along the rows for a member that passes a test
-module _ (p : Process × (Status × ℕ) → Bool) (rows : List (Process × Standing)) (i : ℕ) where
-  test_from : list_any p (member_rows (drop i rows)) ≡ (list_any p (member_rows (option_to_list (slice_get rows i))) || list_any p (member_rows (drop (i + 1) rows)))
-  test_from = ap (list_any p) (kept_from member_rows keeps_members rows i) ∙ list_any-append p _ _
+module _ (p : UniqueModel × (Status × ℕ) → Bool) (rows : List (UniqueModel × Standing)) (i : ℕ) where
+  test_from : list_any p (member_pairs (drop i rows)) ≡ (list_any p (member_pairs (option_to_list (slice_get rows i))) || list_any p (member_pairs (drop (i + 1) rows)))
+  test_from = ap (list_any p) (kept_from member_pairs keeps_members rows i) ∙ list_any-append p _ _
 
-  pub member_found : (b : Bool) → b ≡ list_any p (member_rows (drop i rows)) → true ≡ list_any p (member_rows (option_to_list (slice_get rows i))) → true ≡ b
-  member_found b is here = sym (is ∙ test_from ∙ ap (λ a. a || list_any p (member_rows (drop (i + 1) rows))) (sym here))
+  pub member_found : (b : Bool) → b ≡ list_any p (member_pairs (drop i rows)) → true ≡ list_any p (member_pairs (option_to_list (slice_get rows i))) → true ≡ b
+  member_found b is here = sym (is ∙ test_from ∙ ap (λ a. a || list_any p (member_pairs (drop (i + 1) rows))) (sym here))
 
-  pub member_passed : (b : Bool) → b ≡ list_any p (member_rows (drop i rows)) → false ≡ list_any p (member_rows (option_to_list (slice_get rows i))) → b ≡ list_any p (member_rows (drop (i + 1) rows))
-  member_passed b is here = is ∙ test_from ∙ ap (λ a. a || list_any p (member_rows (drop (i + 1) rows))) (sym here)
+  pub member_passed : (b : Bool) → b ≡ list_any p (member_pairs (drop i rows)) → false ≡ list_any p (member_pairs (option_to_list (slice_get rows i))) → b ≡ list_any p (member_pairs (drop (i + 1) rows))
+  member_passed b is here = is ∙ test_from ∙ ap (λ a. a || list_any p (member_pairs (drop (i + 1) rows))) (sym here)
 
-  pub no_member : (b : Bool) → b ≡ list_any p (member_rows (drop i rows)) → length rows ≤ i → false ≡ b
-  no_member b is past = sym (is ∙ ap (list_any p) (kept_at_end member_rows keeps_members rows i past))
+  pub no_member : (b : Bool) → b ≡ list_any p (member_pairs (drop i rows)) → length rows ≤ i → false ≡ b
+  no_member b is past = sym (is ∙ ap (list_any p) (kept_at_end member_pairs keeps_members rows i past))
 
 -- ---- joins that may be admitted
 none_of : {X : Type 0} (a : Option X) → false ≡ is_some a → a ≡ None
 none_of None is = refl
 none_of (Some x) is = absurd (true≢false (sym is))
 
-pub may_found : (me : Process) (g : GossipState) → IsGossip g → count g.version me < 2 ^ 62 → KnowsItself me g → false ≡ is_known g.view.standings me → MayUpdate me (Joined me ∷ []) g
+pub may_found : (me : UniqueModel) (g : GossipState) → IsGossip g → count g.version me < 2 ^ 62 → KnowsItself me g → false ≡ is_known g.view.standings me → MayUpdate me (Joined me ∷ []) g
 may_found me g is_gossip few itself unknown =
     let nobody = itself (sym unknown) in
     joining me me g is_gossip few (inr (refl, none_of (map.get g.view.standings me) unknown)) (omega (arith, nobody))
 
-pub may_admit : (me from : Process) (g : GossipState) → IsGossip g → count g.version me < 2 ^ 62 → true ≡ standing.is_member g.view.standings me → false ≡ nat_le most_at_join (map.len g.view.standings) → MayUpdate me (Joined from ∷ []) g
+pub may_admit : (me from : UniqueModel) (g : GossipState) → IsGossip g → count g.version me < 2 ^ 62 → true ≡ standing.is_member g.view.standings me → false ≡ nat_le most_at_join (map.len g.view.standings) → MayUpdate me (Joined from ∷ []) g
 may_admit me from g is_gossip few member room =
     let below = leb-false most_at_join (map.len g.view.standings) (sym room) in
     joining me from g is_gossip few (inl (sym member)) (omega (arith, below))
 
 -- ---- which addresses are listed
-listed_at_head : (b a : Endpoint) (listed : List Endpoint) → (is_listed listed a ≡ true → Contains listed a) → is_listed (b ∷ listed) a ≡ true → Contains (b ∷ listed) a
+listed_at_head : (b a : AddressModel) (listed : List AddressModel) → (is_listed listed a ≡ true → Contains listed a) → is_listed (b ∷ listed) a ≡ true → Contains (b ∷ listed) a
 listed_at_head b a listed rest is =
     elim (address_cmp b a) as (λ r. address_cmp b a ≡ r → (is_eq r || is_listed listed a) ≡ true → Contains (b ∷ listed) a) [
       | Less ↦ λ _ h. Contains-later b a listed (rest h)
@@ -90,24 +90,24 @@ listed_at_head b a listed rest is =
       | Greater ↦ λ _ h. Contains-later b a listed (rest h)
     ] refl is
   where
-    Contains-later : (b a : Endpoint) (listed : List Endpoint) → Contains listed a → Contains (b ∷ listed) a
+    Contains-later : (b a : AddressModel) (listed : List AddressModel) → Contains listed a → Contains (b ∷ listed) a
     Contains-later b a listed c = (suc c.0, omega (arith, c.1), c.2)
 
-contains_from : (listed : List Endpoint) (a : Endpoint) → is_listed listed a ≡ true → Contains listed a
+contains_from : (listed : List AddressModel) (a : AddressModel) → is_listed listed a ≡ true → Contains listed a
 contains_from [] a is = absurd (true≢false (sym is))
 contains_from (b ∷ listed) a is = listed_at_head b a listed (contains_from listed a) is
 
-listed_from : (listed : List Endpoint) (a : Endpoint) → Contains listed a → is_listed listed a ≡ true
+listed_from : (listed : List AddressModel) (a : AddressModel) → Contains listed a → is_listed listed a ≡ true
 listed_from listed a c =
     list_any_at (λ b. is_eq (address_cmp b a)) listed c.0 a c.1 (ap (λ b. is_eq (address_cmp b a)) c.2 ∙ ap is_eq (tied_itself address_total a))
 
-pub listed_test : (b : Bool) (listed : List Endpoint) (a : Endpoint) → (IsTrue b ↔ Contains listed a) → b ≡ is_listed listed a
+pub listed_test : (b : Bool) (listed : List AddressModel) (a : AddressModel) → (IsTrue b ↔ Contains listed a) → b ≡ is_listed listed a
 listed_test true listed a means = sym (listed_from listed a (means.0 refl))
 listed_test false listed a means =
     elim (is_listed listed a) as (λ r. is_listed listed a ≡ r → false ≡ r) [ true ↦ λ is. means.1 (contains_from listed a is) | false ↦ λ _. refl ] refl
 
 -- ---- the cases of a join
-module _ (from : Process) (n s : State) (a : List Action) where
+module _ (from : UniqueModel) (n s : State) (a : List Action) where
   pub join_by : Bool → Bool → Bool → Bool → Bool → Bool → Outcome
   join_by member listed other known taken full =
       if not member then refused 3 n
@@ -120,7 +120,7 @@ module _ (from : Process) (n s : State) (a : List Action) where
 
   pub joins_by : (member listed other known taken full : Bool) →
       member ≡ is_member n → listed ≡ is_listed n.settings.listed from.address → other ≡ standing.is_member n.gossip.view.standings from →
-      known ≡ is_known n.gossip.view.standings from → taken ≡ is_taken from n.gossip.view.standings →
+      known ≡ is_known n.gossip.view.standings from → taken ≡ has_member_beside from n.gossip.view.standings →
       full ≡ nat_le most_at_join (map.len n.gossip.view.standings) → Does (join_by member listed other known taken full) s a → Does (on_join from n) s a
   unfolding join_by
   joins_by member listed other known taken full p q r k t u does = subst (λ o. Does o s a) (λ i. join_by (p i) (q i) (r i) (k i) (t i) (u i)) does
@@ -139,25 +139,25 @@ module _ (from : Process) (n s : State) (a : List Action) where
   unfolding join_by
   at_known p q r k does = joins_by true true false true _ _ p q r k refl refl does
 
-  pub at_taken : true ≡ is_member n → true ≡ is_listed n.settings.listed from.address → false ≡ standing.is_member n.gossip.view.standings from →
-      false ≡ is_known n.gossip.view.standings from → true ≡ is_taken from n.gossip.view.standings → Does (nothing n) s a → Does (on_join from n) s a
+  pub at_accepted : true ≡ is_member n → true ≡ is_listed n.settings.listed from.address → false ≡ standing.is_member n.gossip.view.standings from →
+      false ≡ is_known n.gossip.view.standings from → true ≡ has_member_beside from n.gossip.view.standings → Does (nothing n) s a → Does (on_join from n) s a
   unfolding join_by
-  at_taken p q r k t does = joins_by true true false false true _ p q r k t refl does
+  at_accepted p q r k t does = joins_by true true false false true _ p q r k t refl does
 
   pub at_full : true ≡ is_member n → true ≡ is_listed n.settings.listed from.address → false ≡ standing.is_member n.gossip.view.standings from →
-      false ≡ is_known n.gossip.view.standings from → false ≡ is_taken from n.gossip.view.standings →
+      false ≡ is_known n.gossip.view.standings from → false ≡ has_member_beside from n.gossip.view.standings →
       true ≡ nat_le most_at_join (map.len n.gossip.view.standings) → Does (refused 6 n) s a → Does (on_join from n) s a
   unfolding join_by
   at_full p q r k t u does = joins_by true true false false false true p q r k t u does
 
   pub at_free : true ≡ is_member n → true ≡ is_listed n.settings.listed from.address → false ≡ standing.is_member n.gossip.view.standings from →
-      false ≡ is_known n.gossip.view.standings from → false ≡ is_taken from n.gossip.view.standings →
+      false ≡ is_known n.gossip.view.standings from → false ≡ has_member_beside from n.gossip.view.standings →
       false ≡ nat_le most_at_join (map.len n.gossip.view.standings) → Does (and_sends message.Welcome from (update (Joined from ∷ []) n)) s a → Does (on_join from n) s a
   unfolding join_by
   at_free p q r k t u does = joins_by true true false false false false p q r k t u does
 
 -- what was done, and a message with what is known then
-pub sends_does : (what : GossipState → Message) (to : Process) (o : Outcome) (s : State) (first a : List Action) →
+pub sends_does : (what : GossipState → Message) (to : UniqueModel) (o : Outcome) (s : State) (first a : List Action) →
     Does o s first → a ≡ first ++ to_process s to (what s.gossip) ∷ [] → Does (and_sends what to o) s a
 sends_does what to o s first a d is = record {
   state_after = d.state_after;
@@ -183,23 +183,23 @@ refused_keeps why n = record { me = refl; steps = refl; own = omega arith }
 update_keeps : (effects : List Effect) (n : State) → Keeps n (update effects n)
 update_keeps effects n = record { me = refl; steps = refl; own = omega (arith, count-bumped_author n.gossip.version n.me) }
 
-sends_keeps : (what : GossipState → Message) (to : Process) (n : State) (o : Outcome) → Keeps n o → Keeps n (and_sends what to o)
+sends_keeps : (what : GossipState → Message) (to : UniqueModel) (n : State) (o : Outcome) → Keeps n o → Keeps n (and_sends what to o)
 sends_keeps what to n o k = record { me = k.me; steps = k.steps; own = k.own }
 
 found_keeps : (n : State) → Keeps n (found n)
 found_keeps n =
     either (is_known n.gossip.view.standings n.me) (nothing_keeps n) (record { me = refl; steps = refl; own = omega (arith, count-bumped_author n.gossip.version n.me) })
 
-join_keeps : (target : Endpoint) (n : State) → Keeps n (join target n)
+join_keeps : (target : AddressModel) (n : State) → Keeps n (join target n)
 join_keeps target n = either (is_member n) (nothing_keeps n) (record { me = refl; steps = refl; own = omega arith })
 
-on_join_keeps : (from : Process) (n : State) → Keeps n (on_join from n)
+on_join_keeps : (from : UniqueModel) (n : State) → Keeps n (on_join from n)
 on_join_keeps from n =
     either (not (is_member n)) (refused_keeps 3 n)
     (either (not (is_listed n.settings.listed from.address)) (refused_keeps 4 n)
     (either (standing.is_member n.gossip.view.standings from) (sends_keeps message.Welcome from n (nothing n) (nothing_keeps n))
     (either (is_known n.gossip.view.standings from) (nothing_keeps n)
-    (either (is_taken from n.gossip.view.standings) (nothing_keeps n)
+    (either (has_member_beside from n.gossip.view.standings) (nothing_keeps n)
     (either (nat_le most_at_join (map.len n.gossip.view.standings)) (refused_keeps 6 n)
     (sends_keeps message.Welcome from n (update (Joined from ∷ []) n) (update_keeps (Joined from ∷ []) n)))))))
 
@@ -208,34 +208,34 @@ version-seen_by true g h is = is
 version-seen_by false g h is = refl
 
 -- what is taken counts no more of the node's own updates
-abbrev pub IsTaken : Process → GossipState → Result (Received × GossipState) GossipFault → Type 0
-IsTaken me own (Err e) = Unit {0}
-IsTaken me own (Ok r) = count r.1.version me ≤ count own.version me
+abbrev pub HasMemberBeside : UniqueModel → GossipState → Result (Received × GossipState) GossipFault → Type 0
+HasMemberBeside me own (Err e) = Unit {0}
+HasMemberBeside me own (Ok r) = count r.1.version me ≤ count own.version me
 
-module _ (me : Process) (own incoming : GossipState) where
-  seen_takes : (g : GossipState) → count g.version me ≤ count own.version me → count (seen_by me g).version me ≤ count own.version me
-  seen_takes g le =
+module _ (me : UniqueModel) (own incoming : GossipState) where
+  seen_accepts : (g : GossipState) → count g.version me ≤ count own.version me → count (seen_by me g).version me ≤ count own.version me
+  seen_accepts g le =
       let e : count (seen_by me g).version me ≡ count g.version me = ap (λ v. count v me) (version-seen_by (standing.is_member g.view.standings me) g _ refl) in
       omega (arith, e, le)
 
-  taken_takes : (r : Relation) → count incoming.version me ≤ count own.version me → IsTaken me own (Ok (noted me (taken r own incoming)))
-  taken_takes relations.Same le = seen_takes _ (omega arith)
-  taken_takes relations.Before le = seen_takes incoming le
-  taken_takes relations.After le = omega arith
-  taken_takes relations.Concurrent le = seen_takes _ (omega (arith, count-merged own.version incoming.version me))
+  accepted_accepts : (r : Relation) → count incoming.version me ≤ count own.version me → HasMemberBeside me own (Ok (noted me (taken r own incoming)))
+  accepted_accepts relations.Same le = seen_accepts _ (omega arith)
+  accepted_accepts relations.Before le = seen_accepts incoming le
+  accepted_accepts relations.After le = omega arith
+  accepted_accepts relations.Concurrent le = seen_accepts _ (omega (arith, count-merged own.version incoming.version me))
 
   by_tests : (a b : Bool) → nat_lt (count own.version me) (count incoming.version me) ≡ a →
-      IsTaken me own (if a then Err (fault.ForeignCount (count own.version me) (count incoming.version me))
-      else (if b then Err (fault.TooManyUniques (map.len (standing.joined_standings own.view.standings incoming.view.standings)))
+      HasMemberBeside me own (if a then Err (fault.ForeignCount (count own.version me) (count incoming.version me))
+      else (if b then Err (fault.TooManyUniques (map.len (standing.merged_standings own.view.standings incoming.view.standings)))
       else Ok (noted me (taken (relation own.version incoming.version) own incoming))))
   by_tests true b is = tt
   by_tests false true is = tt
-  by_tests false false is = taken_takes (relation own.version incoming.version) (ltb-false _ _ is)
+  by_tests false false is = accepted_accepts (relation own.version incoming.version) (ltb-false _ _ is)
 
-  receive_takes : IsTaken me own (receive me own incoming)
-  receive_takes = by_tests (nat_lt (count own.version me) (count incoming.version me)) (nat_lt most_uniques (map.len (standing.joined_standings own.view.standings incoming.view.standings))) refl
+  receive_accepts : HasMemberBeside me own (receive me own incoming)
+  receive_accepts = by_tests (nat_lt (count own.version me) (count incoming.version me)) (nat_lt most_uniques (map.len (standing.merged_standings own.view.standings incoming.view.standings))) refl
 
-on_received_keeps : (from : Process) (incoming : GossipState) (n : State) (r : Result (Received × GossipState) GossipFault) → IsTaken n.me n.gossip r → Keeps n (on_received from incoming n r)
+on_received_keeps : (from : UniqueModel) (incoming : GossipState) (n : State) (r : Result (Received × GossipState) GossipFault) → HasMemberBeside n.me n.gossip r → Keeps n (on_received from incoming n r)
 on_received_keeps from incoming n (Err (fault.ForeignCount own theirs)) t = refused_keeps 5 n
 on_received_keeps from incoming n (Err (fault.TooManyUniques union)) t = refused_keeps 6 n
 on_received_keeps from incoming n (Err fault.NoMemory) t = nothing_keeps n
@@ -243,11 +243,11 @@ on_received_keeps from incoming n (Ok r) t =
     let known : Keeps n (nothing (record n { gossip = r.1 })) = record { me = refl; steps = refl; own = omega arith } in
     either (is_answered n.me incoming r.0 && not (is_gone (record n { gossip = r.1 }))) (sends_keeps message.Gossip from n (nothing (record n { gossip = r.1 })) known) known
 
-on_gossip_keeps : (from : Process) (incoming : GossipState) (n : State) → Keeps n (on_gossip from incoming n)
+on_gossip_keeps : (from : UniqueModel) (incoming : GossipState) (n : State) → Keeps n (on_gossip from incoming n)
 on_gossip_keeps from incoming n =
-    either (is_known incoming.view.standings n.me) (on_received_keeps from incoming n (receive n.me n.gossip incoming) (receive_takes n.me n.gossip incoming)) (nothing_keeps n)
+    either (is_known incoming.view.standings n.me) (on_received_keeps from incoming n (receive n.me n.gossip incoming) (receive_accepts n.me n.gossip incoming)) (nothing_keeps n)
 
-on_message_keeps : (from : Process) (what : Message) (n : State) → Keeps n (on_message from what n)
+on_message_keeps : (from : UniqueModel) (what : Message) (n : State) → Keeps n (on_message from what n)
 on_message_keeps from message.Join n = on_join_keeps from n
 on_message_keeps from (message.Welcome g) n = on_gossip_keeps from g n
 on_message_keeps from (message.Gossip g) n = on_gossip_keeps from g n
@@ -279,7 +279,7 @@ itself_if : (b : Bool) (o p : Outcome) → KnowsItself o.0.me o.0.gossip → Kno
 itself_if true o p k l = k
 itself_if false o p k l = l
 
-known_is : (me : Process) (g : GossipState) → IsTrue (is_known g.view.standings me) → KnowsItself me g
+known_is : (me : UniqueModel) (g : GossipState) → IsTrue (is_known g.view.standings me) → KnowsItself me g
 known_is me g known unknown = absurd (true≢false (sym known ∙ unknown))
 
 member_known : (a : Option Standing) → is_some (member_of a) ≡ true → is_some a ≡ true
@@ -291,10 +291,10 @@ found_itself n k =
     itself_if (is_known n.gossip.view.standings n.me) (nothing n) (update (Joined n.me ∷ []) (record n { founder = true })) k
     (known_is n.me (update (Joined n.me ∷ []) (record n { founder = true })).0.gossip (ap is_some (get-known_here n.gossip.view.standings n.me (Member Joining 0))))
 
-join_itself : (target : Endpoint) (n : State) → KnowsItself n.me n.gossip → KnowsItself (join target n).0.me (join target n).0.gossip
+join_itself : (target : AddressModel) (n : State) → KnowsItself n.me n.gossip → KnowsItself (join target n).0.me (join target n).0.gossip
 join_itself target n k = itself_if (is_member n) (nothing n) (record n { target = Some target }, to_address n target message.Join ∷ []) k k
 
-module _ (from : Process) (n : State) (k : KnowsItself n.me n.gossip) where
+module _ (from : UniqueModel) (n : State) (k : KnowsItself n.me n.gossip) where
   admitted_itself : is_member n ≡ true → KnowsItself n.me (update (Joined from ∷ []) n).0.gossip
   admitted_itself member =
       known_is n.me (update (Joined from ∷ []) n).0.gossip (known_after_effects (Joined from ∷ []) n.gossip.view.standings n.me (member_known (map.get n.gossip.view.standings n.me) member))
@@ -311,14 +311,14 @@ module _ (from : Process) (n : State) (k : KnowsItself n.me n.gossip) where
 
   on_join_itself : KnowsItself (on_join from n).0.me (on_join from n).0.gossip
   unfolding join_by
-  on_join_itself = join_by_itself (is_member n) (is_listed n.settings.listed from.address) (standing.is_member n.gossip.view.standings from) (is_known n.gossip.view.standings from) (is_taken from n.gossip.view.standings) (nat_le most_at_join (map.len n.gossip.view.standings)) refl
+  on_join_itself = join_by_itself (is_member n) (is_listed n.settings.listed from.address) (standing.is_member n.gossip.view.standings from) (is_known n.gossip.view.standings from) (has_member_beside from n.gossip.view.standings) (nat_le most_at_join (map.len n.gossip.view.standings)) refl
 
 -- what is taken knows the node where that which comes does
-abbrev pub IsTakenItself : Process → Result (Received × GossipState) GossipFault → Type 0
-IsTakenItself me (Err e) = Unit {0}
-IsTakenItself me (Ok r) = KnowsItself me r.1
+abbrev pub IsAcceptedItself : UniqueModel → Result (Received × GossipState) GossipFault → Type 0
+IsAcceptedItself me (Err e) = Unit {0}
+IsAcceptedItself me (Ok r) = KnowsItself me r.1
 
-module _ (me : Process) (own incoming : GossipState) (k : KnowsItself me own) (there : IsTrue (is_known incoming.view.standings me)) where
+module _ (me : UniqueModel) (own incoming : GossipState) (k : KnowsItself me own) (there : IsTrue (is_known incoming.view.standings me)) where
   seen_if : (b : Bool) (g h : GossipState) → h.view ≡ g.view → KnowsItself me g → KnowsItself me (if b then h else g)
   seen_if true g h view_is l = λ unknown. ap (λ (v : View). map.len v.standings) view_is ∙ l (ap (λ (v : View). is_known v.standings me) (sym view_is) ∙ unknown)
   seen_if false g h view_is l = l
@@ -326,24 +326,24 @@ module _ (me : Process) (own incoming : GossipState) (k : KnowsItself me own) (t
   seen_itself : (g : GossipState) → KnowsItself me g → KnowsItself me (seen_by me g)
   seen_itself g l = seen_if (standing.is_member g.view.standings me) g _ refl l
 
-  taken_itself : (r : Relation) → KnowsItself me (noted me (taken r own incoming)).1
-  taken_itself relations.Same = seen_itself (same own incoming) k
-  taken_itself relations.Before = seen_itself incoming (known_is me incoming there)
-  taken_itself relations.After = k
-  taken_itself relations.Concurrent = seen_itself (both own incoming) (known_is me (both own incoming) (known_second own.view.standings incoming.view.standings me there))
+  accepted_itself : (r : Relation) → KnowsItself me (noted me (taken r own incoming)).1
+  accepted_itself relations.Same = seen_itself (same own incoming) k
+  accepted_itself relations.Before = seen_itself incoming (known_is me incoming there)
+  accepted_itself relations.After = k
+  accepted_itself relations.Concurrent = seen_itself (both own incoming) (known_is me (both own incoming) (known_second own.view.standings incoming.view.standings me there))
 
   tests_itself : (a b : Bool) (mine theirs together : ℕ) →
-      IsTakenItself me (if a then Err (fault.ForeignCount mine theirs) else (if b then Err (fault.TooManyUniques together) else Ok (noted me (taken (relation own.version incoming.version) own incoming))))
+      IsAcceptedItself me (if a then Err (fault.ForeignCount mine theirs) else (if b then Err (fault.TooManyUniques together) else Ok (noted me (taken (relation own.version incoming.version) own incoming))))
   tests_itself true b mine theirs together = tt
   tests_itself false true mine theirs together = tt
-  tests_itself false false mine theirs together = taken_itself (relation own.version incoming.version)
+  tests_itself false false mine theirs together = accepted_itself (relation own.version incoming.version)
 
-  receive_itself : IsTakenItself me (receive me own incoming)
+  receive_itself : IsAcceptedItself me (receive me own incoming)
   receive_itself =
-      tests_itself (nat_lt (count own.version me) (count incoming.version me)) (nat_lt most_uniques (map.len (standing.joined_standings own.view.standings incoming.view.standings)))
-      (count own.version me) (count incoming.version me) (map.len (standing.joined_standings own.view.standings incoming.view.standings))
+      tests_itself (nat_lt (count own.version me) (count incoming.version me)) (nat_lt most_uniques (map.len (standing.merged_standings own.view.standings incoming.view.standings)))
+      (count own.version me) (count incoming.version me) (map.len (standing.merged_standings own.view.standings incoming.view.standings))
 
-on_received_itself : (from : Process) (incoming : GossipState) (n : State) (r : Result (Received × GossipState) GossipFault) → KnowsItself n.me n.gossip → IsTakenItself n.me r
+on_received_itself : (from : UniqueModel) (incoming : GossipState) (n : State) (r : Result (Received × GossipState) GossipFault) → KnowsItself n.me n.gossip → IsAcceptedItself n.me r
     → KnowsItself (on_received from incoming n r).0.me (on_received from incoming n r).0.gossip
 on_received_itself from incoming n (Err (fault.ForeignCount own theirs)) k t = k
 on_received_itself from incoming n (Err (fault.TooManyUniques union)) k t = k
@@ -352,7 +352,7 @@ on_received_itself from incoming n (Ok r) k t =
     itself_if (is_answered n.me incoming r.0 && not (is_gone (record n { gossip = r.1 })))
     (and_sends message.Gossip from (nothing (record n { gossip = r.1 }))) (nothing (record n { gossip = r.1 })) t t
 
-module _ (from : Process) (incoming : GossipState) (n : State) (k : KnowsItself n.me n.gossip) where
+module _ (from : UniqueModel) (incoming : GossipState) (n : State) (k : KnowsItself n.me n.gossip) where
   gossip_by_itself : (b : Bool) → is_known incoming.view.standings n.me ≡ b →
       KnowsItself (if b then on_received from incoming n (receive n.me n.gossip incoming) else nothing n).0.me (if b then on_received from incoming n (receive n.me n.gossip incoming) else nothing n).0.gossip
   gossip_by_itself true is = on_received_itself from incoming n (receive n.me n.gossip incoming) k (receive_itself n.me n.gossip incoming k is)
@@ -361,7 +361,7 @@ module _ (from : Process) (incoming : GossipState) (n : State) (k : KnowsItself 
   on_gossip_itself : KnowsItself (on_gossip from incoming n).0.me (on_gossip from incoming n).0.gossip
   on_gossip_itself = gossip_by_itself (is_known incoming.view.standings n.me) refl
 
-on_message_itself : (from : Process) (what : Message) (n : State) → KnowsItself n.me n.gossip → KnowsItself (on_message from what n).0.me (on_message from what n).0.gossip
+on_message_itself : (from : UniqueModel) (what : Message) (n : State) → KnowsItself n.me n.gossip → KnowsItself (on_message from what n).0.me (on_message from what n).0.gossip
 on_message_itself from message.Join n k = on_join_itself from n k
 on_message_itself from (message.Welcome g) n k = on_gossip_itself from g n k
 on_message_itself from (message.Gossip g) n k = on_gossip_itself from g n k

@@ -1,2 +1,2 @@
 pub mod Node
-pub mod NodeWords
+pub mod NodeContracts

@@ -6,7 +6,7 @@ use Rattle.std.specs.FinMap as finmap
 use Rattle.ak_address.specs.Uniques.{has}
 use Rattle.std.specs.List.{list_any}
 use Rattle.std.specs.Ordering.{is_eq}
-use Rattle.ak_address.specs.Unique.{Endpoint, Process, address_cmp, unique_cmp}
+use Rattle.ak_address.specs.Unique.{AddressModel, UniqueModel, address_cmp, unique_cmp}
 use Rattle.ak_clock.specs.Version.{count, relation}
 use Rattle.ak_clock.specs.declared.version.Relation as clock
 use Rattle.ak_member.specs.declared.effect.Effect.{Effect}
@@ -20,7 +20,7 @@ use Rattle.ak_gossip.specs.declared.gossip.GossipFault as fault
 use Rattle.ak_wire.specs.declared.envelope.Message.{Message}
 use Rattle.ak_wire.specs.declared.envelope.Message as message
 use Rattle.ak_wire.specs.declared.envelope.Envelope.{Envelope}
-use Rattle.ak_schedule.specs.Settings.{Setup}
+use Rattle.ak_schedule.specs.Settings.{SettingsModel}
 use Rattle.ak_node.specs.declared.node.State.{State}
 use Rattle.ak_node.specs.declared.node.NodeEvent.{NodeEvent}
 use Rattle.ak_node.specs.declared.node.NodeEvent as event
@@ -29,7 +29,7 @@ use Rattle.ak_wire.specs.declared.action.Action as action
 use Rattle.ak_gossip.specs.Gossip.{GossipState, nothing_known, is_known, updated, receive}
 
 -- a process starts, and knows nothing
-abbrev pub started : Process → Setup → State
+abbrev pub started : UniqueModel → SettingsModel → State
 started me settings = record { me = me; settings = settings; steps = 0; gossip = nothing_known; founder = false; target = None }
 
 -- a node is a member where it is one of its own view
@@ -47,10 +47,10 @@ abbrev pub refused : ℕ → State → Outcome
 refused why n = (n, action.TheVariants.Refused why ∷ [])
 
 -- a message to one process, and to whichever process is at an address
-abbrev pub to_process : State → Process → Message → Action
+abbrev pub to_process : State → UniqueModel → Message → Action
 to_process n to what = action.TheVariants.Send (record { from = n.me; to = to.address; uid = to.uid; message = what })
 
-abbrev pub to_address : State → Endpoint → Message → Action
+abbrev pub to_address : State → AddressModel → Message → Action
 to_address n to what = action.TheVariants.Send (record { from = n.me; to = to; uid = 0; message = what })
 
 -- the node makes one update, by these effects
@@ -61,38 +61,38 @@ update effects n = (
 )
 
 -- then the node answers with what it knows
-abbrev pub and_sends : (GossipState → Message) → Process → Outcome → Outcome
+abbrev pub and_sends : (GossipState → Message) → UniqueModel → Outcome → Outcome
 and_sends what to o = (o.0, o.1 ++ to_process o.0 to (what o.0.gossip) ∷ [])
 
--- Founding: the node becomes the first member. (A node that was removed is told so by its view; it does nothing.)
+-- Founding: the node becomes the first member. (A node that was removed learns so from its view; it does nothing.)
 abbrev pub found : State → Outcome
 found n = if is_known n.gossip.view.standings n.me then nothing n else update (Joined n.me ∷ []) (record n { founder = true })
 
 -- the node asks to join, through an address
-abbrev pub join : Endpoint → State → Outcome
+abbrev pub join : AddressModel → State → Outcome
 join target n =
     if is_member n then nothing n
     else (record n { target = Some target }, to_address n target message.TheVariants.Join ∷ [])
 
-abbrev pub is_listed : List Endpoint → Endpoint → Bool
+abbrev pub is_listed : List AddressModel → AddressModel → Bool
 is_listed listed a = list_any (λ b. is_eq (address_cmp b a)) listed
 
 -- another member is at the address of this one
-abbrev pub is_taken : Process → Standings → Bool
-is_taken who standings = list_any (λ m. is_eq (address_cmp m.0.address who.address)) (members_of standings)
+abbrev pub has_member_beside : UniqueModel → Standings → Bool
+has_member_beside who standings = list_any (λ m. is_eq (address_cmp m.0.address who.address)) (members_of standings)
 
 -- a view that holds this many processes, members and tombstones together, admits no further one
 abbrev pub most_at_join : ℕ
 most_at_join = 64
 
 -- A process asks to join. (What happens where another member is at its address comes with downing; no run of a world reaches it.)
-abbrev pub on_join : Process → State → Outcome
+abbrev pub on_join : UniqueModel → State → Outcome
 on_join from n =
     if not (is_member n) then refused 3 n
     else (if not (is_listed n.settings.listed from.address) then refused 4 n
     else (if standing.is_member n.gossip.view.standings from then and_sends message.TheVariants.Welcome from (nothing n)
     else (if is_known n.gossip.view.standings from then nothing n
-    else (if is_taken from n.gossip.view.standings then nothing n
+    else (if has_member_beside from n.gossip.view.standings then nothing n
     else (if nat_le most_at_join (finmap.len n.gossip.view.standings) then refused 6 n
     else and_sends message.TheVariants.Welcome from (update (Joined from ∷ []) n))))))
 
@@ -109,13 +109,13 @@ abbrev pub is_gone : State → Bool
 is_gone n = is_out (member_of (finmap.get n.gossip.view.standings n.me))
 
 -- the sender of a gossip is answered, but where it is known to know what the node knows
-abbrev pub is_answered : Process → GossipState → received.Received → Bool
+abbrev pub is_answered : UniqueModel → GossipState → received.Received → Bool
 is_answered me incoming received.TheVariants.Same = not (has incoming.seen me)
 is_answered me incoming received.TheVariants.Newer = true
 is_answered me incoming received.TheVariants.Older = true
 is_answered me incoming received.TheVariants.Merged = true
 
-abbrev pub on_received : Process → GossipState → State → Result (received.Received × GossipState) fault.GossipFault → Outcome
+abbrev pub on_received : UniqueModel → GossipState → State → Result (received.Received × GossipState) fault.GossipFault → Outcome
 on_received from incoming n (Err (fault.TheVariants.ForeignCount own theirs)) = refused 5 n
 on_received from incoming n (Err (fault.TheVariants.TooManyUniques union)) = refused 6 n
 on_received from incoming n (Err fault.TheVariants.NoMemory) = nothing n
@@ -124,19 +124,19 @@ on_received from incoming n (Ok r) =
     if is_answered n.me incoming r.0 && not (is_gone known.0) then and_sends message.TheVariants.Gossip from known else known
 
 -- a gossip in which the node is neither a member nor a tombstone is passed over
-abbrev pub on_gossip : Process → GossipState → State → Outcome
+abbrev pub on_gossip : UniqueModel → GossipState → State → Outcome
 on_gossip from incoming n =
     if is_known incoming.view.standings n.me
     then on_received from incoming n (receive n.me n.gossip incoming)
     else nothing n
 
-abbrev pub on_message : Process → Message → State → Outcome
+abbrev pub on_message : UniqueModel → Message → State → Outcome
 on_message from message.TheVariants.Join n = on_join from n
 on_message from (message.TheVariants.Welcome g) n = on_gossip from g n
 on_message from (message.TheVariants.Gossip g) n = on_gossip from g n
 
 -- a packet is for this process, or for whichever is at its address
-abbrev pub is_for : Process → Envelope → Bool
+abbrev pub is_for : UniqueModel → Envelope → Bool
 is_for me e = is_eq (address_cmp e.to me.address) && (e.uid == 0 || e.uid == me.uid)
 
 abbrev pub rule : NodeEvent → State → Outcome

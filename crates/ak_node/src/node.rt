@@ -7,7 +7,7 @@ ghost use Rattle.ak_clock.specs.Version.{count};
 ghost use Rattle.ak_member.specs.Standing as standing;
 ghost use Rattle.ak_gossip.specs.Gossip.{MayUpdate, is_known};
 ghost use Rattle.ak_node.specs.Node as rules;
-ghost use Rattle.ak_node.specs.NodeWords.{Does, KnowsItself};
+ghost use Rattle.ak_node.specs.NodeContracts.{Does, KnowsItself};
 
 use ak_address::{Address, Unique};
 use ak_clock::Relation;
@@ -85,11 +85,11 @@ fn is_beside(one: &Unique, other: &Unique) -> bool
     one.address.compare(&other.address).is_eq()
 }
 
-// The row at a place is of a member at the address of this process.
-fn is_member_beside(who: &Unique, members: &Members, place: usize) -> bool
-    ensures { result ≡ list_any (λ m. is_eq (address_cmp m.0.address who.now.address)) (standing.member_rows (option_to_list (slice_get (map.entries members.now) place))) }
+// The row at an index is of a member at the address of this process.
+fn is_member_beside(who: &Unique, members: &Members, index: usize) -> bool
+    ensures { result ≡ list_any (λ m. is_eq (address_cmp m.0.address who.now.address)) (standing.member_pairs (option_to_list (slice_get (map.entries members.now) index))) }
 {
-    match members.row(place) {
+    match members.pair(index) {
         Some((other, Standing::Member(_, _))) => is_beside(other, who),
         Some((_, Standing::Buried(_))) => false,
         None => false,
@@ -97,11 +97,11 @@ fn is_member_beside(who: &Unique, members: &Members, place: usize) -> bool
 }
 
 // Another member is at the address of this process.
-fn is_taken(who: &Unique, members: &Members) -> bool
-    ensures { result ≡ rules.is_taken who.now members.now }
+fn has_member_beside(who: &Unique, members: &Members) -> bool
+    ensures { result ≡ rules.has_member_beside who.now members.now }
 {
-    'rows: for place in 0..members.uniques() {
-        if is_member_beside(who, members, place) {
+    'rows: for index in 0..members.uniques() {
+        if is_member_beside(who, members, index) {
             return true;
         }
     }
@@ -167,10 +167,10 @@ impl State {
     }
 
     // Another member is at the address of the process.
-    fn is_taken(&self, who: &Unique) -> bool
-        ensures { result ≡ rules.is_taken who.now self.now.gossip.view.standings }
+    fn has_member_beside(&self, who: &Unique) -> bool
+        ensures { result ≡ rules.has_member_beside who.now self.now.gossip.view.standings }
     {
-        is_taken(who, self.gossip.members())
+        has_member_beside(who, self.gossip.members())
     }
 
     // What the node knows holds as many processes as a view may that admits others.
@@ -276,7 +276,7 @@ impl State {
         if self.knows(from) {
             return Ok(Actions::empty(alloc));
         }
-        if self.is_taken(from) {
+        if self.has_member_beside(from) {
             return Ok(Actions::empty(alloc));
         }
         if self.is_full() {
@@ -377,7 +377,7 @@ pub fn is_for(me: &Unique, envelope: &Envelope) -> bool
     envelope.uid == 0 || envelope.uid == me.uid
 }
 
-/// A node. After want of memory it is spent: it knows nothing, and each later step answers want of memory. It made at
+/// A node. Once out of memory it is spent: it knows nothing, and each later step answers that it is out of memory. It made at
 /// most one update in each of its steps, and where it knows anybody it knows itself: invariants of the type.
 #[derive(Drop)]
 pub struct Node {
@@ -386,16 +386,16 @@ pub struct Node {
 }
 
 impl Model for Node {
-    ghost use Rattle.ak_node.specs.NodeWords.{Machine, IsNode};
+    ghost use Rattle.ak_node.specs.NodeContracts.{NodeModel, IsNode};
     ghost use Rattle.std.specs.Coded.{codes};
     ghost use Rattle.ak_address.specs.Unique.{coded_address, coded_unique};
-    ghost use Rattle.ak_schedule.specs.Settings.{coded_setup};
+    ghost use Rattle.ak_schedule.specs.Settings.{coded_settings};
     ghost use Rattle.ak_gossip.specs.Gossip.{coded_gossip};
     ghost use Rattle.ak_member.specs.View.{coded_uniques};
 
-    ghost Value = { Machine };
+    ghost Value = { NodeModel };
 
-    ghost coded = { Prim.hlevel (codes, coded_address, coded_unique, coded_uniques, coded_setup, coded_gossip) };
+    ghost coded = { Prim.hlevel (codes, coded_address, coded_unique, coded_uniques, coded_settings, coded_gossip) };
 
     ghost view = { λ n. record { state = n.state; spent = n.spent } };
 
@@ -422,7 +422,7 @@ impl Node {
         })
     }
 
-    /// Gives the node one event, and answers its actions. After want of memory the node is spent.
+    /// Gives the node one event, and answers its actions. Once out of memory the node is spent.
     pub fn step(&mut self, alloc: Global, event: NodeEvent) -> Result<Actions, AllocError>
         requires { self.old.state.steps < 2 ^ 62 }
         ensures ok { IfOk result (λ actions. Does (rules.step event self.old.state) self.new.state actions) }

@@ -15,9 +15,9 @@ pub record Reader : Type 0 where
   pub calls : ℕ
   pub faults : ℕ
 
--- the bytes taken, the numbers of the calls that fail, and the counts of calls, of faults, and of those for want of memory
+-- the bytes written, the numbers of the calls that fail, and the counts of calls, of faults, and of those for lack of memory
 pub record Writer : Type 0 where
-  pub taken : List ℕ
+  pub written : List ℕ
   pub failing : List ℕ
   pub calls : ℕ
   pub faults : ℕ
@@ -43,5 +43,5 @@ WriteFailed old new answer = (answer ≡ wrote.Failed) × (new ≡ record old { 
 
 -- the write took the piece, or found no memory, which is counted as a fault and by itself
 abbrev pub WriteTook : Writer → Writer → Wrote → List ℕ → Type 0
-WriteTook old new (wrote.Took n) piece = (n ≡ length piece) × (new ≡ record old { taken = old.taken ++ piece; calls = counted old.calls })
+WriteTook old new (wrote.Took n) piece = (n ≡ length piece) × (new ≡ record old { written = old.written ++ piece; calls = counted old.calls })
 WriteTook old new wrote.Failed piece = new ≡ record old { calls = counted old.calls; faults = counted old.faults; starved = counted old.starved }

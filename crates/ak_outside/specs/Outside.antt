@@ -10,8 +10,8 @@ Rose old new = new ≢ 2 ^ 64 - 1 → old < new
 abbrev pub counted : ℕ → ℕ
 counted n = min (n + 1) (2 ^ 64 - 1)
 
--- known bytes grow by a front of bs, its first `count` bytes
-pub record AppendsFront (old new : Option (List ℕ)) (bs : List ℕ) : Type 0 where
+-- known bytes grow by a prefix of bs, its first `count` bytes
+pub record AppendsPrefix (old new : Option (List ℕ)) (bs : List ℕ) : Type 0 where
   pub count : ℕ
   pub within : count ≤ length bs
-  pub front : Appends old new (take count bs)
+  pub prefix : Appends old new (take count bs)

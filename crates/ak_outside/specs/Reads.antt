@@ -10,7 +10,7 @@ abbrev pub FitsBuffer : Read → List ℕ → Type 0
 FitsBuffer (Got n) buffer = n ≤ length buffer
 FitsBuffer Failed buffer = ⊤
 
--- the front of the buffer has the first bytes of those left, and the rest is left; a failed read leaves them
+-- the start of the buffer has the first bytes of those left, and the rest is left; a failed read leaves them
 abbrev pub GivesFirst : Option (List ℕ) → Option (List ℕ) → Read → List ℕ → Type 0
 GivesFirst old new (Got n) buffer = Consumes old new (take n buffer)
 GivesFirst old new Failed buffer = Keeps old new

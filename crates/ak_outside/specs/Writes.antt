@@ -5,12 +5,12 @@ use Rattle.ak_outside.specs.declared.sink.Wrote.{Wrote}
 use Rattle.ak_outside.specs.declared.sink.Wrote.TheVariants.{Took, Failed}
 use Rattle.ak_outside.specs.Outside.{Rose, counted}
 
--- what was taken is some of the piece, and not nothing of a piece that has bytes
+-- what was written is some of the piece, and not nothing of a piece that has bytes
 abbrev pub FitsPiece : Wrote → List ℕ → Type 0
 FitsPiece (Took n) piece = (n ≤ length piece) × (0 < length piece → 0 < n)
 FitsPiece Failed piece = ⊤
 
--- the bytes taken grow by the first of the piece; a failed write leaves them
+-- the bytes written grow by the first of the piece; a failed write leaves them
 abbrev pub TakesFirst : Option (List ℕ) → Option (List ℕ) → Wrote → List ℕ → Type 0
 TakesFirst old new (Took n) piece = Appends old new (take n piece)
 TakesFirst old new Failed piece = Keeps old new

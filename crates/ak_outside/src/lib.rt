@@ -1,4 +1,4 @@
-//! The edge to the outside: where bytes come from and go to, with a count behind each fault, and the
+//! The edge to the outside: where bytes come from and go to, with a count of the faults, and the
 //! exit status of a run. A program is proved over the traits; in memory and at the real edge they have
 //! the implementations below, of which `StdSource` and `StdSink` tell no bytes and are trusted.
 #![tactic(auto)]

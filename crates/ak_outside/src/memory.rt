@@ -1,4 +1,4 @@
-// A source and a sink in memory, whose calls fail where they are told to.
+// A source and a sink in memory, whose calls fail where they are listed.
 ghost use Rattle.std.specs.Prelude.{◌≡◌, ◌≤◌, ◌<◌, ◌+◌, ◌++◌, ◌↔◌, [], Some, IfOk, length, take, drop, min};
 ghost use Rattle.std.specs.Bool.{OnTrue, OnFalse};
 ghost use Rattle.ak_outside.specs.Outside.{counted};
@@ -11,7 +11,7 @@ use crate::source::{Read, Source};
 use std::alloc::{AllocError, Global};
 use std::marker::Model;
 
-/// A source that has its bytes in memory. Callers see a `Reader`; what is left is told.
+/// A source that has its bytes in memory. Callers see a `Reader`; what is left is known.
 #[derive(Drop)]
 pub struct MemorySource {
     bytes: Vec<u8>,
@@ -89,7 +89,7 @@ impl Source for MemorySource {
     }
 }
 
-/// A sink that keeps its bytes in memory. Callers see a `Writer`; what was taken is told.
+/// A sink that keeps its bytes in memory. Callers see a `Writer`; what was written is known.
 #[derive(Drop)]
 pub struct MemorySink {
     bytes: Vec<u8>,
@@ -104,14 +104,14 @@ impl Model for MemorySink {
 
     ghost Value = { Writer };
 
-    ghost view = { λ s. record { taken = s.bytes.items; failing = s.listed.items; calls = s.call_count; faults = s.fault_count; starved = s.starved_count } };
+    ghost view = { λ s. record { written = s.bytes.items; failing = s.listed.items; calls = s.call_count; faults = s.fault_count; starved = s.starved_count } };
 }
 
 impl MemorySink {
-    /// A sink that has taken nothing. The writes whose numbers, counted from 1, stand in `failing`
+    /// A sink that has written nothing. The writes whose numbers, counted from 1, stand in `failing`
     /// fail; a write's number stays at 2^64 - 1 once there.
     pub fn new(alloc: Global, failing: &[u64]) -> Result<MemorySink, AllocError>
-        ensures { IfOk result (λ s. s ≡ record { taken = []; failing = failing.now; calls = 0; faults = 0; starved = 0 }) }
+        ensures { IfOk result (λ s. s ≡ record { written = []; failing = failing.now; calls = 0; faults = 0; starved = 0 }) }
     {
         Ok(MemorySink {
             bytes: Vec::new(alloc),
@@ -122,9 +122,9 @@ impl MemorySink {
         })
     }
 
-    /// The bytes taken so far.
+    /// The bytes written so far.
     pub fn bytes(&self) -> &[u8]
-        ensures { result.now ≡ self.now.taken }
+        ensures { result.now ≡ self.now.written }
     {
         &self.bytes
     }
@@ -136,7 +136,7 @@ impl MemorySink {
         self.fault_count
     }
 
-    /// How many writes have failed for want of memory, at most 2^64 - 1. The others were listed.
+    /// How many writes have failed for lack of memory, at most 2^64 - 1. The others were listed.
     pub fn starved(&self) -> u64
         ensures { result ≡ self.now.starved }
     {
@@ -145,7 +145,7 @@ impl MemorySink {
 }
 
 impl Sink for MemorySink {
-    ghost taken = { λ s. Some s.taken };
+    ghost written = { λ s. Some s.written };
 
     ghost faults = { λ s. s.faults };
 
@@ -155,7 +155,7 @@ impl Sink for MemorySink {
         ensures count { self.old.faults ≤ self.new.faults }
         ensures cause { WriteCause self.old.faults self.new.faults result }
         ensures fits { FitsPiece result bytes.now }
-        ensures bytes { TakesFirst (Some self.old.taken) (Some self.new.taken) result bytes.now }
+        ensures bytes { TakesFirst (Some self.old.written) (Some self.new.written) result bytes.now }
         ensures listed { OnTrue (is_listed self.old.failing (counted self.old.calls)) (WriteFailed self.old self.new result) }
         ensures unlisted { OnFalse (is_listed self.old.failing (counted self.old.calls)) (WriteTook self.old self.new result bytes.now) }
     {
@@ -179,7 +179,7 @@ fn stands_in(listed: &[u64], call: u64) -> bool
     listed.contains(&call)
 }
 
-// Copies first bytes into the buffer's front, at most `most`, and says how many.
+// Copies first bytes to the start of the buffer, at most `most`, and says how many.
 pub(crate) fn give(bytes: &[u8], most: usize, buffer: &mut [u8]) -> usize
     requires { 1 ≤ most }
     ensures count { result ≡ min most (min (length buffer.old) (length bytes.now)) }

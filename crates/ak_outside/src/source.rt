@@ -5,21 +5,21 @@ ghost use Rattle.ak_outside.specs.Reads.{FitsBuffer, GivesFirst, EndsExactly, Re
 /// The answer of a read.
 #[derive(Clone, Copy, Debug, PartialEq, Eq)]
 pub enum Read {
-    /// So many bytes stand in the buffer's front. None in a buffer that has room is the end.
+    /// So many bytes stand at the start of the buffer. None in a buffer that has room is the end.
     Got(usize),
     /// The source has failed and counted it. What is left is as it was.
     Failed,
 }
 
-/// A source of bytes. Each fault stands behind a count: this project's choice.
+/// A source of bytes. Each fault is counted: this project's choice.
 pub trait Source {
-    /// The bytes that are left, where they are told. Once told they stay told.
+    /// The bytes that are left, where they are known. Once known they stay known.
     ghost remaining: { Self → Option (List ℕ) };
 
     /// How often the source has failed. It never falls; kept as a `u64` it stays at 2^64 - 1 once there.
     ghost faults: { Self → ℕ };
 
-    /// Gives some first bytes of those left, at most the buffer's length, in the buffer's front.
+    /// Gives some first bytes of those left, at most the buffer's length, at the start of the buffer.
     /// `Got(0)` for a buffer that has room comes exactly where none is left. `Failed` comes only
     /// where the count rose in this call, or stands at 2^64 - 1 after it, and leaves what was left.
     fn read(&mut self, buffer: &mut [u8]) -> Read

@@ -9,7 +9,7 @@ use crate::source::{Read, Source};
 use std::io::{ErrorKind, Read as _};
 use std::marker::Model;
 
-/// Standard input. Callers see its count of faults; what is left is not told.
+/// Standard input. Callers see its count of faults; what is left is not known.
 #[derive(Drop)]
 pub struct StdSource<'a, R> {
     runtime: &'a R,
@@ -67,7 +67,7 @@ impl<'a, R: Input> Source for StdSource<'a, R> {
     }
 }
 
-/// Standard output. Callers see its count of faults; what was taken is not told.
+/// Standard output. Callers see its count of faults; what was written is not known.
 #[derive(Drop)]
 pub struct StdSink<'a, R> {
     runtime: &'a R,
@@ -102,7 +102,7 @@ impl<'a, R: Print> StdSink<'a, R> {
 }
 
 impl<'a, R: Print> Sink for StdSink<'a, R> {
-    ghost taken = { λ _. None };
+    ghost written = { λ _. None };
 
     ghost faults = { λ s. s };
 
@@ -148,7 +148,7 @@ fn read_input<R: Input>(rt: &R, buffer: &mut [u8]) -> Option<usize>
 }
 
 // One write to standard output, tried again where it was interrupted. `Print` buffers nothing, so
-// that what it has taken needs no flush.
+// that what it has written needs no flush.
 fn write_output<R: Print>(rt: &R, bytes: &[u8]) -> Option<usize>
     ensures { IfSome result (λ n. (0 < n) × (n ≤ length bytes.now)) }
 {

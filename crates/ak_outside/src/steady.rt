@@ -8,7 +8,7 @@ use crate::source::{Read, Source};
 use std::alloc::{AllocError, Global};
 use std::marker::Model;
 
-/// A source that has its bytes in memory and never fails. Callers see the bytes that are left, which are told.
+/// A source that has its bytes in memory and never fails. Callers see the bytes that are left, which are known.
 #[derive(Drop)]
 pub struct SteadySource {
     bytes: Vec<u8>,
@@ -55,19 +55,19 @@ impl Source for SteadySource {
     }
 }
 
-/// A sink that takes every byte, keeps none, tells none and never fails.
+/// A sink that takes every byte, keeps none and never fails; its bytes are not known.
 #[derive(Drop)]
 pub struct SteadySink {}
 
 impl SteadySink {
-    /// A sink that has taken nothing.
+    /// A sink that has written nothing.
     pub fn new() -> SteadySink {
         SteadySink {}
     }
 }
 
 impl Sink for SteadySink {
-    ghost taken = { λ _. None };
+    ghost written = { λ _. None };
 
     ghost faults = { λ _. 0 };
 

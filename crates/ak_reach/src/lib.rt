@@ -7,6 +7,6 @@ mod rows;
 #[cfg(test)]
 mod rows_tests;
 
-pub use laws::rows_are_joined;
+pub use laws::rows_are_merged;
 pub use row::Row;
 pub use rows::Rows;

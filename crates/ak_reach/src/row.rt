@@ -1,12 +1,12 @@
 ghost use Rattle.std.specs.Prelude.{◌≡◌, IfOk};
 ghost use Rattle.ak_member.specs.View.{later_row};
 
-use ak_address::{Duplicate, Join, Uniques};
+use ak_address::{Duplicate, Merge, Uniques};
 use std::alloc::{AllocError, Global};
 use std::marker::Model;
 
 /// Whom an observer found unreachable, and the number of the observer's entry in the history that said so (Akka's
-/// Cluster Specification, "Failure Detector": the reachability of a member is told by its observers).
+/// Cluster Specification, "Failure Detector": the reachability of a member is what its observers say).
 #[derive(Drop)]
 pub struct Row {
     pub number: u64,
@@ -33,10 +33,10 @@ impl Duplicate for Row {
 }
 
 /// Two rows of one observer: the one with the greater number, at equal numbers the own one.
-impl Join for Row {
-    ghost join = { later_row };
+impl Merge for Row {
+    ghost merged = { later_row };
 
-    fn join(&self, alloc: Global, other: &Row) -> Result<Row, AllocError> {
+    fn merged(&self, alloc: Global, other: &Row) -> Result<Row, AllocError> {
         if self.number < other.number {
             return other.copy(alloc);
         }

@@ -1,6 +1,6 @@
 ghost use Rattle.std.specs.Prelude.{◌≡◌, ◌↔◌, IfOk, OnOk, OnErr, IsOk, IsTrue, slice_get, option_map, option_copied};
 ghost use Rattle.std.specs.FinMap as map;
-ghost use Rattle.ak_member.specs.View.{RowTable, joined_rows};
+ghost use Rattle.ak_member.specs.View.{RowTable, merged_rows};
 ghost use Rattle.ak_reach.specs.Reach.{with_row, is_as_new, row_has, reported, IsReported, unreachable};
 ghost use Rattle.ak_reach.specs.Walk.{reports, with_reported};
 
@@ -51,11 +51,11 @@ impl Rows {
         self.table.len()
     }
 
-    /// The observer at a place, from 0 on in the order of processes, and its row; none past the end.
-    pub fn at(&self, place: usize) -> Option<(&Unique, &Row)>
-        ensures { option_map (λ row. (row.0.now, row.1.now)) result ≡ slice_get (map.entries self.now) place }
+    /// The observer at an index, from 0 on in the order of processes, and its row; none past the end.
+    pub fn at(&self, index: usize) -> Option<(&Unique, &Row)>
+        ensures { option_map (λ row. (row.0.now, row.1.now)) result ≡ slice_get (map.entries self.now) index }
     {
-        self.table.at(place)
+        self.table.at(index)
     }
 
     /// Gives the observer this row, unless it has one with the same number or a greater one. After an error the rows
@@ -83,7 +83,7 @@ impl Rows {
     /// Cluster Specification, "Gossip": an observer's later record counts). After an error the rows are as they were;
     /// only memory can fail.
     pub fn merge(&mut self, alloc: Global, other: &Rows) -> Result<(), AllocError>
-        ensures ok { OnOk result (self.new ≡ joined_rows self.old other.now) }
+        ensures ok { OnOk result (self.new ≡ merged_rows self.old other.now) }
         ensures err { OnErr result (self.new ≡ self.old) }
     {
         self.table.merge(alloc, &other.table)
@@ -152,8 +152,8 @@ fn reports(rows: &Table<Row>, observer: Option<&Unique>, subject: &Unique) -> bo
 fn is_reported(rows: &Table<Row>, observers: &Uniques, subject: &Unique) -> bool
     ensures { result ≡ reported rows.now observers.now subject.now }
 {
-    'observers: for place in 0..observers.len() {
-        if reports(rows, observers.at(place), subject) {
+    'observers: for index in 0..observers.len() {
+        if reports(rows, observers.at(index), subject) {
             return true;
         }
     }
@@ -190,8 +190,8 @@ fn reported_of(
     ensures { IfOk result (λ them. them ≡ unreachable rows.now observers.now subjects.now) }
 {
     let mut them = Uniques::empty(alloc);
-    'subjects: for place in 0..subjects.len() {
-        add_reported(alloc, rows, observers, subjects.at(place), &mut them)?;
+    'subjects: for index in 0..subjects.len() {
+        add_reported(alloc, rows, observers, subjects.at(index), &mut them)?;
     }
     Ok(them)
 }

@@ -32,9 +32,9 @@ fn letter(who: Option<&Unique>) -> u8 {
     }
 }
 
-// The observer, the number and the first subject at a place, zeros past the end.
-fn row(rows: &Rows, place: usize) -> (u8, u64, u8) {
-    match rows.at(place) {
+// The observer, the number and the first subject at an index, zeros past the end.
+fn row(rows: &Rows, index: usize) -> (u8, u64, u8) {
+    match rows.at(index) {
         Some((observer, row)) => (
             letter(Some(observer)),
             row.number,

@@ -5,15 +5,15 @@ use Rattle.std.specs.FinMap as finmap
 use Rattle.std.proofs.lemmas.List.{take_more, take_all, map_push, length-take-le, length-map, nil_from_length}
 use Rattle.std.proofs.lemmas.Option.{get_or_from_slice_get, slice_get_within}
 use Rattle.ak_address.specs.Uniques.{UniqueSet, in_order, how_many}
-use Rattle.ak_address.specs.Unique.{Process}
+use Rattle.ak_address.specs.Unique.{UniqueModel}
 use Rattle.ak_address.specs.Spelling.{unique_text}
-use Rattle.ak_member.proofs.Walks.{KeepsRows, kept_row, kept_at_end, drop_from}
+use Rattle.ak_member.proofs.MemberLemmas.{KeepsPairs, kept_pair, kept_at_end, drop_from}
 use Rattle.ak_report.specs.ActionText.{listed_text, separator, none_text, spaced_text, subjects_text}
 
 -- the text of the pieces that are printed so far: of none there is no mark yet
-abbrev pub front : List (List ℕ) → List ℕ
-front [] = []
-front (piece ∷ pieces) = listed_text (piece ∷ pieces)
+abbrev pub prefix : List (List ℕ) → List ℕ
+prefix [] = []
+prefix (piece ∷ pieces) = listed_text (piece ∷ pieces)
 
 listed_push : (p : List ℕ) (ps : List (List ℕ)) (y : List ℕ) → listed_text (p ∷ (ps ++ y ∷ [])) ≡ listed_text (p ∷ ps) ++ (codes ", " ++ y)
 listed_push p [] y = append_assoc p (codes ", ") y
@@ -22,35 +22,35 @@ listed_push p (q ∷ ps) y = ap (λ (t : List ℕ). (p ++ codes ", ") ++ t) (lis
 separator_later : (n : ℕ) → separator (suc n) ≡ codes ", "
 separator_later n = search rules
 
-front_push : (ps : List (List ℕ)) (y : List ℕ) → front (ps ++ y ∷ []) ≡ front ps ++ (separator (length ps) ++ y)
-front_push [] y = refl
-front_push (p ∷ ps) y = listed_push p ps y ∙ ap (λ (t : List ℕ). listed_text (p ∷ ps) ++ (t ++ y)) (sym (separator_later (length ps)))
+prefix_push : (ps : List (List ℕ)) (y : List ℕ) → prefix (ps ++ y ∷ []) ≡ prefix ps ++ (separator (length ps) ++ y)
+prefix_push [] y = refl
+prefix_push (p ∷ ps) y = listed_push p ps y ∙ ap (λ (t : List ℕ). listed_text (p ∷ ps) ++ (t ++ y)) (sym (separator_later (length ps)))
 
 -- one more element is printed, after its separator
-pub front_more : {X : Type 0} (f : X → List ℕ) (xs : List X) (place : ℕ) (x : X) → slice_get xs place ≡ Some x → front (map f (take (place + 1) xs)) ≡ front (map f (take place xs)) ++ (separator place ++ f x)
-front_more {X = X} f xs place x at =
-    let within : place < length xs = slice_get_within xs place x at in
-    let more : take (place + 1) xs ≡ take place xs ++ x ∷ [] = take_more xs place x within ∙ ap (λ (y : X). take place xs ++ y ∷ []) (get_or_from_slice_get xs place x x at) in
-    let shorter : length (map f (take place xs)) ≡ place = length-map (take place xs) f ∙ length-take-le place xs (omega arith) in
-    ap (λ (ys : List X). front (map f ys)) more ∙ ap front (map_push f (take place xs) x) ∙ front_push (map f (take place xs)) (f x) ∙ ap (λ (n : ℕ). front (map f (take place xs)) ++ (separator n ++ f x)) shorter
+pub prefix_more : {X : Type 0} (f : X → List ℕ) (xs : List X) (index : ℕ) (x : X) → slice_get xs index ≡ Some x → prefix (map f (take (index + 1) xs)) ≡ prefix (map f (take index xs)) ++ (separator index ++ f x)
+prefix_more {X = X} f xs index x at =
+    let within : index < length xs = slice_get_within xs index x at in
+    let more : take (index + 1) xs ≡ take index xs ++ x ∷ [] = take_more xs index x within ∙ ap (λ (y : X). take index xs ++ y ∷ []) (get_or_from_slice_get xs index x x at) in
+    let shorter : length (map f (take index xs)) ≡ index = length-map (take index xs) f ∙ length-take-le index xs (omega arith) in
+    ap (λ (ys : List X). prefix (map f ys)) more ∙ ap prefix (map_push f (take index xs) x) ∙ prefix_push (map f (take index xs)) (f x) ∙ ap (λ (n : ℕ). prefix (map f (take index xs)) ++ (separator n ++ f x)) shorter
 
 -- the same of a text: what was printed, then the separator, then the element
-pub printed_more : {X : Type 0} (f : X → List ℕ) (xs : List X) (place : ℕ) (x : X) (start was parted now : List ℕ) → slice_get xs place ≡ Some x
-    → was ≡ start ++ front (map f (take place xs)) → parted ≡ was ++ separator place → now ≡ parted ++ f x → now ≡ start ++ front (map f (take (place + 1) xs))
-printed_more f xs place x start was parted now at so_far apart printed =
-    printed ∙ ap (λ (t : List ℕ). t ++ f x) (apart ∙ ap (λ (t : List ℕ). t ++ separator place) so_far)
-    ∙ append_assoc (start ++ front (map f (take place xs))) (separator place) (f x)
-    ∙ append_assoc start (front (map f (take place xs))) (separator place ++ f x)
-    ∙ ap (λ (t : List ℕ). start ++ t) (sym (front_more f xs place x at))
+pub printed_more : {X : Type 0} (f : X → List ℕ) (xs : List X) (index : ℕ) (x : X) (start was parted now : List ℕ) → slice_get xs index ≡ Some x
+    → was ≡ start ++ prefix (map f (take index xs)) → parted ≡ was ++ separator index → now ≡ parted ++ f x → now ≡ start ++ prefix (map f (take (index + 1) xs))
+printed_more f xs index x start was parted now at so_far apart printed =
+    printed ∙ ap (λ (t : List ℕ). t ++ f x) (apart ∙ ap (λ (t : List ℕ). t ++ separator index) so_far)
+    ∙ append_assoc (start ++ prefix (map f (take index xs))) (separator index) (f x)
+    ∙ append_assoc start (prefix (map f (take index xs))) (separator index ++ f x)
+    ∙ ap (λ (t : List ℕ). start ++ t) (sym (prefix_more f xs index x at))
 
-front_all : {X : Type 0} (f : X → List ℕ) (xs : List X) (place : ℕ) → length xs ≤ place → 0 < length xs → front (map f (take place xs)) ≡ listed_text (map f xs)
-front_all f [] place past some = absurd (omega arith)
-front_all {X = X} f (x ∷ xs) place past some = ap (λ (ys : List X). front (map f ys)) (take_all place (x ∷ xs) past)
+prefix_all : {X : Type 0} (f : X → List ℕ) (xs : List X) (index : ℕ) → length xs ≤ index → 0 < length xs → prefix (map f (take index xs)) ≡ listed_text (map f xs)
+prefix_all f [] index past some = absurd (omega arith)
+prefix_all {X = X} f (x ∷ xs) index past some = ap (λ (ys : List X). prefix (map f ys)) (take_all index (x ∷ xs) past)
 
 -- all elements are printed
-pub printed_all : {X : Type 0} (f : X → List ℕ) (xs : List X) (place : ℕ) (start now : List ℕ) → length xs ≤ place → 0 < length xs
-    → now ≡ start ++ front (map f (take place xs)) → now ≡ start ++ listed_text (map f xs)
-printed_all f xs place start now past some printed = printed ∙ ap (λ (t : List ℕ). start ++ t) (front_all f xs place past some)
+pub printed_all : {X : Type 0} (f : X → List ℕ) (xs : List X) (index : ℕ) (start now : List ℕ) → length xs ≤ index → 0 < length xs
+    → now ≡ start ++ prefix (map f (take index xs)) → now ≡ start ++ listed_text (map f xs)
+printed_all f xs index start now past some printed = printed ∙ ap (λ (t : List ℕ). start ++ t) (prefix_all f xs index past some)
 
 -- there is nothing to print
 pub printed_none : {X : Type 0} (f : X → List ℕ) (xs : List X) (start now : List ℕ) → length xs ≡ 0 → now ≡ start ++ codes "-" → now ≡ start ++ listed_text (map f xs)
@@ -61,21 +61,21 @@ abbrev pub rest_text : ℕ → List (List ℕ) → List ℕ
 rest_text printed [] = none_text printed
 rest_text printed (piece ∷ pieces) = separator printed ++ piece ++ rest_text (printed + 1) pieces
 
-behind_some : (n : ℕ) → 0 < n → separator n ≡ codes ", "
-behind_some zero some = absurd (omega arith)
-behind_some (suc n) some = separator_later n
+after_some : (n : ℕ) → 0 < n → separator n ≡ codes ", "
+after_some zero some = absurd (omega arith)
+after_some (suc n) some = separator_later n
 
-none_behind : (n : ℕ) → 0 < n → none_text n ≡ []
-none_behind zero some = absurd (omega arith)
-none_behind (suc n) some = search rules
+none_after : (n : ℕ) → 0 < n → none_text n ≡ []
+none_after zero some = absurd (omega arith)
+none_after (suc n) some = search rules
 
 rest_later : (n : ℕ) (piece : List ℕ) (pieces : List (List ℕ)) → 0 < n → rest_text n (piece ∷ pieces) ≡ codes ", " ++ listed_text (piece ∷ pieces)
 rest_later n piece [] some =
-    ap (λ (t : List ℕ). t ++ piece ++ none_text (n + 1)) (behind_some n some)
-    ∙ ap (λ (t : List ℕ). codes ", " ++ piece ++ t) (none_behind (n + 1) (omega arith))
+    ap (λ (t : List ℕ). t ++ piece ++ none_text (n + 1)) (after_some n some)
+    ∙ ap (λ (t : List ℕ). codes ", " ++ piece ++ t) (none_after (n + 1) (omega arith))
     ∙ append-nil (codes ", " ++ piece)
 rest_later n piece (next ∷ pieces) some =
-    ap (λ (t : List ℕ). t ++ piece ++ rest_text (n + 1) (next ∷ pieces)) (behind_some n some)
+    ap (λ (t : List ℕ). t ++ piece ++ rest_text (n + 1) (next ∷ pieces)) (after_some n some)
     ∙ ap (λ (t : List ℕ). codes ", " ++ piece ++ t) (rest_later (n + 1) next pieces (omega arith))
     ∙ append_assoc (codes ", ") piece (codes ", " ++ listed_text (next ∷ pieces))
     ∙ ap (λ (t : List ℕ). codes ", " ++ t) (sym (append_assoc piece (codes ", ") (listed_text (next ∷ pieces))))
@@ -87,59 +87,59 @@ all_left (piece ∷ []) = append-nil piece
 all_left (piece ∷ next ∷ pieces) = ap (λ (t : List ℕ). piece ++ t) (rest_later 1 next pieces (lit< tt)) ∙ sym (append_assoc piece (codes ", ") (listed_text (next ∷ pieces)))
 
 -- rows are walked once, and what is kept of them is printed
-module _ {X Y : Type 0} (kept : List X → List Y) (k : KeepsRows kept) (f : Y → List ℕ) where
-  pub walk_printed : (xs : List X) (place n : ℕ) (y : Y) (was parted now whole : List ℕ) → y ∷ [] ≡ kept (option_to_list (slice_get xs place))
+module _ {X Y : Type 0} (kept : List X → List Y) (k : KeepsPairs kept) (f : Y → List ℕ) where
+  pub walk_printed : (xs : List X) (index n : ℕ) (y : Y) (was parted now whole : List ℕ) → y ∷ [] ≡ kept (option_to_list (slice_get xs index))
       → parted ≡ was ++ separator n → now ≡ parted ++ f y
-      → was ++ rest_text n (map f (kept (drop place xs))) ≡ whole → now ++ rest_text (n + 1) (map f (kept (drop (place + 1) xs))) ≡ whole
-  walk_printed xs place n y was parted now whole there apart printed so_far =
-      let rest : List (List ℕ) = map f (kept (drop (place + 1) xs)) in
-      let row : kept (drop place xs) ≡ y ∷ kept (drop (place + 1) xs) = kept_row kept k xs place (Some y) there in
+      → was ++ rest_text n (map f (kept (drop index xs))) ≡ whole → now ++ rest_text (n + 1) (map f (kept (drop (index + 1) xs))) ≡ whole
+  walk_printed xs index n y was parted now whole there apart printed so_far =
+      let rest : List (List ℕ) = map f (kept (drop (index + 1) xs)) in
+      let pair : kept (drop index xs) ≡ y ∷ kept (drop (index + 1) xs) = kept_pair kept k xs index (Some y) there in
       ap (λ (t : List ℕ). t ++ rest_text (n + 1) rest) (printed ∙ ap (λ (t : List ℕ). t ++ f y) apart)
       ∙ ap (λ (t : List ℕ). t ++ rest_text (n + 1) rest) (append_assoc was (separator n) (f y))
       ∙ append_assoc was (separator n ++ f y) (rest_text (n + 1) rest)
-      ∙ ap (λ (ys : List Y). was ++ rest_text n (map f ys)) (sym row)
+      ∙ ap (λ (ys : List Y). was ++ rest_text n (map f ys)) (sym pair)
       ∙ so_far
 
-  pub walk_passed : (xs : List X) (place n : ℕ) (was whole : List ℕ) → [] ≡ kept (option_to_list (slice_get xs place))
-      → was ++ rest_text n (map f (kept (drop place xs))) ≡ whole → was ++ rest_text n (map f (kept (drop (place + 1) xs))) ≡ whole
-  walk_passed xs place n was whole there so_far =
-      let row : kept (drop place xs) ≡ kept (drop (place + 1) xs) = kept_row kept k xs place None there in
-      ap (λ (ys : List Y). was ++ rest_text n (map f ys)) (sym row) ∙ so_far
+  pub walk_passed : (xs : List X) (index n : ℕ) (was whole : List ℕ) → [] ≡ kept (option_to_list (slice_get xs index))
+      → was ++ rest_text n (map f (kept (drop index xs))) ≡ whole → was ++ rest_text n (map f (kept (drop (index + 1) xs))) ≡ whole
+  walk_passed xs index n was whole there so_far =
+      let pair : kept (drop index xs) ≡ kept (drop (index + 1) xs) = kept_pair kept k xs index None there in
+      ap (λ (ys : List Y). was ++ rest_text n (map f ys)) (sym pair) ∙ so_far
 
-  pub walk_ended : (xs : List X) (place n : ℕ) (was now whole : List ℕ) → length xs ≤ place → now ≡ was ++ none_text n
-      → was ++ rest_text n (map f (kept (drop place xs))) ≡ whole → now ≡ whole
-  walk_ended xs place n was now whole past printed so_far =
-      printed ∙ ap (λ (ys : List Y). was ++ rest_text n (map f ys)) (sym (kept_at_end kept k xs place past)) ∙ so_far
+  pub walk_ended : (xs : List X) (index n : ℕ) (was now whole : List ℕ) → length xs ≤ index → now ≡ was ++ none_text n
+      → was ++ rest_text n (map f (kept (drop index xs))) ≡ whole → now ≡ whole
+  walk_ended xs index n was now whole past printed so_far =
+      printed ∙ ap (λ (ys : List Y). was ++ rest_text n (map f ys)) (sym (kept_at_end kept k xs index past)) ∙ so_far
 
 -- one more process is printed, after its space
-pub spaced_more : (us : List Process) (place : ℕ) (u : Process) (was parted now whole : List ℕ) → u ∷ [] ≡ option_to_list (slice_get us place)
+pub spaced_more : (us : List UniqueModel) (index : ℕ) (u : UniqueModel) (was parted now whole : List ℕ) → u ∷ [] ≡ option_to_list (slice_get us index)
     → parted ≡ was ++ codes " " → now ≡ parted ++ unique_text u
-    → was ++ spaced_text (drop place us) ≡ whole → now ++ spaced_text (drop (place + 1) us) ≡ whole
-spaced_more us place u was parted now whole there apart printed so_far =
-    let rest : List ℕ = spaced_text (drop (place + 1) us) in
-    let row : drop place us ≡ u ∷ drop (place + 1) us = drop_from us place ∙ ap (λ (first : List Process). first ++ drop (place + 1) us) (sym there) in
+    → was ++ spaced_text (drop index us) ≡ whole → now ++ spaced_text (drop (index + 1) us) ≡ whole
+spaced_more us index u was parted now whole there apart printed so_far =
+    let rest : List ℕ = spaced_text (drop (index + 1) us) in
+    let pair : drop index us ≡ u ∷ drop (index + 1) us = drop_from us index ∙ ap (λ (first : List UniqueModel). first ++ drop (index + 1) us) (sym there) in
     ap (λ (t : List ℕ). t ++ rest) (printed ∙ ap (λ (t : List ℕ). t ++ unique_text u) apart)
     ∙ ap (λ (t : List ℕ). t ++ rest) (append_assoc was (codes " ") (unique_text u))
     ∙ append_assoc was (codes " " ++ unique_text u) rest
-    ∙ ap (λ (us : List Process). was ++ spaced_text us) (sym row)
+    ∙ ap (λ (us : List UniqueModel). was ++ spaced_text us) (sym pair)
     ∙ so_far
 
 -- an observer finds nobody, or somebody, unreachable
-pub subjects_none : (us : List Process) → length us ≡ 0 → subjects_text us ≡ codes " none"
+pub subjects_none : (us : List UniqueModel) → length us ≡ 0 → subjects_text us ≡ codes " none"
 subjects_none us none = ap subjects_text (nil_from_length us none)
 
-pub subjects_some : (us : List Process) → 0 < length us → subjects_text us ≡ spaced_text us
+pub subjects_some : (us : List UniqueModel) → 0 < length us → subjects_text us ≡ spaced_text us
 subjects_some [] some = absurd (omega arith)
 subjects_some (u ∷ us) some = refl
 
 -- where no element stands, the list has ended
-pub ended : {X : Type 0} (xs : List X) (place : ℕ) → slice_get xs place ≡ None → place < length xs → ⊥
-ended [] place none within = omega arith
+pub ended : {X : Type 0} (xs : List X) (index : ℕ) → slice_get xs index ≡ None → index < length xs → ⊥
+ended [] index none within = omega arith
 ended (x ∷ xs) zero none within = cc
 ended (x ∷ xs) (suc i) none within = ended xs i none (omega arith)
 
 pub members_counted : (s : UniqueSet) → length (in_order s) ≡ how_many s
-members_counted s = length-map (finmap.entries s) (λ row. row.0) ∙ sym (finmap.len-entries s)
+members_counted s = length-map (finmap.entries s) (λ pair. pair.0) ∙ sym (finmap.len-entries s)
 
 -- an equal text was printed
 pub printed_as : (start : List ℕ) {now text same : List ℕ} → text ≡ same → now ≡ start ++ text → now ≡ start ++ same

@@ -3,7 +3,7 @@ use Rattle.std.specs.Prelude.{ℕ, ◌+◌, Bool, true, false, List, [], ◌∷�
 use Rattle.std.specs.Fmt.{decimal}
 use Rattle.std.specs.FinMap as finmap
 use Rattle.ak_address.specs.Uniques.{in_order}
-use Rattle.ak_address.specs.Unique.{Process, unique_cmp}
+use Rattle.ak_address.specs.Unique.{UniqueModel, unique_cmp}
 use Rattle.ak_address.specs.Spelling.{address_text, unique_text}
 use Rattle.ak_member.specs.declared.effect.Effect.{Effect}
 use Rattle.ak_member.specs.declared.effect.Effect.TheVariants.{Joined, Rise, Removed, Observed}
@@ -22,9 +22,9 @@ listed_text [] = codes "-"
 listed_text (piece ∷ []) = piece
 listed_text (piece ∷ next ∷ pieces) = piece ++ codes ", " ++ listed_text (next ∷ pieces)
 
--- what stands before the piece at a place
+-- what stands before the piece at an index
 abbrev pub separator : ℕ → List ℕ
-separator place = if place == 0 then [] else codes ", "
+separator index = if index == 0 then [] else codes ", "
 
 -- what stands where this many pieces were printed
 abbrev pub none_text : ℕ → List ℕ
@@ -34,7 +34,7 @@ none_text printed = if printed == 0 then codes "-" else []
 abbrev pub item : List ℕ → List ℕ
 item text = codes "  " ++ text ++ 10 ∷ []
 
-abbrev pub count_text : Process × ℕ → List ℕ
+abbrev pub count_text : UniqueModel × ℕ → List ℕ
 count_text e = unique_text e.0 ++ codes "=" ++ decimal e.1
 
 abbrev pub version_text : finmap.FinMap unique_cmp ℕ → List ℕ
@@ -47,14 +47,14 @@ status_name Leaving = codes "leaving"
 status_name Exiting = codes "exiting"
 status_name Down = codes "down"
 
--- a number other than 0 behind what it is of
+-- a number other than 0 after what it is of
 abbrev pub number_text : ℕ → List ℕ
 number_text number = if number == 0 then [] else codes " " ++ decimal number
 
-abbrev pub member_text : Process × (Status × ℕ) → List ℕ
+abbrev pub member_text : UniqueModel × (Status × ℕ) → List ℕ
 member_text m = unique_text m.0 ++ codes " " ++ status_name m.1.0 ++ number_text m.1.1
 
-abbrev pub tombstone_text : Process × Bool → List ℕ
+abbrev pub tombstone_text : UniqueModel × Bool → List ℕ
 tombstone_text t = unique_text t.0 ++ (if t.1 then codes " confirmed" else [])
 
 -- version, members, tombstones
@@ -65,12 +65,12 @@ view_text g =
     ++ codes " | " ++ listed_text (map tombstone_text (tombstones_of g.view.standings))
 
 -- each after a space
-abbrev pub spaced_text : List Process → List ℕ
+abbrev pub spaced_text : List UniqueModel → List ℕ
 spaced_text [] = []
 spaced_text (who ∷ rest) = codes " " ++ unique_text who ++ spaced_text rest
 
 -- whom an observer finds unreachable
-abbrev pub subjects_text : List Process → List ℕ
+abbrev pub subjects_text : List UniqueModel → List ℕ
 subjects_text [] = codes " none"
 subjects_text (who ∷ rest) = spaced_text (who ∷ rest)
 

@@ -1,7 +1,7 @@
 ghost use Rattle.std.specs.Prelude.{◌≡◌, ℕ, ◌+◌, ◌<◌, ◌^◌, ◌++◌, ◌∷◌, [], map, length, slice_get, option_map, option_to_list, OnOk, OnErr};
 ghost use Rattle.std.specs.FinMap as finmap;
 ghost use Rattle.ak_address.specs.Uniques.{in_order};
-ghost use Rattle.ak_member.specs.Standing.{member_rows, tombstone_rows, members_of, tombstones_of};
+ghost use Rattle.ak_member.specs.Standing.{member_pairs, tombstone_pairs, members_of, tombstones_of};
 ghost use Rattle.ak_report.specs.ActionText as text;
 ghost use Rattle.ak_wire.specs.Wire.{sent};
 
@@ -22,10 +22,10 @@ pub fn print_bytes(bytes: &[u8], out: &mut Vec<u8>) -> Result<(), AllocError>
     out.extend_from_slice(bytes)
 }
 
-fn print_separator(place: usize, out: &mut Vec<u8>) -> Result<(), AllocError>
-    ensures { OnOk result (out.new.items ≡ out.old.items ++ text.separator place) }
+fn print_separator(index: usize, out: &mut Vec<u8>) -> Result<(), AllocError>
+    ensures { OnOk result (out.new.items ≡ out.old.items ++ text.separator index) }
 {
-    if place == 0 {
+    if index == 0 {
         return Ok(());
     }
     print_bytes(b", ", out)
@@ -47,9 +47,9 @@ fn print_version(version: &Version, out: &mut Vec<u8>) -> Result<(), AllocError>
     if count == 0 {
         return print_bytes(b"-", out);
     }
-    'counts: for place in 0..count {
-        if let Some((who, count)) = version.at(place) {
-            print_separator(place, out)?;
+    'counts: for index in 0..count {
+        if let Some((who, count)) = version.at(index) {
+            print_separator(index, out)?;
             print_seen(who, count, out)?;
         }
     }
@@ -68,8 +68,8 @@ fn status_name(status: Status) -> &'static [u8]
     }
 }
 
-// A number other than 0, behind what it is of.
-fn print_behind(number: u64, out: &mut Vec<u8>) -> Result<(), AllocError>
+// A number other than 0, after what it is of.
+fn print_after(number: u64, out: &mut Vec<u8>) -> Result<(), AllocError>
     ensures { OnOk result (out.new.items ≡ out.old.items ++ text.number_text number) }
 {
     if number == 0 {
@@ -90,7 +90,7 @@ fn print_member(
     who.print_into(out)?;
     print_bytes(b" ", out)?;
     print_bytes(status_name(status), out)?;
-    print_behind(number, out)
+    print_after(number, out)
 }
 
 fn print_tombstone(who: &Unique, confirmed: bool, out: &mut Vec<u8>) -> Result<(), AllocError>
@@ -103,11 +103,11 @@ fn print_tombstone(who: &Unique, confirmed: bool, out: &mut Vec<u8>) -> Result<(
     Ok(())
 }
 
-// The member at a row, where there is one: a row is a place among all that are known.
-fn member_row(members: &Members, row: usize) -> Option<(&Unique, Status, u64)>
-    ensures { option_to_list (option_map (λ m. (m.0.now, (m.1, m.2))) result) ≡ member_rows (option_to_list (slice_get (finmap.entries members.now) row)) }
+// The member at a row, where there is one: a row is an index among all that are known.
+fn member_pair(members: &Members, pair: usize) -> Option<(&Unique, Status, u64)>
+    ensures { option_to_list (option_map (λ m. (m.0.now, (m.1, m.2))) result) ≡ member_pairs (option_to_list (slice_get (finmap.entries members.now) pair)) }
 {
-    match members.row(row) {
+    match members.pair(pair) {
         Some((who, Standing::Member(status, number))) => Some((who, status, number)),
         Some((_, Standing::Buried(_))) => None,
         None => None,
@@ -115,10 +115,10 @@ fn member_row(members: &Members, row: usize) -> Option<(&Unique, Status, u64)>
 }
 
 // The tombstone at a row, where there is one, and whether it is confirmed.
-fn tombstone_row(members: &Members, row: usize) -> Option<(&Unique, bool)>
-    ensures { option_to_list (option_map (λ t. (t.0.now, t.1)) result) ≡ tombstone_rows (option_to_list (slice_get (finmap.entries members.now) row)) }
+fn tombstone_pair(members: &Members, pair: usize) -> Option<(&Unique, bool)>
+    ensures { option_to_list (option_map (λ t. (t.0.now, t.1)) result) ≡ tombstone_pairs (option_to_list (slice_get (finmap.entries members.now) pair)) }
 {
-    match members.row(row) {
+    match members.pair(pair) {
         Some((who, Standing::Buried(confirmed))) => Some((who, confirmed)),
         Some((_, Standing::Member(_, _))) => None,
         None => None,
@@ -129,8 +129,8 @@ pub(crate) fn print_members(members: &Members, out: &mut Vec<u8>) -> Result<(), 
     ensures { OnOk result (out.new.items ≡ out.old.items ++ text.listed_text (map text.member_text (members_of members.now))) }
 {
     let mut printed = 0;
-    'rows: for row in 0..members.uniques() {
-        if let Some((who, status, number)) = member_row(members, row) {
+    'pairs: for pair in 0..members.uniques() {
+        if let Some((who, status, number)) = member_pair(members, pair) {
             print_separator(printed, out)?;
             print_member(who, status, number, out)?;
             printed += 1;
@@ -143,8 +143,8 @@ pub(crate) fn print_tombstones(members: &Members, out: &mut Vec<u8>) -> Result<(
     ensures { OnOk result (out.new.items ≡ out.old.items ++ text.listed_text (map text.tombstone_text (tombstones_of members.now))) }
 {
     let mut printed = 0;
-    'rows: for row in 0..members.uniques() {
-        if let Some((who, confirmed)) = tombstone_row(members, row) {
+    'pairs: for pair in 0..members.uniques() {
+        if let Some((who, confirmed)) = tombstone_pair(members, pair) {
             print_separator(printed, out)?;
             print_tombstone(who, confirmed, out)?;
             printed += 1;
@@ -178,8 +178,8 @@ fn print_view(gossip: &Gossip, out: &mut Vec<u8>) -> Result<(), AllocError>
 fn print_spaced(who: &Uniques, out: &mut Vec<u8>) -> Result<(), AllocError>
     ensures { OnOk result (out.new.items ≡ out.old.items ++ text.spaced_text (in_order who.now)) }
 {
-    'processes: for place in 0..who.len() {
-        if let Some(one) = who.at(place) {
+    'processes: for index in 0..who.len() {
+        if let Some(one) = who.at(index) {
             print_bytes(b" ", out)?;
             one.print_into(out)?;
         }
@@ -207,7 +207,7 @@ fn print_rise(
     print_bytes(status_name(status), out)?;
     print_bytes(b" ", out)?;
     who.print_into(out)?;
-    print_behind(number, out)
+    print_after(number, out)
 }
 
 fn print_removed(who: &Unique, confirmed: bool, out: &mut Vec<u8>) -> Result<(), AllocError>
@@ -244,8 +244,8 @@ pub(crate) fn print_effects(effects: &[Effect], out: &mut Vec<u8>) -> Result<(),
     if effects.len() == 0 {
         return print_bytes(b"-", out);
     }
-    'effects: for (place, effect) in effects.iter().enumerate() {
-        print_separator(place, out)?;
+    'effects: for (index, effect) in effects.iter().enumerate() {
+        print_separator(index, out)?;
         print_effect(effect, out)?;
     }
     Ok(())

@@ -135,7 +135,7 @@ const STANDINGS: [(&str, Standing); 8] = [
 // These members and tombstones.
 fn known(alloc: Global) -> Result<Members, Fail> {
     let mut members = Members::empty(alloc);
-    'rows: for (text, standing) in STANDINGS {
+    'pairs: for (text, standing) in STANDINGS {
         let who = process(alloc, text)?;
         match standing {
             Standing::Member(status, number) => members.raise(alloc, &who, status, number)?,

@@ -5,9 +5,9 @@ use Rattle.std.specs.List.{list_all}
 use Rattle.std.proofs.lemmas.List.Elements.{All-weaker, All-from_recursion}
 use Rattle.std.proofs.lemmas.List.Sums.{AllPass-from_list_all}
 use Rattle.std.proofs.lemmas.Bool.Decides.{nat_tests}
-use Rattle.ak_address.specs.Unique.{Endpoint, Process, IsUnique, IsAddress}
+use Rattle.ak_address.specs.Unique.{AddressModel, UniqueModel, IsUnique, IsAddress}
 use Rattle.ak_address.specs.Spelling.{IsWord, address_text, unique_text}
-use Rattle.ak_address.proofs.Spelled.{number_word, address_word, unique_word, number_text_spells, address_text_spells, unique_text_spells}
+use Rattle.ak_address.proofs.SpellingLemmas.{number_word, address_word, unique_word, number_text_spells, address_text_spells, unique_text_spells}
 use Rattle.ak_schedule.specs.declared.event.Event.{Event}
 use Rattle.ak_schedule.specs.declared.event.Event.TheVariants.{Start, Found, Join, Tick, Deliver, Leave, Down, Offer, Stop}
 use Rattle.ak_schedule.specs.declared.kind.Kind as kind
@@ -39,10 +39,10 @@ plain_entity name is = record {
 plain_number : (n : ℕ) → n < 2 ^ 64 → IsPlain (decimal n)
 plain_number n fits = plain_word (decimal n) (number_word (decimal n) n (number_text_spells n fits))
 
-plain_unique : (u : Process) → IsUnique u → IsPlain (unique_text u)
+plain_unique : (u : UniqueModel) → IsUnique u → IsPlain (unique_text u)
 plain_unique u range = plain_word (unique_text u) (unique_word (unique_text u) u (unique_text_spells u range))
 
-plain_address : (a : Endpoint) → IsAddress a → IsPlain (address_text a)
+plain_address : (a : AddressModel) → IsAddress a → IsPlain (address_text a)
 plain_address a range = plain_word (address_text a) (address_word (address_text a) a (address_text_spells a range))
 
 plain_bytes : (word : List ℕ) → begins word ≡ true → list_all (λ b. not (b == 32)) word ≡ true → IsPlain word
@@ -143,10 +143,10 @@ canonical_words (Offer u entity n) range = (
 number_length : (n : ℕ) → n < 2 ^ 64 → length (decimal n) ≤ 20
 number_length n fits = (number_text_spells n fits).short
 
-address_length : (a : Endpoint) → IsAddress a → length (address_text a) ≤ 85
+address_length : (a : AddressModel) → IsAddress a → length (address_text a) ≤ 85
 address_length a range = omega (arith, length-append a.host (58 ∷ decimal a.port), range.host.short, number_length a.port (omega arith))
 
-unique_length : (u : Process) → IsUnique u → length (unique_text u) ≤ 106
+unique_length : (u : UniqueModel) → IsUnique u → length (unique_text u) ≤ 106
 unique_length u range =
     omega (arith, length-append (address_text u.address) (35 ∷ decimal u.uid), address_length u.address range.address, number_length u.uid (omega arith))
 

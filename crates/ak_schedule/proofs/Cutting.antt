@@ -54,7 +54,7 @@ part_begins x xs w parts letter h = onto x w parts (slice_split (λ b. b == 32) 
     onto x w parts [] h = let e : w ≡ x ∷ [] = cc in rw e refl
     onto x w parts (part ∷ rest) h = let e : w ≡ x ∷ part = cc in rw e refl
 
--- the first word is the first part behind the spaces
+-- the first word is the first part after the spaces
 first_part : (xs w : List ℕ) (parts : List (List ℕ)) (i : ℕ) → Some i ≡ position (λ b. not (b == 32)) xs → slice_split (λ b. b == 32) (drop i xs) ≡ w ∷ parts
     → (words xs ≡ w ∷ filter begins parts) × (begins w ≡ true)
 first_part xs w parts i h e =

@@ -1,4 +1,4 @@
--- Of each line it can be told whether it is passed over, which settings it makes, and which event it spells.
+-- Of each line it can be decided whether it is passed over, which settings it makes, and which event it spells.
 use Rattle.std.proofs.Common.{◌≡◌, ◌≢◌, ℕ, ◌-◌, ◌^◌, ◌<◌, ◌≤◌, ◌⊎◌, Bool, true, false, List, [], ◌∷◌, length, refl, sym, ap, subst, inl, inr, ◌∙◌, suc, codes, arith}
 use Rattle.std.specs.Bool.{Decides}
 use Rattle.std.specs.List.{AllZip, AllPairs, AllByRecursion, list_all}
@@ -10,16 +10,16 @@ use Rattle.std.proofs.lemmas.Bool.Decides.{leb_tells}
 use Rattle.std.proofs.lemmas.List.Elements.{All-from_recursion, recursion_from_All, All-from_get_or}
 use Rattle.std.proofs.lemmas.List.Kept.{AllPairs-cons}
 use Rattle.std.proofs.lemmas.Slice.Eq.{bytes_eq-Decides}
-use Rattle.ak_address.specs.Unique.{Endpoint, Process, IsHost, IsAddress, is_host_byte}
+use Rattle.ak_address.specs.Unique.{AddressModel, UniqueModel, IsHost, IsAddress, is_host_byte}
 use Rattle.ak_address.specs.Spelling.{SpellsAddress, SpellsUnique, before_byte, after_byte}
-use Rattle.ak_address.proofs.Spelled.{address_read, address_parts, unique_read, unique_parts}
+use Rattle.ak_address.proofs.SpellingLemmas.{address_read, address_parts, unique_read, unique_parts}
 use Rattle.ak_schedule.specs.declared.event.Event.{Event}
 use Rattle.ak_schedule.specs.declared.event.Event.TheVariants.{Start, Found, Join, Tick, Deliver, Leave, Down, Offer, Stop}
 use Rattle.ak_schedule.specs.declared.settings.Header as header
 use Rattle.ak_schedule.specs.declared.settings.Strategy.{Strategy}
 use Rattle.ak_schedule.specs.declared.settings.Strategy.TheVariants.{StaticQuorum, KeepMajority, DownAll}
 use Rattle.ak_schedule.specs.Line.{words, is_comment, most_bytes, IsPassedOver}
-use Rattle.ak_schedule.specs.Settings.{Setup, IsListing}
+use Rattle.ak_schedule.specs.Settings.{SettingsModel, IsListing}
 use Rattle.ak_schedule.specs.Schedule.{SpellsNumber, SpellsSetting, SpellsStrategy, SpellsListing, Sets, SetsHeader, IsEntity, SpellsWords, SpellsEvent}
 use Rattle.ak_schedule.proofs.OneWay.{same_addresses}
 
@@ -149,7 +149,7 @@ two P Q find seek name (n ∷ a ∷ b ∷ []) =
 two P Q find seek name (n ∷ a ∷ b ∷ c ∷ ws) = inr (λ h. cc)
 
 -- an offer names its process, its entity and its payload
-offer : (ws : List (List ℕ)) → Finds {T = Process × List ℕ × ℕ} (λ t. SpellsWords ws (Offer t.0 t.1 t.2))
+offer : (ws : List (List ℕ)) → Finds {T = UniqueModel × List ℕ × ℕ} (λ t. SpellsWords ws (Offer t.0 t.1 t.2))
 offer [] = inr (λ h. cc)
 offer (n ∷ []) = inr (λ h. cc)
 offer (n ∷ a ∷ []) = inr (λ h. cc)
@@ -162,11 +162,11 @@ offer (n ∷ a ∷ e ∷ b ∷ []) =
     (both (same_bytes n (codes "offer")) (both (unique a) (both (entity e) (number 0 (2 ^ 63 - 1) b))))
 offer (n ∷ a ∷ e ∷ b ∷ c ∷ ws) = inr (λ h. cc)
 
-no_kind : (ws : List (List ℕ)) → (((u : Process) × SpellsWords ws (Start u)) → ⊥) → (((u : Process) × SpellsWords ws (Found u)) → ⊥)
-    → (((t : Process × Endpoint) × SpellsWords ws (Join t.0 t.1)) → ⊥) → (((t : Process × ℕ) × SpellsWords ws (Tick t.0 t.1)) → ⊥)
-    → (((n : ℕ) × SpellsWords ws (Deliver n)) → ⊥) → (((t : Process × Process) × SpellsWords ws (Leave t.0 t.1)) → ⊥)
-    → (((t : Process × Process) × SpellsWords ws (Down t.0 t.1)) → ⊥) → (((t : Process × List ℕ × ℕ) × SpellsWords ws (Offer t.0 t.1 t.2)) → ⊥)
-    → (((u : Process) × SpellsWords ws (Stop u)) → ⊥) → (event : Event) → SpellsWords ws event → ⊥
+no_kind : (ws : List (List ℕ)) → (((u : UniqueModel) × SpellsWords ws (Start u)) → ⊥) → (((u : UniqueModel) × SpellsWords ws (Found u)) → ⊥)
+    → (((t : UniqueModel × AddressModel) × SpellsWords ws (Join t.0 t.1)) → ⊥) → (((t : UniqueModel × ℕ) × SpellsWords ws (Tick t.0 t.1)) → ⊥)
+    → (((n : ℕ) × SpellsWords ws (Deliver n)) → ⊥) → (((t : UniqueModel × UniqueModel) × SpellsWords ws (Leave t.0 t.1)) → ⊥)
+    → (((t : UniqueModel × UniqueModel) × SpellsWords ws (Down t.0 t.1)) → ⊥) → (((t : UniqueModel × List ℕ × ℕ) × SpellsWords ws (Offer t.0 t.1 t.2)) → ⊥)
+    → (((u : UniqueModel) × SpellsWords ws (Stop u)) → ⊥) → (event : Event) → SpellsWords ws event → ⊥
 no_kind ws start found join tick deliver leave down bid stop (Start u) h = start (u, h)
 no_kind ws start found join tick deliver leave down bid stop (Found u) h = found (u, h)
 no_kind ws start found join tick deliver leave down bid stop (Join u target) h = join ((u, target), h)
@@ -177,11 +177,11 @@ no_kind ws start found join tick deliver leave down bid stop (Down u who) h = do
 no_kind ws start found join tick deliver leave down bid stop (Offer u name payload) h = bid ((u, name, payload), h)
 no_kind ws start found join tick deliver leave down bid stop (Stop u) h = stop (u, h)
 
-some_kind : (ws : List (List ℕ)) → Finds {T = Process} (λ u. SpellsWords ws (Start u)) → Finds {T = Process} (λ u. SpellsWords ws (Found u))
-    → Finds {T = Process × Endpoint} (λ t. SpellsWords ws (Join t.0 t.1)) → Finds {T = Process × ℕ} (λ t. SpellsWords ws (Tick t.0 t.1))
-    → Finds {T = ℕ} (λ n. SpellsWords ws (Deliver n)) → Finds {T = Process × Process} (λ t. SpellsWords ws (Leave t.0 t.1))
-    → Finds {T = Process × Process} (λ t. SpellsWords ws (Down t.0 t.1)) → Finds {T = Process × List ℕ × ℕ} (λ t. SpellsWords ws (Offer t.0 t.1 t.2))
-    → Finds {T = Process} (λ u. SpellsWords ws (Stop u)) → Finds (SpellsWords ws)
+some_kind : (ws : List (List ℕ)) → Finds {T = UniqueModel} (λ u. SpellsWords ws (Start u)) → Finds {T = UniqueModel} (λ u. SpellsWords ws (Found u))
+    → Finds {T = UniqueModel × AddressModel} (λ t. SpellsWords ws (Join t.0 t.1)) → Finds {T = UniqueModel × ℕ} (λ t. SpellsWords ws (Tick t.0 t.1))
+    → Finds {T = ℕ} (λ n. SpellsWords ws (Deliver n)) → Finds {T = UniqueModel × UniqueModel} (λ t. SpellsWords ws (Leave t.0 t.1))
+    → Finds {T = UniqueModel × UniqueModel} (λ t. SpellsWords ws (Down t.0 t.1)) → Finds {T = UniqueModel × List ℕ × ℕ} (λ t. SpellsWords ws (Offer t.0 t.1 t.2))
+    → Finds {T = UniqueModel} (λ u. SpellsWords ws (Stop u)) → Finds (SpellsWords ws)
 some_kind ws (inl h) found join tick deliver leave down bid stop = inl (Start h.0, h.1)
 some_kind ws (inr a) (inl h) join tick deliver leave down bid stop = inl (Found h.0, h.1)
 some_kind ws (inr a) (inr b) (inl h) tick deliver leave down bid stop = inl (Join h.0.0 h.0.1, h.1)
@@ -210,24 +210,24 @@ spelled_event line =
     (both (at_most (length line) most_bytes) (event_words (words line)))
 
 -- ---- words of a header
-is_address : (a : Endpoint) → Tells (IsAddress a)
+is_address : (a : AddressModel) → Tells (IsAddress a)
 is_address a =
     alike
     (λ h. record { host = h.0; port = h.1.0; port_fits = h.1.1 })
     (λ s. (s.host, (s.port, s.port_fits)))
     (both (host a.host) (both (at_most 1 a.port) (below a.port (2 ^ 16))))
 
-same_address : (a b : Endpoint) → Tells (a ≡ b)
+same_address : (a b : AddressModel) → Tells (a ≡ b)
 same_address a b =
     alike
     (λ h. ap (λ (x : List ℕ). record { host = x; port = a.port }) h.0 ∙ ap (λ (n : ℕ). record { host = b.host; port = n }) (le_same a.port b.port h.1.0 h.1.1))
-    (λ s. (ap (λ (x : Endpoint). x.host) s, (omega (arith, ap (λ (x : Endpoint). x.port) s), omega (arith, ap (λ (x : Endpoint). x.port) s))))
+    (λ s. (ap (λ (x : AddressModel). x.host) s, (omega (arith, ap (λ (x : AddressModel). x.port) s), omega (arith, ap (λ (x : AddressModel). x.port) s))))
     (both (same_bytes a.host b.host) (both (at_most a.port b.port) (at_most b.port a.port)))
   where
     le_same : (m n : ℕ) → m ≤ n → n ≤ m → m ≡ n
     le_same m n h g = omega arith
 
-different : (listed : List Endpoint) → Tells (AllPairs (λ a b. a ≢ b) listed)
+different : (listed : List AddressModel) → Tells (AllPairs (λ a b. a ≢ b) listed)
 different [] = inl (λ i j d below within. absurd (omega arith))
 different (a ∷ listed) =
     alike
@@ -238,7 +238,7 @@ different (a ∷ listed) =
     ))
     (both (each (λ b. a ≢ b) (λ b. otherwise (same_address a b)) listed) (different listed))
 
-is_listing : (listed : List Endpoint) → Tells (IsListing listed)
+is_listing : (listed : List AddressModel) → Tells (IsListing listed)
 is_listing listed =
     alike
     (λ h. record { count = record { from = h.0; to = h.1.0 }; addresses = h.1.1.0; different = h.1.1.1 })
@@ -249,12 +249,12 @@ addresses : (ws : List (List ℕ)) → Finds (AllZip SpellsAddress ws)
 addresses [] = inl ([], tt)
 addresses (w ∷ ws) = alike (λ h. (h.0.0 ∷ h.1.0, (h.0.1, h.1.1))) (λ s. parted w ws s.0 s.1) (both (address w) (addresses ws))
   where
-    parted : (w : List ℕ) (ws : List (List ℕ)) (listed : List Endpoint) → AllZip SpellsAddress (w ∷ ws) listed
-        → ((a : Endpoint) × SpellsAddress w a) × ((more : List Endpoint) × AllZip SpellsAddress ws more)
+    parted : (w : List ℕ) (ws : List (List ℕ)) (listed : List AddressModel) → AllZip SpellsAddress (w ∷ ws) listed
+        → ((a : AddressModel) × SpellsAddress w a) × ((more : List AddressModel) × AllZip SpellsAddress ws more)
     parted w ws [] h = absurd h
     parted w ws (a ∷ more) h = ((a, h.0), (more, h.1))
 
-listing_of : (names : List (List ℕ)) → Finds (AllZip SpellsAddress names) → Finds {T = List Endpoint} (λ listed. AllZip SpellsAddress names listed × IsListing listed)
+listing_of : (names : List (List ℕ)) → Finds (AllZip SpellsAddress names) → Finds {T = List AddressModel} (λ listed. AllZip SpellsAddress names listed × IsListing listed)
 listing_of names (inl h) =
     alike (λ is. (h.0, (h.1, is))) (λ s. subst IsListing (same_addresses names s.0 h.0 s.1.0 h.1) s.1.1) (is_listing h.0)
 listing_of names (inr fails) = inr (λ s. fails (s.0, s.1.0))
@@ -305,13 +305,13 @@ some_strategy ws (inr a) (inr b) (inr c) = inr (λ s. no_strategy ws a b c s.0 s
 strategy : (ws : List (List ℕ)) → Finds (SpellsStrategy ws)
 strategy ws = some_strategy ws (quorum ws) (two_words (codes "strategy") (codes "keep-majority") ws) (two_words (codes "strategy") (codes "down-all") ws)
 
-put : {T : Type 0} (P : T → Type 0) (new : T → Setup) → Finds P → Finds {T = Setup} (λ s. (t : T) × P t × (s ≡ new t))
+put : {T : Type 0} (P : T → Type 0) (new : T → SettingsModel) → Finds P → Finds {T = SettingsModel} (λ s. (t : T) × P t × (s ≡ new t))
 put P new h = alike (λ t. (new t.0, (t.0, t.1, refl))) (λ s. (s.1.0, s.1.1)) h
 
 setting : (name : List ℕ) (most : ℕ) (ws : List (List ℕ)) → Finds (SpellsSetting name most ws)
 setting name most ws = one (λ w n. SpellsNumber w 1 most n) (number 1 most) name ws
 
-sets : (which : header.Header) (ws : List (List ℕ)) (old : Setup) → Finds (Sets which ws old)
+sets : (which : header.Header) (ws : List (List ℕ)) (old : SettingsModel) → Finds (Sets which ws old)
 sets header.TheVariants.Listed ws old = put (SpellsListing ws) (λ x. record old { listed = x }) (listing ws)
 sets header.TheVariants.Strategy ws old = put (SpellsStrategy ws) (λ x. record old { strategy = x }) (strategy ws)
 sets header.TheVariants.Margin ws old = put (SpellsSetting (codes "margin") 1000000 ws) (λ x. record old { margin = x }) (setting (codes "margin") 1000000 ws)
@@ -322,7 +322,7 @@ sets header.TheVariants.Buffer ws old = put (SpellsSetting (codes "buffer") 1000
 sets header.TheVariants.Threshold ws old = put (SpellsSetting (codes "threshold") 1000 ws) (λ x. record old { threshold = x }) (setting (codes "threshold") 1000 ws)
 sets header.TheVariants.Limit ws old = put (SpellsSetting (codes "limit") 1000 ws) (λ x. record old { limit = x }) (setting (codes "limit") 1000 ws)
 
-pub set_header : (which : header.Header) (line : List ℕ) (old : Setup) → Finds (SetsHeader which line old)
+pub set_header : (which : header.Header) (line : List ℕ) (old : SettingsModel) → Finds (SetsHeader which line old)
 set_header which line old =
     alike
     (λ h. (h.1.0, record { short = h.0; words = h.1.1 }))

@@ -1,7 +1,7 @@
--- What the words behind the name of an event's kind spell.
+-- What the words after the name of an event's kind spell.
 use Rattle.std.proofs.Common.{◌≡◌, ℕ, List, [], ◌∷◌, codes, if◌then◌else◌, Result, Ok, Err, sym, ◌∙◌, ap, subst, refl}
 use Rattle.std.specs.Str.{bytes_eq}
-use Rattle.ak_address.specs.Unique.{Endpoint, Process}
+use Rattle.ak_address.specs.Unique.{AddressModel, UniqueModel}
 use Rattle.ak_address.specs.Spelling.{SpellsAddress, SpellsUnique}
 use Rattle.ak_schedule.specs.declared.event.Event.{Event}
 use Rattle.ak_schedule.specs.declared.event.Event.TheVariants.{Start, Found, Join, Tick, Deliver, Leave, Down, Offer, Stop}
@@ -72,71 +72,71 @@ refused P Q Malformed none part = λ u whole. none (part u whole).0 (part u whol
 refused P Q BadHeader none part = none
 refused P Q NoMemory none part = tt
 
-start_of : (ws : List (List ℕ)) (e : Event) → event_kind e ≡ kind.TheVariants.Start → SpellsWords (codes "start" ∷ ws) e → (u : Process) × SpellsOne ws u
+start_of : (ws : List (List ℕ)) (e : Event) → event_kind e ≡ kind.TheVariants.Start → SpellsWords (codes "start" ∷ ws) e → (u : UniqueModel) × SpellsOne ws u
 start_of ws (Start u) k h = let rest : ws ≡ h.0 ∷ [] = cc in (u, (h.0, rest, h.2))
 start_of ws e k h = absurd (cc)
 
-pub start_only : (ws : List (List ℕ)) (e : Event) → SpellsWords (codes "start" ∷ ws) e → (u : Process) × SpellsOne ws u
+pub start_only : (ws : List (List ℕ)) (e : Event) → SpellsWords (codes "start" ∷ ws) e → (u : UniqueModel) × SpellsOne ws u
 start_only ws e h = start_of ws e (kind_is kind.TheVariants.Start ws e h) h
 
-found_of : (ws : List (List ℕ)) (e : Event) → event_kind e ≡ kind.TheVariants.Found → SpellsWords (codes "found" ∷ ws) e → (u : Process) × SpellsOne ws u
+found_of : (ws : List (List ℕ)) (e : Event) → event_kind e ≡ kind.TheVariants.Found → SpellsWords (codes "found" ∷ ws) e → (u : UniqueModel) × SpellsOne ws u
 found_of ws (Found u) k h = let rest : ws ≡ h.0 ∷ [] = cc in (u, (h.0, rest, h.2))
 found_of ws e k h = absurd (cc)
 
-pub found_only : (ws : List (List ℕ)) (e : Event) → SpellsWords (codes "found" ∷ ws) e → (u : Process) × SpellsOne ws u
+pub found_only : (ws : List (List ℕ)) (e : Event) → SpellsWords (codes "found" ∷ ws) e → (u : UniqueModel) × SpellsOne ws u
 found_only ws e h = found_of ws e (kind_is kind.TheVariants.Found ws e h) h
 
-stop_of : (ws : List (List ℕ)) (e : Event) → event_kind e ≡ kind.TheVariants.Stop → SpellsWords (codes "stop" ∷ ws) e → (u : Process) × SpellsOne ws u
+stop_of : (ws : List (List ℕ)) (e : Event) → event_kind e ≡ kind.TheVariants.Stop → SpellsWords (codes "stop" ∷ ws) e → (u : UniqueModel) × SpellsOne ws u
 stop_of ws (Stop u) k h = let rest : ws ≡ h.0 ∷ [] = cc in (u, (h.0, rest, h.2))
 stop_of ws e k h = absurd (cc)
 
-pub stop_only : (ws : List (List ℕ)) (e : Event) → SpellsWords (codes "stop" ∷ ws) e → (u : Process) × SpellsOne ws u
+pub stop_only : (ws : List (List ℕ)) (e : Event) → SpellsWords (codes "stop" ∷ ws) e → (u : UniqueModel) × SpellsOne ws u
 stop_only ws e h = stop_of ws e (kind_is kind.TheVariants.Stop ws e h) h
 
-leave_of : (ws : List (List ℕ)) (e : Event) → event_kind e ≡ kind.TheVariants.Leave → SpellsWords (codes "leave" ∷ ws) e → (pair : Process × Process) × SpellsTwo ws pair
+leave_of : (ws : List (List ℕ)) (e : Event) → event_kind e ≡ kind.TheVariants.Leave → SpellsWords (codes "leave" ∷ ws) e → (pair : UniqueModel × UniqueModel) × SpellsTwo ws pair
 leave_of ws (Leave u who) k h = let rest : ws ≡ h.0 ∷ h.1 ∷ [] = cc in ((u, who), (h.0, h.1, rest, h.3, h.4))
 leave_of ws e k h = absurd (cc)
 
-pub leave_only : (ws : List (List ℕ)) (e : Event) → SpellsWords (codes "leave" ∷ ws) e → (pair : Process × Process) × SpellsTwo ws pair
+pub leave_only : (ws : List (List ℕ)) (e : Event) → SpellsWords (codes "leave" ∷ ws) e → (pair : UniqueModel × UniqueModel) × SpellsTwo ws pair
 leave_only ws e h = leave_of ws e (kind_is kind.TheVariants.Leave ws e h) h
 
-down_of : (ws : List (List ℕ)) (e : Event) → event_kind e ≡ kind.TheVariants.Down → SpellsWords (codes "down" ∷ ws) e → (pair : Process × Process) × SpellsTwo ws pair
+down_of : (ws : List (List ℕ)) (e : Event) → event_kind e ≡ kind.TheVariants.Down → SpellsWords (codes "down" ∷ ws) e → (pair : UniqueModel × UniqueModel) × SpellsTwo ws pair
 down_of ws (Down u who) k h = let rest : ws ≡ h.0 ∷ h.1 ∷ [] = cc in ((u, who), (h.0, h.1, rest, h.3, h.4))
 down_of ws e k h = absurd (cc)
 
-pub down_only : (ws : List (List ℕ)) (e : Event) → SpellsWords (codes "down" ∷ ws) e → (pair : Process × Process) × SpellsTwo ws pair
+pub down_only : (ws : List (List ℕ)) (e : Event) → SpellsWords (codes "down" ∷ ws) e → (pair : UniqueModel × UniqueModel) × SpellsTwo ws pair
 down_only ws e h = down_of ws e (kind_is kind.TheVariants.Down ws e h) h
 
-join_of : (ws : List (List ℕ)) (a b : List ℕ) → ws ≡ a ∷ b ∷ [] → (e : Event) → event_kind e ≡ kind.TheVariants.Join → SpellsWords (codes "join" ∷ ws) e → (u : Process) × (t : Endpoint) × SpellsUnique a u × SpellsAddress b t
+join_of : (ws : List (List ℕ)) (a b : List ℕ) → ws ≡ a ∷ b ∷ [] → (e : Event) → event_kind e ≡ kind.TheVariants.Join → SpellsWords (codes "join" ∷ ws) e → (u : UniqueModel) × (t : AddressModel) × SpellsUnique a u × SpellsAddress b t
 join_of ws a b two (Join u t) k h =
     let first : h.0 ≡ a = cc in
     let second : h.1 ≡ b = cc in
     (u, t, subst (λ (w : List ℕ). SpellsUnique w u) first h.3, subst (λ (w : List ℕ). SpellsAddress w t) second h.4)
 join_of ws a b two e k h = absurd (cc)
 
-pub join_at : (ws : List (List ℕ)) (a b : List ℕ) → ws ≡ a ∷ b ∷ [] → (e : Event) → SpellsWords (codes "join" ∷ ws) e → (u : Process) × (t : Endpoint) × SpellsUnique a u × SpellsAddress b t
+pub join_at : (ws : List (List ℕ)) (a b : List ℕ) → ws ≡ a ∷ b ∷ [] → (e : Event) → SpellsWords (codes "join" ∷ ws) e → (u : UniqueModel) × (t : AddressModel) × SpellsUnique a u × SpellsAddress b t
 join_at ws a b two e h = join_of ws a b two e (kind_is kind.TheVariants.Join ws e h) h
 
-tick_of : (ws : List (List ℕ)) (a b : List ℕ) → ws ≡ a ∷ b ∷ [] → (e : Event) → event_kind e ≡ kind.TheVariants.Tick → SpellsWords (codes "tick" ∷ ws) e → (u : Process) × SpellsUnique a u
+tick_of : (ws : List (List ℕ)) (a b : List ℕ) → ws ≡ a ∷ b ∷ [] → (e : Event) → event_kind e ≡ kind.TheVariants.Tick → SpellsWords (codes "tick" ∷ ws) e → (u : UniqueModel) × SpellsUnique a u
 tick_of ws a b two (Tick u word) k h = let first : h.0 ≡ a = cc in (u, subst (λ (w : List ℕ). SpellsUnique w u) first h.3)
 tick_of ws a b two e k h = absurd (cc)
 
-pub tick_at : (ws : List (List ℕ)) (a b : List ℕ) → ws ≡ a ∷ b ∷ [] → (e : Event) → SpellsWords (codes "tick" ∷ ws) e → (u : Process) × SpellsUnique a u
+pub tick_at : (ws : List (List ℕ)) (a b : List ℕ) → ws ≡ a ∷ b ∷ [] → (e : Event) → SpellsWords (codes "tick" ∷ ws) e → (u : UniqueModel) × SpellsUnique a u
 tick_at ws a b two e h = tick_of ws a b two e (kind_is kind.TheVariants.Tick ws e h) h
 
-offer_of : (ws : List (List ℕ)) (a b c : List ℕ) → ws ≡ a ∷ b ∷ c ∷ [] → (e : Event) → event_kind e ≡ kind.TheVariants.Offer → SpellsWords (codes "offer" ∷ ws) e → (u : Process) × SpellsUnique a u
+offer_of : (ws : List (List ℕ)) (a b c : List ℕ) → ws ≡ a ∷ b ∷ c ∷ [] → (e : Event) → event_kind e ≡ kind.TheVariants.Offer → SpellsWords (codes "offer" ∷ ws) e → (u : UniqueModel) × SpellsUnique a u
 offer_of ws a b c three (Offer u entity payload) k h = let first : h.0 ≡ a = cc in (u, subst (λ (w : List ℕ). SpellsUnique w u) first h.3)
 offer_of ws a b c three e k h = absurd (cc)
 
-pub offer_at : (ws : List (List ℕ)) (a b c : List ℕ) → ws ≡ a ∷ b ∷ c ∷ [] → (e : Event) → SpellsWords (codes "offer" ∷ ws) e → (u : Process) × SpellsUnique a u
+pub offer_at : (ws : List (List ℕ)) (a b c : List ℕ) → ws ≡ a ∷ b ∷ c ∷ [] → (e : Event) → SpellsWords (codes "offer" ∷ ws) e → (u : UniqueModel) × SpellsUnique a u
 offer_at ws a b c three e h = offer_of ws a b c three e (kind_is kind.TheVariants.Offer ws e h) h
 
-pub one_at : (ws : List (List ℕ)) (a : List ℕ) (r : Result Process LineFault) → ws ≡ a ∷ [] → Reads (SpellsUnique a) r → Reads (SpellsOne ws) r
+pub one_at : (ws : List (List ℕ)) (a : List ℕ) (r : Result UniqueModel LineFault) → ws ≡ a ∷ [] → Reads (SpellsUnique a) r → Reads (SpellsOne ws) r
 one_at ws a (Ok u) one h = (a, one, h)
 one_at ws a (Err fault) one h =
     refused (SpellsUnique a) (SpellsOne ws) fault h (λ u whole. let first : whole.0 ≡ a = cc in (u, subst (λ (w : List ℕ). SpellsUnique w u) first whole.2))
 
-pub two_at : (ws : List (List ℕ)) (a b : List ℕ) → ws ≡ a ∷ b ∷ [] → (pair : Process × Process) → SpellsTwo ws pair → SpellsUnique a pair.0 × SpellsUnique b pair.1
+pub two_at : (ws : List (List ℕ)) (a b : List ℕ) → ws ≡ a ∷ b ∷ [] → (pair : UniqueModel × UniqueModel) → SpellsTwo ws pair → SpellsUnique a pair.0 × SpellsUnique b pair.1
 two_at ws a b two pair h =
     let first : h.0 ≡ a = cc in
     let second : h.1 ≡ b = cc in

@@ -5,9 +5,9 @@ use Rattle.std.specs.List.{AllZip, AllPairs, AllByRecursion}
 use Rattle.std.proofs.lemmas.List.{get_or_append_left, get_or_at}
 use Rattle.std.proofs.lemmas.List.Elements.{All-from_recursion, recursion_from_All, All-push, Contains-get_or}
 use Rattle.std.proofs.lemmas.List.Quantifiers.{all_pairs_push}
-use Rattle.ak_address.specs.Unique.{Endpoint, IsAddress}
+use Rattle.ak_address.specs.Unique.{AddressModel, IsAddress}
 use Rattle.ak_address.specs.Spelling.{SpellsAddress}
-use Rattle.ak_address.proofs.Spelled.{address_same}
+use Rattle.ak_address.proofs.SpellingLemmas.{address_same}
 use Rattle.ak_schedule.specs.declared.fault.LineFault.{LineFault}
 use Rattle.ak_schedule.specs.declared.fault.LineFault.TheVariants.{Malformed, BadHeader, NoMemory}
 use Rattle.ak_schedule.specs.declared.settings.Strategy.{Strategy}
@@ -16,14 +16,14 @@ use Rattle.ak_schedule.specs.Draft.{RefusesValue, SpellsAddresses, SpellsNext}
 use Rattle.ak_schedule.specs.Schedule.{SpellsStrategy}
 
 -- the names up to here spell these addresses, and each list that all names spell begins with them
-pub record SpelledSoFar (names rest : List (List ℕ)) (listed : List Endpoint) : Type 0 where
-  pub onward : (tail : List Endpoint) → AllZip SpellsAddress rest tail → AllZip SpellsAddress names (listed ++ tail)
-  pub back : (all : List Endpoint) → AllZip SpellsAddress names all → (tail : List Endpoint) × (all ≡ listed ++ tail) × AllZip SpellsAddress rest tail
+pub record SpelledSoFar (names rest : List (List ℕ)) (listed : List AddressModel) : Type 0 where
+  pub onward : (tail : List AddressModel) → AllZip SpellsAddress rest tail → AllZip SpellsAddress names (listed ++ tail)
+  pub back : (all : List AddressModel) → AllZip SpellsAddress names all → (tail : List AddressModel) × (all ≡ listed ++ tail) × AllZip SpellsAddress rest tail
   pub room : length listed ≤ 32
   pub addresses : AllByRecursion IsAddress listed
   pub different : AllPairs (λ a b. a ≢ b) listed
 
-pub spelled_none : (names : List (List ℕ)) (listed : List Endpoint) → listed ≡ [] → SpelledSoFar names names listed
+pub spelled_none : (names : List (List ℕ)) (listed : List AddressModel) → listed ≡ [] → SpelledSoFar names names listed
 spelled_none names listed none = rw none (record {
   onward = λ tail spelt. spelt;
   back = λ all spelt. (all, refl, spelt);
@@ -32,53 +32,53 @@ spelled_none names listed none = rw none (record {
   different = λ i j d below within. absurd (omega arith);
 })
 
-pub spelled_more : (names rest after : List (List ℕ)) (name : List ℕ) (listed : List Endpoint) (a : Endpoint)
+pub spelled_more : (names rest after : List (List ℕ)) (name : List ℕ) (listed : List AddressModel) (a : AddressModel)
     → rest ≡ name ∷ after → SpelledSoFar names rest listed → SpellsNext name listed a → SpelledSoFar names after (listed ++ a ∷ [])
 spelled_more names rest after name listed a cut before next = record {
   onward = λ tail spelt. rw append_assoc (before.onward (a ∷ tail) (rw cut (next.0, spelt)));
   back = λ all spelt.
       let split = before.back all spelt in
-      let behind : AllZip SpellsAddress (name ∷ after) split.0 = subst (λ (ws : List (List ℕ)). AllZip SpellsAddress ws split.0) cut split.2 in
-      next_of name after listed split.0 all a next.0 split.1 behind;
+      let after_it : AllZip SpellsAddress (name ∷ after) split.0 = subst (λ (ws : List (List ℕ)). AllZip SpellsAddress ws split.0) cut split.2 in
+      next_of name after listed split.0 all a next.0 split.1 after_it;
   room = omega (arith, length-append listed (a ∷ []), next.1.room);
   addresses = recursion_from_All IsAddress (listed ++ a ∷ []) (All-push IsAddress listed a (All-from_recursion IsAddress listed before.addresses) next.0.range);
   different = all_pairs_push (λ x y. x ≢ y) listed a before.different (λ k d within same. next.1.other (subst (Contains listed) same (Contains-get_or listed k d within)));
 }
   where
-    next_of : (name : List ℕ) (after : List (List ℕ)) (listed tail all : List Endpoint) (a : Endpoint) → SpellsAddress name a → all ≡ listed ++ tail
-        → AllZip SpellsAddress (name ∷ after) tail → (behind : List Endpoint) × (all ≡ (listed ++ a ∷ []) ++ behind) × AllZip SpellsAddress after behind
+    next_of : (name : List ℕ) (after : List (List ℕ)) (listed tail all : List AddressModel) (a : AddressModel) → SpellsAddress name a → all ≡ listed ++ tail
+        → AllZip SpellsAddress (name ∷ after) tail → (after_it : List AddressModel) × (all ≡ (listed ++ a ∷ []) ++ after_it) × AllZip SpellsAddress after after_it
     next_of name after listed [] all a spelt cut none = absurd none
     next_of name after listed (b ∷ tail) all a spelt cut zip =
-        (tail, cut ∙ ap (λ (x : Endpoint). listed ++ x ∷ tail) (address_same name b a zip.0 spelt) ∙ sym (append_assoc listed (a ∷ []) tail), zip.1)
+        (tail, cut ∙ ap (λ (x : AddressModel). listed ++ x ∷ tail) (address_same name b a zip.0 spelt) ∙ sym (append_assoc listed (a ∷ []) tail), zip.1)
 
 -- where all names are read
-pub spelled_all : (names rest : List (List ℕ)) (listed : List Endpoint) → rest ≡ [] → SpelledSoFar names rest listed → 1 ≤ length listed → SpellsAddresses names listed
+pub spelled_all : (names rest : List (List ℕ)) (listed : List AddressModel) → rest ≡ [] → SpelledSoFar names rest listed → 1 ≤ length listed → SpellsAddresses names listed
 spelled_all names rest listed none so_far some = (
-  subst (λ (all : List Endpoint). AllZip SpellsAddress names all) (append_nil listed) (so_far.onward [] (rw none tt)),
+  subst (λ (all : List AddressModel). AllZip SpellsAddress names all) (append_nil listed) (so_far.onward [] (rw none tt)),
   record { count = record { from = some; to = so_far.room }; addresses = so_far.addresses; different = so_far.different },
 )
   where
-    append_nil : (xs : List Endpoint) → xs ++ [] ≡ xs
+    append_nil : (xs : List AddressModel) → xs ++ [] ≡ xs
     append_nil xs = search rules
 
-pub spelled_nothing : (names rest : List (List ℕ)) (listed : List Endpoint) → rest ≡ [] → SpelledSoFar names rest listed → length listed ≡ 0 → (all : List Endpoint) → SpellsAddresses names all → ⊥
+pub spelled_nothing : (names rest : List (List ℕ)) (listed : List AddressModel) → rest ≡ [] → SpelledSoFar names rest listed → length listed ≡ 0 → (all : List AddressModel) → SpellsAddresses names all → ⊥
 spelled_nothing names rest listed none so_far empty all spelt =
     let split = so_far.back all spelt.0 in
     let nothing : AllZip SpellsAddress [] split.0 = subst (λ (ws : List (List ℕ)). AllZip SpellsAddress ws split.0) none split.2 in
     absurd (omega (arith, ap length split.1, length-append listed split.0, no_tail split.0 nothing, spelt.1.count.from))
   where
-    no_tail : (tail : List Endpoint) → AllZip SpellsAddress [] tail → length tail ≡ 0
+    no_tail : (tail : List AddressModel) → AllZip SpellsAddress [] tail → length tail ≡ 0
     no_tail [] h = refl
     no_tail (a ∷ tail) h = absurd h
 
 -- where the next name may not follow, no list is spelled
-pub spelled_no_further : (names rest after : List (List ℕ)) (name : List ℕ) (listed : List Endpoint) → rest ≡ name ∷ after → SpelledSoFar names rest listed
-    → ((a : Endpoint) → SpellsNext name listed a → ⊥) → (all : List Endpoint) → SpellsAddresses names all → ⊥
+pub spelled_no_further : (names rest after : List (List ℕ)) (name : List ℕ) (listed : List AddressModel) → rest ≡ name ∷ after → SpelledSoFar names rest listed
+    → ((a : AddressModel) → SpellsNext name listed a → ⊥) → (all : List AddressModel) → SpellsAddresses names all → ⊥
 spelled_no_further names rest after name listed cut so_far none all spelt =
     let split = so_far.back all spelt.0 in
     stuck name after listed split.0 all none split.1 (subst (λ (ws : List (List ℕ)). AllZip SpellsAddress ws split.0) cut split.2) spelt.1
   where
-    stuck : (name : List ℕ) (after : List (List ℕ)) (listed tail all : List Endpoint) → ((a : Endpoint) → SpellsNext name listed a → ⊥) → all ≡ listed ++ tail
+    stuck : (name : List ℕ) (after : List (List ℕ)) (listed tail all : List AddressModel) → ((a : AddressModel) → SpellsNext name listed a → ⊥) → all ≡ listed ++ tail
         → AllZip SpellsAddress (name ∷ after) tail → IsListing all → ⊥
     stuck name after listed [] all none cut zip listing = zip
     stuck name after listed (a ∷ tail) all none cut zip listing =
@@ -90,13 +90,13 @@ spelled_no_further names rest after name listed cut so_far none all spelt =
           },
         )
       where
-        twice : (listed tail : List Endpoint) (a : Endpoint) → AllPairs (λ x y. x ≢ y) (listed ++ a ∷ tail) → Contains listed a → ⊥
+        twice : (listed tail : List AddressModel) (a : AddressModel) → AllPairs (λ x y. x ≢ y) (listed ++ a ∷ tail) → Contains listed a → ⊥
         twice listed tail a different (k, within, here) =
             different k (length listed) a within (omega (arith, length-append listed (a ∷ tail)))
             (get_or_append_left listed (a ∷ tail) a k within ∙ here ∙ sym (get_or_at listed a tail a (length listed) refl))
 
 -- a fault of the next name is the fault of the whole
-pub listing_refused : (names rest after : List (List ℕ)) (name : List ℕ) (listed : List Endpoint) (fault : LineFault) → rest ≡ name ∷ after → SpelledSoFar names rest listed
+pub listing_refused : (names rest after : List (List ℕ)) (name : List ℕ) (listed : List AddressModel) (fault : LineFault) → rest ≡ name ∷ after → SpelledSoFar names rest listed
     → RefusesValue (SpellsNext name listed) fault → RefusesValue (SpellsAddresses names) fault
 listing_refused names rest after name listed Malformed cut so_far h = h
 listing_refused names rest after name listed BadHeader cut so_far h = spelled_no_further names rest after name listed cut so_far h
@@ -109,7 +109,7 @@ value_refused P Q BadHeader none part = λ u whole. none (part u whole).0 (part 
 value_refused P Q NoMemory none part = tt
 
 -- an address that is among the others does not follow
-pub not_twice : (name : List ℕ) (listed : List Endpoint) (a : Endpoint) → SpellsAddress name a → Contains listed a → (b : Endpoint) → SpellsNext name listed b → ⊥
+pub not_twice : (name : List ℕ) (listed : List AddressModel) (a : AddressModel) → SpellsAddress name a → Contains listed a → (b : AddressModel) → SpellsNext name listed b → ⊥
 not_twice name listed a spelt among b next = next.1.other (subst (Contains listed) (address_same name a b spelt next.0) among)
 
 -- the words of a line, in the strategy that they spell

@@ -1,25 +1,25 @@
 -- A line is read in one way at most.
 use Rattle.std.proofs.Common.{◌≡◌, ℕ, List, [], ◌∷◌, sym, ◌∙◌, ap, subst, refl, codes, arith}
 use Rattle.std.specs.List.{AllZip}
-use Rattle.ak_address.specs.Unique.{Endpoint, Process}
+use Rattle.ak_address.specs.Unique.{AddressModel, UniqueModel}
 use Rattle.ak_address.specs.Spelling.{IsNumber, SpellsAddress, SpellsUnique}
-use Rattle.ak_address.proofs.Spelled.{number_same, address_same, unique_same}
+use Rattle.ak_address.proofs.SpellingLemmas.{number_same, address_same, unique_same}
 use Rattle.ak_schedule.specs.declared.event.Event.{Event}
 use Rattle.ak_schedule.specs.declared.event.Event.TheVariants.{Start, Found, Join, Tick, Deliver, Leave, Down, Offer, Stop}
 use Rattle.ak_schedule.specs.declared.settings.Header as header
 use Rattle.ak_schedule.specs.declared.settings.Strategy.{Strategy}
 use Rattle.ak_schedule.specs.declared.settings.Strategy.TheVariants.{StaticQuorum, KeepMajority, DownAll}
-use Rattle.ak_schedule.specs.Settings.{Setup}
+use Rattle.ak_schedule.specs.Settings.{SettingsModel}
 use Rattle.ak_schedule.specs.Schedule.{Sets, SetsHeader, SpellsEvent, SpellsWords, SpellsSetting, SpellsStrategy, SpellsListing}
 use Rattle.ak_schedule.specs.Draft.{Drafted, ReadsHeader}
 use Rattle.ak_schedule.specs.Line.{words}
 use Rattle.ak_schedule.specs.Kind.{kind_name}
 use Rattle.ak_schedule.proofs.EventWords.{event_kind, named, same_kind}
 
-same_unique : (a b : List ℕ) (u v : Process) → a ≡ b → SpellsUnique a u → SpellsUnique b v → u ≡ v
+same_unique : (a b : List ℕ) (u v : UniqueModel) → a ≡ b → SpellsUnique a u → SpellsUnique b v → u ≡ v
 same_unique a b u v same one other = unique_same b u v (subst (λ (w : List ℕ). SpellsUnique w u) same one) other
 
-same_address : (a b : List ℕ) (u v : Endpoint) → a ≡ b → SpellsAddress a u → SpellsAddress b v → u ≡ v
+same_address : (a b : List ℕ) (u v : AddressModel) → a ≡ b → SpellsAddress a u → SpellsAddress b v → u ≡ v
 same_address a b u v same one other = address_same b u v (subst (λ (w : List ℕ). SpellsAddress w u) same one) other
 
 same_number : (a b : List ℕ) (m n : ℕ) → a ≡ b → IsNumber a m → IsNumber b n → m ≡ n
@@ -33,24 +33,24 @@ same_event ws (Deliver m) (Deliver n) k = λ h g. let w : h.0 ≡ g.0 = cc in ap
 same_event ws (Join u s) (Join v t) k = λ h g.
     let first : h.0 ≡ g.0 = cc in
     let second : h.1 ≡ g.1 = cc in
-    ap (λ (x : Process). Join x s) (same_unique h.0 g.0 u v first h.3 g.3) ∙ ap (λ (x : Endpoint). Join v x) (same_address h.1 g.1 s t second h.4 g.4)
+    ap (λ (x : UniqueModel). Join x s) (same_unique h.0 g.0 u v first h.3 g.3) ∙ ap (λ (x : AddressModel). Join v x) (same_address h.1 g.1 s t second h.4 g.4)
 same_event ws (Tick u m) (Tick v n) k = λ h g.
     let first : h.0 ≡ g.0 = cc in
     let second : h.1 ≡ g.1 = cc in
-    ap (λ (x : Process). Tick x m) (same_unique h.0 g.0 u v first h.3 g.3) ∙ ap (λ (x : ℕ). Tick v x) (same_number h.1 g.1 m n second h.4.number g.4.number)
+    ap (λ (x : UniqueModel). Tick x m) (same_unique h.0 g.0 u v first h.3 g.3) ∙ ap (λ (x : ℕ). Tick v x) (same_number h.1 g.1 m n second h.4.number g.4.number)
 same_event ws (Leave u s) (Leave v t) k = λ h g.
     let first : h.0 ≡ g.0 = cc in
     let second : h.1 ≡ g.1 = cc in
-    ap (λ (x : Process). Leave x s) (same_unique h.0 g.0 u v first h.3 g.3) ∙ ap (λ (x : Process). Leave v x) (same_unique h.1 g.1 s t second h.4 g.4)
+    ap (λ (x : UniqueModel). Leave x s) (same_unique h.0 g.0 u v first h.3 g.3) ∙ ap (λ (x : UniqueModel). Leave v x) (same_unique h.1 g.1 s t second h.4 g.4)
 same_event ws (Down u s) (Down v t) k = λ h g.
     let first : h.0 ≡ g.0 = cc in
     let second : h.1 ≡ g.1 = cc in
-    ap (λ (x : Process). Down x s) (same_unique h.0 g.0 u v first h.3 g.3) ∙ ap (λ (x : Process). Down v x) (same_unique h.1 g.1 s t second h.4 g.4)
+    ap (λ (x : UniqueModel). Down x s) (same_unique h.0 g.0 u v first h.3 g.3) ∙ ap (λ (x : UniqueModel). Down v x) (same_unique h.1 g.1 s t second h.4 g.4)
 same_event ws (Offer u s m) (Offer v t n) k = λ h g.
     let first : h.0 ≡ g.0 = cc in
     let entity : s ≡ t = cc in
     let third : h.1 ≡ g.1 = cc in
-    ap (λ (x : Process). Offer x s m) (same_unique h.0 g.0 u v first h.3 g.3)
+    ap (λ (x : UniqueModel). Offer x s m) (same_unique h.0 g.0 u v first h.3 g.3)
     ∙ ap (λ (x : List ℕ). Offer v x m) entity
     ∙ ap (λ (x : ℕ). Offer v t x) (same_number h.1 g.1 m n third h.5.number g.5.number)
 same_event ws e f k = absurd (cc)
@@ -76,19 +76,19 @@ same_words (name ∷ ws) e f h g =
 pub one_event : (line : List ℕ) (e f : Event) → SpellsEvent line e → SpellsEvent line f → e ≡ f
 one_event line e f one other = same_words (words line) e f one.words other.words
 
-pub same_addresses : (ws : List (List ℕ)) (one other : List Endpoint) → AllZip SpellsAddress ws one → AllZip SpellsAddress ws other → one ≡ other
+pub same_addresses : (ws : List (List ℕ)) (one other : List AddressModel) → AllZip SpellsAddress ws one → AllZip SpellsAddress ws other → one ≡ other
 same_addresses [] [] [] h g = refl
 same_addresses [] [] (b ∷ bs) h g = absurd g
 same_addresses [] (a ∷ as') bs h g = absurd h
 same_addresses (w ∷ ws) [] bs h g = absurd h
 same_addresses (w ∷ ws) (a ∷ as') [] h g = absurd g
 same_addresses (w ∷ ws) (a ∷ as') (b ∷ bs) h g =
-    ap (λ (x : Endpoint). x ∷ as') (address_same w a b h.0 g.0) ∙ ap (λ (xs : List Endpoint). b ∷ xs) (same_addresses ws as' bs h.1 g.1)
+    ap (λ (x : AddressModel). x ∷ as') (address_same w a b h.0 g.0) ∙ ap (λ (xs : List AddressModel). b ∷ xs) (same_addresses ws as' bs h.1 g.1)
 
 same_setting : (name : List ℕ) (most : ℕ) (ws : List (List ℕ)) (m n : ℕ) → SpellsSetting name most ws m → SpellsSetting name most ws n → m ≡ n
 same_setting name most ws m n h g = let w : h.0 ≡ g.0 = cc in same_number h.0 g.0 m n w h.2.number g.2.number
 
--- the first byte of a strategy's name tells which it is
+-- the first byte of a strategy's name says which it is
 abbrev strategy_byte : Strategy → ℕ
 strategy_byte (StaticQuorum quorum) = 115
 strategy_byte KeepMajority = 107
@@ -111,37 +111,37 @@ same_strategy ws KeepMajority KeepMajority same = λ h g. refl
 same_strategy ws DownAll DownAll same = λ h g. refl
 same_strategy ws s t same = absurd (omega arith)
 
-same_listing : (ws : List (List ℕ)) (one other : List Endpoint) → SpellsListing ws one → SpellsListing ws other → one ≡ other
+same_listing : (ws : List (List ℕ)) (one other : List AddressModel) → SpellsListing ws one → SpellsListing ws other → one ≡ other
 same_listing ws one other h g =
     let names : h.0 ≡ g.0 = cc in
     same_addresses g.0 one other (subst (λ (ns : List (List ℕ)). AllZip SpellsAddress ns one) names h.2) g.2
 
-same_setup : (which : header.Header) (ws : List (List ℕ)) (old one other : Setup) → Sets which ws old one → Sets which ws old other → one ≡ other
-same_setup header.TheVariants.Listed ws old one other h g =
-    h.2 ∙ ap (λ (x : List Endpoint). record old { listed = x }) (same_listing ws h.0 g.0 h.1 g.1) ∙ sym g.2
-same_setup header.TheVariants.Strategy ws old one other h g =
+same_settings : (which : header.Header) (ws : List (List ℕ)) (old one other : SettingsModel) → Sets which ws old one → Sets which ws old other → one ≡ other
+same_settings header.TheVariants.Listed ws old one other h g =
+    h.2 ∙ ap (λ (x : List AddressModel). record old { listed = x }) (same_listing ws h.0 g.0 h.1 g.1) ∙ sym g.2
+same_settings header.TheVariants.Strategy ws old one other h g =
     h.2 ∙ ap (λ (x : Strategy). record old { strategy = x }) (same_strategy ws h.0 g.0 (sym (told ws h.0 h.1) ∙ told ws g.0 g.1) h.1 g.1) ∙ sym g.2
-same_setup header.TheVariants.Margin ws old one other h g =
+same_settings header.TheVariants.Margin ws old one other h g =
     h.2 ∙ ap (λ (x : ℕ). record old { margin = x }) (same_setting (codes "margin") 1000000 ws h.0 g.0 h.1 g.1) ∙ sym g.2
-same_setup header.TheVariants.Deadline ws old one other h g =
+same_settings header.TheVariants.Deadline ws old one other h g =
     h.2 ∙ ap (λ (x : ℕ). record old { deadline = x }) (same_setting (codes "deadline") 1000000 ws h.0 g.0 h.1 g.1) ∙ sym g.2
-same_setup header.TheVariants.Stable ws old one other h g =
+same_settings header.TheVariants.Stable ws old one other h g =
     h.2 ∙ ap (λ (x : ℕ). record old { stable = x }) (same_setting (codes "stable") 1000000 ws h.0 g.0 h.1 g.1) ∙ sym g.2
-same_setup header.TheVariants.Shards ws old one other h g =
+same_settings header.TheVariants.Shards ws old one other h g =
     h.2 ∙ ap (λ (x : ℕ). record old { shards = x }) (same_setting (codes "shards") 1000 ws h.0 g.0 h.1 g.1) ∙ sym g.2
-same_setup header.TheVariants.Buffer ws old one other h g =
+same_settings header.TheVariants.Buffer ws old one other h g =
     h.2 ∙ ap (λ (x : ℕ). record old { buffer = x }) (same_setting (codes "buffer") 100000 ws h.0 g.0 h.1 g.1) ∙ sym g.2
-same_setup header.TheVariants.Threshold ws old one other h g =
+same_settings header.TheVariants.Threshold ws old one other h g =
     h.2 ∙ ap (λ (x : ℕ). record old { threshold = x }) (same_setting (codes "threshold") 1000 ws h.0 g.0 h.1 g.1) ∙ sym g.2
-same_setup header.TheVariants.Limit ws old one other h g =
+same_settings header.TheVariants.Limit ws old one other h g =
     h.2 ∙ ap (λ (x : ℕ). record old { limit = x }) (same_setting (codes "limit") 1000 ws h.0 g.0 h.1 g.1) ∙ sym g.2
 
-pub one_setup : (which : header.Header) (line : List ℕ) (old one other : Setup) → SetsHeader which line old one → SetsHeader which line old other → one ≡ other
-one_setup which line old one other h g = same_setup which (words line) old one other h.words g.words
+pub one_settings : (which : header.Header) (line : List ℕ) (old one other : SettingsModel) → SetsHeader which line old one → SetsHeader which line old other → one ≡ other
+one_settings which line old one other h g = same_settings which (words line) old one other h.words g.words
 
 pub one_draft : (line : List ℕ) (old one other : Drafted) → ReadsHeader line old one → ReadsHeader line old other → one ≡ other
 one_draft line old one other h g =
     let which : h.which ≡ g.which = cc (h.next, g.next) in
-    let setups : one.setup ≡ other.setup =
-    one_setup g.which line old.setup one.setup other.setup (subst (λ (w : header.Header). SetsHeader w line old.setup one.setup) which h.sets) g.sets in
-    ap (λ (n : ℕ). record { read = n; setup = one.setup }) (h.count ∙ sym g.count) ∙ ap (λ (s : Setup). record { read = other.read; setup = s }) setups
+    let settings_lists : one.settings ≡ other.settings =
+    one_settings g.which line old.settings one.settings other.settings (subst (λ (w : header.Header). SetsHeader w line old.settings one.settings) which h.sets) g.sets in
+    ap (λ (n : ℕ). record { read = n; settings = one.settings }) (h.count ∙ sym g.count) ∙ ap (λ (s : SettingsModel). record { read = other.read; settings = s }) settings_lists

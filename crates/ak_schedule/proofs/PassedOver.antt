@@ -9,7 +9,7 @@ use Rattle.ak_schedule.specs.declared.settings.Header as header
 use Rattle.ak_schedule.specs.declared.settings.Strategy.{Strategy}
 use Rattle.ak_schedule.specs.declared.settings.Strategy.TheVariants.{StaticQuorum, KeepMajority, DownAll}
 use Rattle.ak_schedule.specs.Line.{words, begins, is_comment, IsPassedOver}
-use Rattle.ak_schedule.specs.Settings.{Setup}
+use Rattle.ak_schedule.specs.Settings.{SettingsModel}
 use Rattle.ak_schedule.specs.Schedule.{SpellsEvent, SpellsWords, SpellsStrategy, Sets, SetsHeader}
 
 -- the first byte of the first word, or 35, a comment's, where there is no word
@@ -50,7 +50,7 @@ strategy_line ws (StaticQuorum quorum) h = ap first_byte h.1
 strategy_line ws KeepMajority h = ap first_byte h
 strategy_line ws DownAll h = ap first_byte h
 
-header_byte : (which : header.Header) (ws : List (List ℕ)) (old new : Setup) → Sets which ws old new → first_byte ws ≡ 35 → ⊥
+header_byte : (which : header.Header) (ws : List (List ℕ)) (old new : SettingsModel) → Sets which ws old new → first_byte ws ≡ 35 → ⊥
 header_byte header.TheVariants.Listed ws old new h same = not_comment 108 (first_byte ws) (ap first_byte h.1.1) refl same
 header_byte header.TheVariants.Strategy ws old new h same = not_comment 115 (first_byte ws) (strategy_line ws h.0 h.1) refl same
 header_byte header.TheVariants.Margin ws old new h same = not_comment 109 (first_byte ws) (ap first_byte h.1.1) refl same
@@ -64,5 +64,5 @@ header_byte header.TheVariants.Limit ws old new h same = not_comment 108 (first_
 pub no_event : (line : List ℕ) (e : Event) → IsPassedOver line → SpellsEvent line e → ⊥
 no_event line e passed spelt = event_byte (words line) e spelt.words (passed_byte line passed)
 
-pub no_header : (which : header.Header) (line : List ℕ) (old new : Setup) → IsPassedOver line → SetsHeader which line old new → ⊥
+pub no_header : (which : header.Header) (line : List ℕ) (old new : SettingsModel) → IsPassedOver line → SetsHeader which line old new → ⊥
 no_header which line old new passed sets = header_byte which (words line) old new sets.words (passed_byte line passed)

@@ -2,28 +2,28 @@
 use Rattle.std.specs.Prelude.{◌≡◌, ◌↔◌, ℕ, ◌+◌, ◌<◌, ◌≤◌, Bool, IsTrue, List, [], length, Contains, Some, slice_get, Result, Ok, Err, refl}
 use Rattle.std.specs.List.{AllZip}
 use Rattle.std.specs.Coded.{Coded, code_by, coded×, coded_ℕ}
-use Rattle.ak_address.specs.Unique.{Endpoint}
+use Rattle.ak_address.specs.Unique.{AddressModel}
 use Rattle.ak_address.specs.Spelling.{SpellsAddress}
 use Rattle.ak_schedule.specs.declared.settings.Strategy.TheVariants.{DownAll}
 use Rattle.ak_schedule.specs.declared.settings.Header.{Header}
 use Rattle.ak_schedule.specs.declared.fault.LineFault.{LineFault}
 use Rattle.ak_schedule.specs.declared.fault.LineFault.TheVariants.{Malformed, BadHeader, NoMemory}
-use Rattle.ak_schedule.specs.Settings.{Setup, IsListing, IsStrategy, IsWithin, coded_setup}
+use Rattle.ak_schedule.specs.Settings.{SettingsModel, IsListing, IsStrategy, IsWithin, coded_settings}
 use Rattle.ak_schedule.specs.Schedule.{headers, SetsHeader}
 
 -- how many headers are read, and the settings by then
 pub record Drafted : Type 0 where
   pub read : ℕ
-  pub setup : Setup
+  pub settings : SettingsModel
 
 abbrev pub coded_draft : Coded Drafted
-coded_draft = code_by (ℕ × Setup) (coded× coded_ℕ coded_setup) (λ d. (d.read, d.setup)) (λ p. record { read = p.0; setup = p.1 }) (λ _. refl)
+coded_draft = code_by (ℕ × SettingsModel) (coded× coded_ℕ coded_settings) (λ d. (d.read, d.settings)) (λ p. record { read = p.0; settings = p.1 }) (λ _. refl)
 
 -- nothing is read
 abbrev pub first_draft : Drafted
 first_draft = record {
   read = 0;
-  setup = record {
+  settings = record {
     listed = [];
     strategy = DownAll;
     margin = 1;
@@ -39,21 +39,21 @@ first_draft = record {
 -- each setting is in its range, the addresses once they are read
 pub record IsDraft (d : Drafted) : Type 0 where
   pub count : d.read ≤ 9
-  pub listed : 1 ≤ d.read → IsListing d.setup.listed
-  pub strategy : IsStrategy d.setup.strategy
-  pub margin : IsWithin 1000000 d.setup.margin
-  pub deadline : IsWithin 1000000 d.setup.deadline
-  pub stable : IsWithin 1000000 d.setup.stable
-  pub shards : IsWithin 1000 d.setup.shards
-  pub buffer : IsWithin 100000 d.setup.buffer
-  pub threshold : IsWithin 1000 d.setup.threshold
-  pub limit : IsWithin 1000 d.setup.limit
+  pub listed : 1 ≤ d.read → IsListing d.settings.listed
+  pub strategy : IsStrategy d.settings.strategy
+  pub margin : IsWithin 1000000 d.settings.margin
+  pub deadline : IsWithin 1000000 d.settings.deadline
+  pub stable : IsWithin 1000000 d.settings.stable
+  pub shards : IsWithin 1000 d.settings.shards
+  pub buffer : IsWithin 100000 d.settings.buffer
+  pub threshold : IsWithin 1000 d.settings.threshold
+  pub limit : IsWithin 1000 d.settings.limit
 
 -- the line is the next header, and sets its setting
 pub record ReadsHeader (line : List ℕ) (old new : Drafted) : Type 0 where
   pub which : Header
   pub next : slice_get headers old.read ≡ Some which
-  pub sets : SetsHeader which line old.setup new.setup
+  pub sets : SetsHeader which line old.settings new.settings
   pub count : new.read ≡ old.read + 1
 
 -- the next header, and whether it is the ninth; refused exactly where the line is not the next header
@@ -70,14 +70,14 @@ RefusesValue {T} Spells BadHeader = (value : T) → Spells value → ⊥
 RefusesValue Spells NoMemory = Unit {0}
 
 -- the words spell these addresses, of which there are 1 to 32 different ones
-abbrev pub SpellsAddresses : List (List ℕ) → List Endpoint → Type 0
+abbrev pub SpellsAddresses : List (List ℕ) → List AddressModel → Type 0
 SpellsAddresses ws listed = AllZip SpellsAddress ws listed × IsListing listed
 
 -- one more address
-pub record MayFollow (listed : List Endpoint) (a : Endpoint) : Type 0 where
+pub record MayFollow (listed : List AddressModel) (a : AddressModel) : Type 0 where
   pub room : length listed < 32
   pub other : Contains listed a → ⊥
 
 -- the word spells one more address
-abbrev pub SpellsNext : List ℕ → List Endpoint → Endpoint → Type 0
+abbrev pub SpellsNext : List ℕ → List AddressModel → AddressModel → Type 0
 SpellsNext word listed a = SpellsAddress word a × MayFollow listed a

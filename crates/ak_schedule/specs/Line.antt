@@ -17,7 +17,7 @@ without_cr [] = []
 without_cr (b ∷ []) = if b == 13 then [] else b ∷ []
 without_cr (b ∷ c ∷ bs) = b ∷ without_cr (c ∷ bs)
 
--- behind a last LF no further line begins
+-- after a last LF no further line begins
 abbrev pub begun : List (List ℕ) → List (List ℕ)
 begun [] = []
 begun ([] ∷ []) = []
@@ -43,16 +43,16 @@ pub record IsPassedOver (line : List ℕ) : Type 0 where
   pub empty : (words line ≡ []) ⊎ (is_comment line ≡ true)
 
 -- a text is cut at its first such byte
-pub record IsFirstPart (byte : ℕ) (bytes front rest : List ℕ) : Type 0 where
-  pub parts : slice_split (λ b. b == byte) bytes ≡ front ∷ slice_split (λ b. b == byte) rest
-  pub shorter : length front + length rest < length bytes
+pub record IsFirstPart (byte : ℕ) (bytes prefix rest : List ℕ) : Type 0 where
+  pub parts : slice_split (λ b. b == byte) bytes ≡ prefix ∷ slice_split (λ b. b == byte) rest
+  pub shorter : length prefix + length rest < length bytes
 
--- the first line of a text, and the lines behind it
+-- the first line of a text, and the lines after it
 pub record IsFirstLine (bytes line rest : List ℕ) : Type 0 where
   pub first : lines bytes ≡ line ∷ lines rest
   pub shorter : length rest < length bytes
 
--- the first word of a line, and the words behind it
+-- the first word of a line, and the words after it
 pub record IsFirstWord (line word rest : List ℕ) : Type 0 where
   pub first : words line ≡ word ∷ words rest
   pub not_empty : begins word ≡ true

@@ -2,7 +2,7 @@
 use Rattle.std.specs.Prelude.{◌≡◌, ℕ, ◌-◌, ◌^◌, ◌<◌, ◌≤◌, List, [], ◌∷◌, ◌++◌, length, codes}
 use Rattle.std.specs.List.{AllZip, AllByRecursion}
 use Rattle.std.specs.Fmt.{decimal}
-use Rattle.ak_address.specs.Unique.{Endpoint, IsAddress, IsUnique}
+use Rattle.ak_address.specs.Unique.{AddressModel, IsAddress, IsUnique}
 use Rattle.ak_address.specs.Spelling.{IsNumber, SpellsAddress, SpellsUnique, address_text, unique_text}
 use Rattle.ak_schedule.specs.declared.settings.Strategy.{Strategy}
 use Rattle.ak_schedule.specs.declared.settings.Strategy.TheVariants.{StaticQuorum, KeepMajority, DownAll}
@@ -10,7 +10,7 @@ use Rattle.ak_schedule.specs.declared.event.Event.{Event}
 use Rattle.ak_schedule.specs.declared.event.Event.TheVariants.{Start, Found, Join, Tick, Deliver, Leave, Down, Offer, Stop}
 use Rattle.ak_schedule.specs.declared.settings.Header as header
 use Rattle.ak_schedule.specs.Line.{words, most_bytes}
-use Rattle.ak_schedule.specs.Settings.{Setup, IsListing}
+use Rattle.ak_schedule.specs.Settings.{SettingsModel, IsListing}
 
 -- a word is a number from least to most
 pub record SpellsNumber (word : List ℕ) (least most n : ℕ) : Type 0 where
@@ -28,14 +28,14 @@ SpellsStrategy ws (StaticQuorum quorum) =
 SpellsStrategy ws KeepMajority = ws ≡ codes "strategy" ∷ codes "keep-majority" ∷ []
 SpellsStrategy ws DownAll = ws ≡ codes "strategy" ∷ codes "down-all" ∷ []
 
-abbrev pub SpellsListing : List (List ℕ) → List Endpoint → Type 0
+abbrev pub SpellsListing : List (List ℕ) → List AddressModel → Type 0
 SpellsListing ws listed =
     (names : List (List ℕ)) × (ws ≡ codes "listed" ∷ names) × AllZip SpellsAddress names listed × IsListing listed
 
 -- a header line with these words gives the setting its value, and leaves the others
-abbrev pub Sets : header.Header → List (List ℕ) → Setup → Setup → Type 0
+abbrev pub Sets : header.Header → List (List ℕ) → SettingsModel → SettingsModel → Type 0
 Sets header.TheVariants.Listed ws old new =
-    (listed : List Endpoint) × SpellsListing ws listed × (new ≡ record old { listed = listed })
+    (listed : List AddressModel) × SpellsListing ws listed × (new ≡ record old { listed = listed })
 Sets header.TheVariants.Strategy ws old new =
     (strategy : Strategy) × SpellsStrategy ws strategy × (new ≡ record old { strategy = strategy })
 Sets header.TheVariants.Margin ws old new = (n : ℕ) × SpellsSetting (codes "margin") 1000000 ws n × (new ≡ record old { margin = n })
@@ -77,7 +77,7 @@ pub record SpellsEvent (line : List ℕ) (event : Event) : Type 0 where
   pub words : SpellsWords (words line) event
 
 -- a header line, which is not too long
-pub record SetsHeader (which : header.Header) (line : List ℕ) (old new : Setup) : Type 0 where
+pub record SetsHeader (which : header.Header) (line : List ℕ) (old new : SettingsModel) : Type 0 where
   pub short : length line ≤ most_bytes
   pub words : Sets which (words line) old new
 

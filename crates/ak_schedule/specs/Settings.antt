@@ -3,12 +3,12 @@ use Rattle.std.specs.Prelude.{◌≡◌, ◌≢◌, ℕ, ◌≤◌, ◌⊎◌, B
 use Rattle.std.proofs.Common.{inl, inr}
 use Rattle.std.specs.Coded.{Coded, code_by, coded×, coded⊎, coded_ℕ, coded_bool, coded_list}
 use Rattle.std.specs.List.{AllByRecursion, AllPairs}
-use Rattle.ak_address.specs.Unique.{Endpoint, IsAddress, coded_address}
+use Rattle.ak_address.specs.Unique.{AddressModel, IsAddress, coded_address}
 use Rattle.ak_schedule.specs.declared.settings.Strategy.{Strategy}
 use Rattle.ak_schedule.specs.declared.settings.Strategy.TheVariants.{StaticQuorum, KeepMajority, DownAll}
 
-pub record Setup : Type 0 where
-  pub listed : List Endpoint
+pub record SettingsModel : Type 0 where
+  pub listed : List AddressModel
   pub strategy : Strategy
   pub margin : ℕ
   pub deadline : ℕ
@@ -24,7 +24,7 @@ pub record IsWithin (most n : ℕ) : Type 0 where
   pub to : n ≤ most
 
 -- 1 to 32 different addresses
-pub record IsListing (listed : List Endpoint) : Type 0 where
+pub record IsListing (listed : List AddressModel) : Type 0 where
   pub count : IsWithin 32 (length listed)
   pub addresses : AllByRecursion IsAddress listed
   pub different : AllPairs (λ a b. a ≢ b) listed
@@ -34,7 +34,7 @@ IsStrategy (StaticQuorum quorum) = IsWithin 32 quorum
 IsStrategy KeepMajority = Unit {0}
 IsStrategy DownAll = Unit {0}
 
-pub record IsSetup (s : Setup) : Type 0 where
+pub record IsSettings (s : SettingsModel) : Type 0 where
   pub listed : IsListing s.listed
   pub strategy : IsStrategy s.strategy
   pub margin : IsWithin 1000000 s.margin
@@ -71,9 +71,9 @@ abbrev pub coded_strategy : Coded Strategy
 coded_strategy = code_by (ℕ ⊎ Bool) (coded⊎ coded_ℕ coded_bool) strategy_number numbered_strategy numbered_again
 
 -- a setup is stored as its fields, in pairs
-abbrev pub coded_setup : Coded Setup
-coded_setup =
-    code_by (List Endpoint × (Strategy × (ℕ × (ℕ × (ℕ × (ℕ × (ℕ × (ℕ × ℕ))))))))
+abbrev pub coded_settings : Coded SettingsModel
+coded_settings =
+    code_by (List AddressModel × (Strategy × (ℕ × (ℕ × (ℕ × (ℕ × (ℕ × (ℕ × ℕ))))))))
     (coded× (coded_list coded_address) (coded× coded_strategy (coded× coded_ℕ (coded× coded_ℕ (coded× coded_ℕ (coded× coded_ℕ (coded× coded_ℕ (coded× coded_ℕ coded_ℕ))))))))
     (λ s. (s.listed, (s.strategy, (s.margin, (s.deadline, (s.stable, (s.shards, (s.buffer, (s.threshold, s.limit)))))))))
     (λ p. record {

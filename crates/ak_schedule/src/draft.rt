@@ -34,9 +34,9 @@ impl Model for Draft {
 
     ghost coded = { coded_draft };
 
-    ghost view = { λ d. record { read = d.read; setup = record { listed = d.listed.items; strategy = d.strategy; margin = d.margin; deadline = d.deadline; stable = d.stable; shards = d.shards; buffer = d.buffer; threshold = d.threshold; limit = d.limit } } };
+    ghost view = { λ d. record { read = d.read; settings = record { listed = d.listed.items; strategy = d.strategy; margin = d.margin; deadline = d.deadline; stable = d.stable; shards = d.shards; buffer = d.buffer; threshold = d.threshold; limit = d.limit } } };
 
-    ghost invariant = { λ d. IsDraft (record { read = d.read; setup = record { listed = d.listed.items; strategy = d.strategy; margin = d.margin; deadline = d.deadline; stable = d.stable; shards = d.shards; buffer = d.buffer; threshold = d.threshold; limit = d.limit } }) };
+    ghost invariant = { λ d. IsDraft (record { read = d.read; settings = record { listed = d.listed.items; strategy = d.strategy; margin = d.margin; deadline = d.deadline; stable = d.stable; shards = d.shards; buffer = d.buffer; threshold = d.threshold; limit = d.limit } }) };
 }
 
 impl Draft {
@@ -74,7 +74,7 @@ impl Draft {
     /// The settings, exactly where all nine headers are read. Else the draft is given back.
     pub fn finish(self) -> Result<Settings, Draft>
         ensures { MatchResult result
-            (λ settings. (self.read ≡ HEADERS) × (settings ≡ self.setup))
+            (λ settings. (self.read ≡ HEADERS) × (settings ≡ self.settings))
             (λ draft. (self.read ≢ HEADERS) × (draft ≡ self)) }
     {
         if self.read != HEADERS {

@@ -58,7 +58,7 @@ pub(crate) fn read_strategy(line: &[u8]) -> Option<Strategy>
     bare_strategy(name)
 }
 
-// A quorum, from the words behind its name.
+// A quorum, from the words after its name.
 fn read_quorum(rest: &[u8]) -> Option<Strategy>
     ensures { MatchOption result
         ((s : Strategy) → SpellsStrategy (codes "strategy" ∷ codes "static-quorum" ∷ words rest.now) s → ⊥)
@@ -113,12 +113,12 @@ fn read_addresses(alloc: Global, names: &[u8]) -> Result<Vec<Address>, LineFault
 {
     let mut listed = Vec::new(alloc);
     let mut rest = names;
-    'names: while let Some((name, behind)) = next_word(rest) {
+    'names: while let Some((name, after_it)) = next_word(rest) {
         let address = next_address(alloc, name, &listed)?;
         if listed.push(address).is_err() {
             return Err(LineFault::NoMemory);
         }
-        rest = behind;
+        rest = after_it;
     }
     if listed.is_empty() {
         return Err(LineFault::BadHeader);

@@ -1,7 +1,7 @@
 ghost use Rattle.std.specs.Prelude.{◌≡◌, ◌≢◌, ℕ, List, [], ◌∷◌, ◌++◌, All};
 ghost use Rattle.ak_schedule.specs.Draft.{Drafted, ReadsHeader};
 ghost use Rattle.ak_schedule.specs.Line.{lines, words, without_cr, IsPassedOver};
-ghost use Rattle.ak_schedule.specs.Settings.{Setup};
+ghost use Rattle.ak_schedule.specs.Settings.{SettingsModel};
 ghost use Rattle.ak_schedule.specs.Schedule.{SpellsEvent, SetsHeader, IsSpelled, IsEvent, event_text};
 
 use crate::event::Event;
@@ -11,7 +11,7 @@ use crate::settings::Header;
 /// at most, and so the next draft.
 pub fn lines_are_read_one_way()
     ensures events { (line : List ℕ) (e f : Event) → SpellsEvent line e → SpellsEvent line f → e ≡ f }
-    ensures settings { (which : Header) (line : List ℕ) (old one other : Setup) → SetsHeader which line old one → SetsHeader which line old other → one ≡ other }
+    ensures settings { (which : Header) (line : List ℕ) (old one other : SettingsModel) → SetsHeader which line old one → SetsHeader which line old other → one ≡ other }
     ensures drafts { (line : List ℕ) (old one other : Drafted) → ReadsHeader line old one → ReadsHeader line old other → one ≡ other }
 {}
 
@@ -26,10 +26,10 @@ pub fn printed_events_are_read()
 /// asked first.
 pub fn passed_over_lines_spell_nothing()
     ensures events { (line : List ℕ) (e : Event) → IsPassedOver line → SpellsEvent line e → ⊥ }
-    ensures headers { (which : Header) (line : List ℕ) (old new : Setup) → IsPassedOver line → SetsHeader which line old new → ⊥ }
+    ensures headers { (which : Header) (line : List ℕ) (old new : SettingsModel) → IsPassedOver line → SetsHeader which line old new → ⊥ }
 {}
 
-/// A line ends with its LF or with the text, and no line begins behind a last LF.
+/// A line ends with its LF or with the text, and no line begins after a last LF.
 pub fn lines_end_at_line_feeds()
     ensures none { lines [] ≡ [] }
     ensures ended { (line rest : List ℕ) → All (λ b. b ≢ 10) line → lines (line ++ 10 ∷ rest) ≡ without_cr line ∷ lines rest }

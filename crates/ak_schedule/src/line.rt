@@ -6,7 +6,7 @@ ghost use Rattle.ak_schedule.specs.Line.{lines, words, without_cr, is_comment, I
 pub const MOST_BYTES: usize = 4096;
 
 /// The first line of the text, without its line end and without one CR before that, and the bytes
-/// behind it. A last line may end with the text. `None` exactly where the text has no line. Takes
+/// after it. A last line may end with the text. `None` exactly where the text has no line. Takes
 /// no memory.
 pub fn next_line(bytes: &[u8]) -> Option<(&[u8], &[u8])>
     ensures { MatchOption result (lines bytes.now ≡ []) (λ parts. IsFirstLine bytes.now parts.0.now parts.1.now) }
@@ -23,7 +23,7 @@ pub fn next_line(bytes: &[u8]) -> Option<(&[u8], &[u8])>
     }
 }
 
-/// The first word of the line, and the bytes behind it. Words stand between spaces alone; a tab is
+/// The first word of the line, and the bytes after it. Words stand between spaces alone; a tab is
 /// no blank. `None` exactly where the line has no word. Takes no memory.
 pub fn next_word(line: &[u8]) -> Option<(&[u8], &[u8])>
     ensures { MatchOption result (words line.now ≡ []) (λ parts. IsFirstWord line.now parts.0.now parts.1.now) }
@@ -61,25 +61,25 @@ fn begins_comment(line: &[u8]) -> bool
     }
 }
 
-// What stands before the first such byte, and what stands behind it.
+// What stands before the first such byte, and what stands after it.
 fn cut(bytes: &[u8], byte: u8) -> Option<(&[u8], &[u8])>
     ensures { MatchOption result
         (slice_split (λ b. b == byte) bytes.now ≡ bytes.now ∷ [])
         (λ parts. IsFirstPart byte bytes.now parts.0.now parts.1.now) }
 {
-    let Some(place) = place_of(bytes, byte) else {
+    let Some(index) = index_of(bytes, byte) else {
         return None;
     };
-    Some((&bytes[..place], &bytes[place + 1..]))
+    Some((&bytes[..index], &bytes[index + 1..]))
 }
 
-fn place_of(bytes: &[u8], byte: u8) -> Option<usize>
+fn index_of(bytes: &[u8], byte: u8) -> Option<usize>
     ensures { result ≡ position (λ b. b == byte) bytes.now }
 {
     bytes.iter().position(|b| *b == byte)
 }
 
-// The place of the first byte that is no space.
+// The index of the first byte that is no space.
 fn first_letter(line: &[u8]) -> Option<usize>
     ensures { result ≡ position (λ b. not (b == 32)) line.now }
 {

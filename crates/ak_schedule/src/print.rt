@@ -20,7 +20,7 @@ pub fn print_event(event: &Event, out: &mut Vec<u8>) -> Result<(), AllocError>
     printed
 }
 
-// Where memory runs out some of it may stand behind what `out` had. So for each function below.
+// Where memory runs out some of it may stand after what `out` had. So for each function below.
 fn append_event(event: &Event, out: &mut Vec<u8>) -> Result<(), AllocError>
     ensures ok { OnOk result (out.new.items ≡ out.old.items ++ event_text event.now) }
     ensures err { OnErr result (take (vec_len out.old) out.new.items ≡ out.old.items) }

@@ -41,7 +41,7 @@ fn read_words(alloc: Global, line: &[u8]) -> Result<Event, LineFault>
     read_kind(alloc, kind, rest)
 }
 
-// The event of this kind, from the words behind its name.
+// The event of this kind, from the words after its name.
 fn read_kind(alloc: Global, kind: Kind, rest: &[u8]) -> Result<Event, LineFault>
     ensures { Reads (SpellsWords (kind_name kind ∷ words rest.now)) result }
 {

@@ -52,15 +52,15 @@ pub struct Settings {
 }
 
 impl Model for Settings {
-    ghost use Rattle.ak_schedule.specs.Settings.{Setup, coded_setup, IsSetup};
+    ghost use Rattle.ak_schedule.specs.Settings.{SettingsModel, coded_settings, IsSettings};
 
-    ghost Value = { Setup };
+    ghost Value = { SettingsModel };
 
-    ghost coded = { coded_setup };
+    ghost coded = { coded_settings };
 
     ghost view = { λ s. record { listed = s.listed.items; strategy = s.strategy; margin = s.margin; deadline = s.deadline; stable = s.stable; shards = s.shards; buffer = s.buffer; threshold = s.threshold; limit = s.limit } };
 
-    ghost invariant = { λ s. IsSetup (record { listed = s.listed.items; strategy = s.strategy; margin = s.margin; deadline = s.deadline; stable = s.stable; shards = s.shards; buffer = s.buffer; threshold = s.threshold; limit = s.limit }) };
+    ghost invariant = { λ s. IsSettings (record { listed = s.listed.items; strategy = s.strategy; margin = s.margin; deadline = s.deadline; stable = s.stable; shards = s.shards; buffer = s.buffer; threshold = s.threshold; limit = s.limit }) };
 }
 
 impl Settings {

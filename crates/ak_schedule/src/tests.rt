@@ -74,10 +74,10 @@ const HEADER_LINES: [&str; 9] = [
 ];
 
 // The settings of nine header lines, one of them another; or how many are read before the refused one.
-fn settings_with(alloc: Global, place: usize, other: &str) -> Result<Settings, usize> {
+fn settings_with(alloc: Global, index: usize, other: &str) -> Result<Settings, usize> {
     let mut draft = Draft::new(alloc);
     'headers: for (i, usual) in HEADER_LINES.iter().enumerate() {
-        let line = if i == place { other } else { *usual };
+        let line = if i == index { other } else { *usual };
         let Ok(done) = draft.header(alloc, line.as_bytes()) else {
             return Err(i);
         };
@@ -115,8 +115,8 @@ fn headers_are_read_in_their_order_and_ranges(rt: HostRuntime) -> Result<(), Fai
         (8, "limit 1"),
         (8, "limit 1000"),
     ];
-    for (place, line) in accepted {
-        assert!(rt; settings_with(rt.alloc(), place, line).is_ok());
+    for (index, line) in accepted {
+        assert!(rt; settings_with(rt.alloc(), index, line).is_ok());
     }
     let refused = [
         (0, "listed"),
@@ -151,8 +151,8 @@ fn headers_are_read_in_their_order_and_ranges(rt: HostRuntime) -> Result<(), Fai
         (8, "limit 1001"),
         (8, "limit\t1"),
     ];
-    for (place, line) in refused {
-        assert_eq!(rt; settings_with(rt.alloc(), place, line).err(), Some(place));
+    for (index, line) in refused {
+        assert_eq!(rt; settings_with(rt.alloc(), index, line).err(), Some(index));
     }
     Ok(())
 }

@@ -69,11 +69,11 @@ impl Actions {
         self.list.len()
     }
 
-    /// The action at a place from 0 on, and None past the end.
-    pub fn at(&self, place: usize) -> Option<&Action>
-        ensures { option_copied result ≡ slice_get self.now place }
+    /// The action at an index from 0 on, and None past the end.
+    pub fn at(&self, index: usize) -> Option<&Action>
+        ensures { option_copied result ≡ slice_get self.now index }
     {
-        self.list.get(place)
+        self.list.get(index)
     }
 
     /// The actions, in order.

@@ -1,11 +1,11 @@
 -- Each step of a node keeps what it knows the fold of the history, and so does each event of a world.
 use Rattle.std.proofs.Common.{◌≡◌, ◌≢◌, ℕ, zero, suc, ◌+◌, ◌≤◌, nat_lt, nat_le, Bool, true, false, not, ◌&&◌, if◌then◌else◌, List, [], ◌∷◌, ◌++◌, slice_get, Some, Ok, Err, refl, sym, ap, ◌∙◌, subst, arith}
 use Rattle.std.proofs.lemmas.Option.{same_Some}
-use Rattle.ak_address.specs.Unique.{Endpoint, Process}
+use Rattle.ak_address.specs.Unique.{AddressModel, UniqueModel}
 use Rattle.ak_address.specs.Uniques.{UniqueSet, with_one}
 use Rattle.std.specs.FinMap as map
 use Rattle.ak_member.specs.Standing as standing
-use Rattle.ak_member.specs.View.{View, after_entry, joined_views}
+use Rattle.ak_member.specs.View.{View, after_entry, merged_views}
 use Rattle.ak_clock.specs.Version.{count, covers, relation, relation_by}
 use Rattle.ak_clock.proofs.VersionLaws.{count-merged, count-bumped_author, covers_from_test}
 use Rattle.ak_history.specs.declared.entry.Entry.{Entry}
@@ -23,13 +23,13 @@ use Rattle.ak_wire.specs.declared.action.Action.{Action}
 use Rattle.ak_wire.specs.declared.action.Action.TheVariants as action
 use Rattle.ak_history.specs.History.{entries_of, IsNumbered, view}
 use Rattle.ak_gossip.specs.Gossip.{GossipState, is_known, seen_by, same, both, taken, noted, most_uniques}
-use Rattle.ak_node.specs.Node.{Outcome, nothing, refused, update, and_sends, to_process, is_member, is_listed, is_taken, most_at_join, on_join, found, join, is_answered, is_gone, on_received, on_gossip, on_message, is_for, rule, is_other, step}
+use Rattle.ak_node.specs.Node.{Outcome, nothing, refused, update, and_sends, to_process, is_member, is_listed, has_member_beside, most_at_join, on_join, found, join, is_answered, is_gone, on_received, on_gossip, on_message, is_for, rule, is_other, step}
 use Rattle.ak_wire.specs.Wire.{sent}
 use Rattle.ak_world.specs.World.{recorded}
 use Rattle.ak_world.specs.Fold.{IsFold}
 use Rattle.ak_world.proofs.WorldLemmas.{sent-append, recorded-append}
-use Rattle.ak_history.proofs.HistoryLemmas.{bounded-front, bounded-update, entries-author, entries-others}
-use Rattle.ak_history.proofs.ViewsJoined.{view-merged, view-later, view-update}
+use Rattle.ak_history.proofs.HistoryLemmas.{bounded-prefix, bounded-update, entries-author, entries-others}
+use Rattle.ak_history.proofs.ViewsMerged.{view-merged, view-later, view-update}
 
 -- ---- what a message carries
 abbrev pub CarriesFold : List Entry → Message → Type 0
@@ -38,51 +38,51 @@ CarriesFold history (message.Welcome g) = IsFold history g
 CarriesFold history (message.Gossip g) = IsFold history g
 
 pub record Packets (history : List Entry) (packets : List Envelope) : Type 0 where
-  pub at : (place : ℕ) (e : Envelope) → slice_get packets place ≡ Some e → CarriesFold history e.message
+  pub at : (index : ℕ) (e : Envelope) → slice_get packets index ≡ Some e → CarriesFold history e.message
 
 pub no_packets : (history : List Entry) → Packets history []
-no_packets history = record { at = λ place e is. absurd (cc) }
+no_packets history = record { at = λ index e is. absurd (cc) }
 
 one_packet : (history : List Entry) (e : Envelope) → CarriesFold history e.message → Packets history (e ∷ [])
 one_packet history e fold = record { at = each }
   where
-    each : (place : ℕ) (x : Envelope) → slice_get (e ∷ []) place ≡ Some x → CarriesFold history x.message
+    each : (index : ℕ) (x : Envelope) → slice_get (e ∷ []) index ≡ Some x → CarriesFold history x.message
     each zero x is = subst (λ (y : Envelope). CarriesFold history y.message) (same_Some e x is) fold
-    each (suc place) x is = absurd (cc)
+    each (suc index) x is = absurd (cc)
 
 pub more_packets : (history : List Entry) (a b : List Envelope) → Packets history a → Packets history b → Packets history (a ++ b)
 more_packets history [] b p q = q
 more_packets history (e ∷ a) b p q = record { at = first_or (p.at 0) (more_packets history a b (record { at = λ i. p.at (suc i) }) q) }
   where
-    first_or : ((x : Envelope) → Some e ≡ Some x → CarriesFold history x.message) → Packets history (a ++ b) → (place : ℕ) (x : Envelope) → slice_get (e ∷ (a ++ b)) place ≡ Some x → CarriesFold history x.message
+    first_or : ((x : Envelope) → Some e ≡ Some x → CarriesFold history x.message) → Packets history (a ++ b) → (index : ℕ) (x : Envelope) → slice_get (e ∷ (a ++ b)) index ≡ Some x → CarriesFold history x.message
     first_or here rest zero x is = here x is
-    first_or here rest (suc place) x is = rest.at place x is
+    first_or here rest (suc index) x is = rest.at index x is
 
 -- ---- one step of a node
 -- a node counts each of its own updates, and what it knows is the fold
-pub record Knows (history : List Entry) (me : Process) (g : GossipState) : Type 0 where
+pub record Knows (history : List Entry) (me : UniqueModel) (g : GossipState) : Type 0 where
   pub own : count g.version me ≡ entries_of me history
   pub fold : IsFold history g
 
 -- The history after what a node did is numbered, has new entries of this node alone, and what was a fold is one still.
 -- What the node knows then, and what it sends, are folds of it.
-pub record Good (history : List Entry) (me : Process) (o : Outcome) : Type 0 where
+pub record Good (history : List Entry) (me : UniqueModel) (o : Outcome) : Type 0 where
   pub later : List Entry
   pub made : recorded me o.1 history ≡ later
   pub numbered : IsNumbered later
   pub same_me : o.0.me ≡ me
   pub knows : Knows later me o.0.gossip
-  pub others : (u : Process) → u ≢ me → entries_of u later ≡ entries_of u history
+  pub others : (u : UniqueModel) → u ≢ me → entries_of u later ≡ entries_of u history
   pub kept : (g : GossipState) → IsFold history g → IsFold later g
   pub packets : Packets later (sent o.1)
 
-either : {history : List Entry} {me : Process} (b : Bool) {o p : Outcome} → Good history me o → Good history me p → Good history me (if b then o else p)
+either : {history : List Entry} {me : UniqueModel} (b : Bool) {o p : Outcome} → Good history me o → Good history me p → Good history me (if b then o else p)
 either true x y = x
 either false x y = y
 
 module _ (history : List Entry) (is_numbered : IsNumbered history) where
   -- actions that neither update nor send
-  quiet : (n : State) (me : Process) (actions : List Action) → n.me ≡ me → Knows history me n.gossip → recorded me actions history ≡ history → sent actions ≡ [] → Good history me (n, actions)
+  quiet : (n : State) (me : UniqueModel) (actions : List Action) → n.me ≡ me → Knows history me n.gossip → recorded me actions history ≡ history → sent actions ≡ [] → Good history me (n, actions)
   quiet n me actions same k made none = record {
     later = history;
     made = made;
@@ -123,12 +123,12 @@ module _ (history : List Entry) (is_numbered : IsNumbered history) where
         others = λ u apart. entries-others entry history u apart;
         kept = λ g fold. record {
           shown = fold.shown ∙ sym (view-later entry history g.version (refl, is_numbered) fold.bounded);
-          bounded = bounded-front (entry ∷ []) history g.version fold.bounded;
+          bounded = bounded-prefix (entry ∷ []) history g.version fold.bounded;
         };
         packets = no_packets (entry ∷ history);
       }
 
-  join_good : (target : Endpoint) (n : State) → Knows history n.me n.gossip → Good history n.me (join target n)
+  join_good : (target : AddressModel) (n : State) → Knows history n.me n.gossip → Good history n.me (join target n)
   join_good target n k = either (is_member n) (nothing_good n k) (record {
     later = history;
     made = refl;
@@ -144,7 +144,7 @@ module _ (history : List Entry) (is_numbered : IsNumbered history) where
   found_good n k = either (is_known n.gossip.view.standings n.me) (nothing_good n k) (update_good (Joined n.me ∷ []) (record n { founder = true }) k)
 
 -- then the node sends what it knows
-and_sends_good : (history : List Entry) (me : Process) (what : GossipState → Message) (to : Process) (o : Outcome)
+and_sends_good : (history : List Entry) (me : UniqueModel) (what : GossipState → Message) (to : UniqueModel) (o : Outcome)
     → ((h : List Entry) (g : GossipState) → IsFold h g → CarriesFold h (what g)) → Good history me o → Good history me (and_sends what to o)
 and_sends_good history me what to o carries good = record {
   later = good.later;
@@ -161,22 +161,22 @@ and_sends_good history me what to o carries good = record {
 }
 
 module _ (history : List Entry) (is_numbered : IsNumbered history) where
-  on_join_good : (from : Process) (n : State) → Knows history n.me n.gossip → Good history n.me (on_join from n)
+  on_join_good : (from : UniqueModel) (n : State) → Knows history n.me n.gossip → Good history n.me (on_join from n)
   on_join_good from n k =
       either (not (is_member n)) (refused_good history is_numbered 3 n k)
       (either (not (is_listed n.settings.listed from.address)) (refused_good history is_numbered 4 n k)
       (either (standing.is_member n.gossip.view.standings from) (and_sends_good history n.me message.Welcome from (nothing n) (λ h g fold. fold) (nothing_good history is_numbered n k))
       (either (is_known n.gossip.view.standings from) (nothing_good history is_numbered n k)
-      (either (is_taken from n.gossip.view.standings) (nothing_good history is_numbered n k)
+      (either (has_member_beside from n.gossip.view.standings) (nothing_good history is_numbered n k)
       (either (nat_le most_at_join (map.len n.gossip.view.standings)) (refused_good history is_numbered 6 n k)
       (and_sends_good history n.me message.Welcome from (update (Joined from ∷ []) n) (λ h g fold. fold) (update_good history is_numbered (Joined from ∷ []) n k)))))))
 
 -- ---- a gossip that comes
-seen_knows : (history : List Entry) (me : Process) (b : Bool) (g : GossipState) (seen : UniqueSet) → Knows history me g → Knows history me (if b then record g { seen = seen } else g)
+seen_knows : (history : List Entry) (me : UniqueModel) (b : Bool) (g : GossipState) (seen : UniqueSet) → Knows history me g → Knows history me (if b then record g { seen = seen } else g)
 seen_knows history me true g seen k = record { own = k.own; fold = record { shown = k.fold.shown; bounded = k.fold.bounded } }
 seen_knows history me false g seen k = k
 
-module _ (history : List Entry) (is_numbered : IsNumbered history) (me : Process) (own incoming : GossipState) (k : Knows history me own) (fold : IsFold history incoming) where
+module _ (history : List Entry) (is_numbered : IsNumbered history) (me : UniqueModel) (own incoming : GossipState) (k : Knows history me own) (fold : IsFold history incoming) where
   noted_knows : (g : GossipState) → Knows history me g → Knows history me (seen_by me g)
   noted_knows g h = seen_knows history me (standing.is_member g.view.standings me) g (with_one g.seen me) h
 
@@ -203,8 +203,8 @@ module _ (history : List Entry) (is_numbered : IsNumbered history) (me : Process
         omega arith;
     fold = record {
       shown =
-          ap (λ (v : View). joined_views v incoming.view) k.fold.shown
-          ∙ ap (λ (v : View). joined_views (view history own.version) v) fold.shown
+          ap (λ (v : View). merged_views v incoming.view) k.fold.shown
+          ∙ ap (λ (v : View). merged_views (view history own.version) v) fold.shown
           ∙ view-merged history own.version incoming.version is_numbered;
       bounded = λ u.
           let is = count-merged own.version incoming.version u in
@@ -218,7 +218,7 @@ module _ (history : List Entry) (is_numbered : IsNumbered history) (me : Process
   noted_is = by_relation (covers own.version incoming.version) (covers incoming.version own.version) refl refl
 
 -- the answer of receiving, by its tests
-by_tests_good : (history : List Entry) (is_numbered : IsNumbered history) (from : Process) (n : State) (incoming : GossipState) (a b : Bool) (own theirs union : ℕ) (r : Received × GossipState)
+by_tests_good : (history : List Entry) (is_numbered : IsNumbered history) (from : UniqueModel) (n : State) (incoming : GossipState) (a b : Bool) (own theirs union : ℕ) (r : Received × GossipState)
     → Knows history n.me n.gossip → Knows history n.me r.1
     → Good history n.me (on_received from incoming n (if a then Err (fault.ForeignCount own theirs) else (if b then Err (fault.TooManyUniques union) else Ok r)))
 by_tests_good history is_numbered from n incoming true b own theirs union r k l = refused_good history is_numbered 5 n k
@@ -229,16 +229,16 @@ by_tests_good history is_numbered from n incoming false false own theirs union r
     (nothing_good history is_numbered (record n { gossip = r.1 }) l)
 
 module _ (history : List Entry) (is_numbered : IsNumbered history) where
-  on_gossip_good : (from : Process) (incoming : GossipState) (n : State) → Knows history n.me n.gossip → IsFold history incoming → Good history n.me (on_gossip from incoming n)
+  on_gossip_good : (from : UniqueModel) (incoming : GossipState) (n : State) → Knows history n.me n.gossip → IsFold history incoming → Good history n.me (on_gossip from incoming n)
   on_gossip_good from incoming n k fold =
       either (is_known incoming.view.standings n.me)
       (by_tests_good history is_numbered from n incoming
-      (nat_lt (count n.gossip.version n.me) (count incoming.version n.me)) (nat_lt most_uniques (map.len (standing.joined_standings n.gossip.view.standings incoming.view.standings)))
-      (count n.gossip.version n.me) (count incoming.version n.me) (map.len (standing.joined_standings n.gossip.view.standings incoming.view.standings))
+      (nat_lt (count n.gossip.version n.me) (count incoming.version n.me)) (nat_lt most_uniques (map.len (standing.merged_standings n.gossip.view.standings incoming.view.standings)))
+      (count n.gossip.version n.me) (count incoming.version n.me) (map.len (standing.merged_standings n.gossip.view.standings incoming.view.standings))
       (noted n.me (taken (relation n.gossip.version incoming.version) n.gossip incoming)) k (noted_is history is_numbered n.me n.gossip incoming k fold))
       (nothing_good history is_numbered n k)
 
-  on_message_good : (from : Process) (m : Message) (n : State) → Knows history n.me n.gossip → CarriesFold history m → Good history n.me (on_message from m n)
+  on_message_good : (from : UniqueModel) (m : Message) (n : State) → Knows history n.me n.gossip → CarriesFold history m → Good history n.me (on_message from m n)
   on_message_good from message.Join n k fold = on_join_good history is_numbered from n k
   on_message_good from (message.Welcome g) n k fold = on_gossip_good from g n k fold
   on_message_good from (message.Gossip g) n k fold = on_gossip_good from g n k fold
@@ -255,7 +255,7 @@ module _ (history : List Entry) (is_numbered : IsNumbered history) where
   rule_good (event.Packet e) n brings k =
       either (is_for n.me e) (on_message_good e.from e.message n k brings) (quiet history is_numbered n n.me (action.Dead ∷ []) refl k refl refl)
 
-closed_good : (history : List Entry) (me : Process) (b : Bool) (o : Outcome) → Good history me o → Good history me (if b then (o.0, o.1 ++ action.View ∷ []) else o)
+closed_good : (history : List Entry) (me : UniqueModel) (b : Bool) (o : Outcome) → Good history me o → Good history me (if b then (o.0, o.1 ++ action.View ∷ []) else o)
 closed_good history me true o good = record {
   later = good.later;
   made = recorded-append me o.1 (action.View ∷ []) history ∙ good.made;

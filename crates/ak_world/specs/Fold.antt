@@ -25,5 +25,5 @@ Carries g (message.TheVariants.Gossip known) = known ≡ g
 -- a node of the world knows this, or a packet of it carries it
 abbrev pub IsIn : GossipState → WorldState → Type 0
 IsIn g w =
-    ((place : ℕ) × (n : State) × (slice_get w.nodes place ≡ Some n) × (n.gossip ≡ g))
-    ⊎ ((place : ℕ) × (e : Envelope) × (slice_get w.packets place ≡ Some e) × Carries g e.message)
+    ((index : ℕ) × (n : State) × (slice_get w.nodes index ≡ Some n) × (n.gossip ≡ g))
+    ⊎ ((index : ℕ) × (e : Envelope) × (slice_get w.packets index ≡ Some e) × Carries g e.message)

@@ -1,4 +1,4 @@
 pub mod Fold
 pub mod StepText
 pub mod World
-pub mod WorldWords
+pub mod WorldContracts

@@ -3,8 +3,8 @@
 use Rattle.std.specs.Prelude.{ℕ, ◌+◌, ◌-◌, Bool, true, false, not, nat_le, ◌==◌, List, [], ◌∷◌, ◌++◌, length, slice_get, slice_set, Option, Some, None, Result, Ok, Err, if◌then◌else◌}
 use Rattle.std.specs.List.{list_any, position}
 use Rattle.std.specs.Ordering.{is_eq}
-use Rattle.ak_address.specs.Unique.{Endpoint, Process, address_cmp, unique_cmp}
-use Rattle.ak_schedule.specs.Settings.{Setup}
+use Rattle.ak_address.specs.Unique.{AddressModel, UniqueModel, address_cmp, unique_cmp}
+use Rattle.ak_schedule.specs.Settings.{SettingsModel}
 use Rattle.ak_schedule.specs.declared.event.Event.{Event}
 use Rattle.ak_schedule.specs.declared.event.Event.TheVariants.{Start, Found, Join, Tick, Deliver, Leave, Down, Offer, Stop}
 use Rattle.ak_history.specs.declared.entry.Entry.{Entry}
@@ -34,11 +34,11 @@ abbrev pub empty_world : WorldState
 empty_world = record { nodes = []; packets = []; history = []; founded = false }
 
 -- a node is this process
-abbrev pub is_process : Process → State → Bool
+abbrev pub is_process : UniqueModel → State → Bool
 is_process u n = is_eq (unique_cmp n.me u)
 
 -- which node a process is
-abbrev pub node_of : Process → WorldState → Option ℕ
+abbrev pub node_of : UniqueModel → WorldState → Option ℕ
 node_of u w = position (is_process u) w.nodes
 
 -- which node a packet reaches
@@ -46,11 +46,11 @@ abbrev pub receiver_of : Envelope → WorldState → Option ℕ
 receiver_of e w = position (λ n. is_for n.me e) w.nodes
 
 -- a node runs at the address
-abbrev pub is_used : Endpoint → WorldState → Bool
-is_used a w = list_any (λ n. is_eq (address_cmp n.me.address a)) w.nodes
+abbrev pub is_in_use : AddressModel → WorldState → Bool
+is_in_use a w = list_any (λ n. is_eq (address_cmp n.me.address a)) w.nodes
 
 -- The entries that actions add to a history: each has its author's next number.
-abbrev pub recorded : Process → List Action → List Entry → List Entry
+abbrev pub recorded : UniqueModel → List Action → List Entry → List Entry
 recorded author [] history = history
 recorded author (Update number effects ∷ actions) history =
     recorded author actions (record { author = author; number = entries_of author history + 1; effects = effects } ∷ history)
@@ -62,27 +62,27 @@ pub record Done : Type 0 where
   pub node : Option ℕ
   pub actions : List Action
 
--- the world after a step of the node at a place
+-- the world after a step of the node at an index
 abbrev pub stepped : ℕ → Outcome → WorldState → Done
-stepped place o w =
+stepped index o w =
     record {
       world = record w {
-        nodes = slice_set w.nodes place o.0;
+        nodes = slice_set w.nodes index o.0;
         packets = w.packets ++ sent o.1;
         history = recorded o.0.me o.1 w.history;
       };
-      node = Some place;
+      node = Some index;
       actions = o.1;
     }
 
--- the node at a place is given an event
+-- the node at an index is given an event
 abbrev pub gives : NodeEvent → ℕ → Option State → WorldState → Result Done Refused
-gives e place (Some n) w = Ok (stepped place (step e n) w)
-gives e place None w = Err refused.TheVariants.UnknownNode
+gives e index (Some n) w = Ok (stepped index (step e n) w)
+gives e index None w = Err refused.TheVariants.UnknownNode
 
 -- the process is given an event; one that was never started is refused
 abbrev pub acts : NodeEvent → Option ℕ → WorldState → Result Done Refused
-acts e (Some place) w = gives e place (slice_get w.nodes place) w
+acts e (Some index) w = gives e index (slice_get w.nodes index) w
 acts e None w = Err refused.TheVariants.UnknownNode
 
 -- a schedule may start this many processes
@@ -90,17 +90,17 @@ abbrev pub most_starts : ℕ
 most_starts = 64
 
 -- a process starts, with nothing known
-abbrev pub starts : Setup → Process → WorldState → Done
-starts setup u w =
+abbrev pub starts : SettingsModel → UniqueModel → WorldState → Done
+starts settings u w =
     record {
-      world = record w { nodes = w.nodes ++ started u setup ∷ [] };
+      world = record w { nodes = w.nodes ++ started u settings ∷ [] };
       node = Some (length w.nodes);
       actions = [];
     }
 
 -- a packet that reaches no process changes nothing
 abbrev pub arrives : Envelope → Option ℕ → WorldState → Result Done Refused
-arrives e (Some place) w = gives (event.TheVariants.Packet e) place (slice_get w.nodes place) w
+arrives e (Some index) w = gives (event.TheVariants.Packet e) index (slice_get w.nodes index) w
 arrives e None w = Ok (record { world = w; node = None; actions = [] })
 
 abbrev pub delivers : Option Envelope → WorldState → Result Done Refused
@@ -115,25 +115,25 @@ abbrev pub packet_at : WorldState → ℕ → Option Envelope
 packet_at w number = numbered w.packets number
 
 -- What an event makes of a world, or the first reason why it is refused.
-abbrev pub happens : Setup → Event → WorldState → Result Done Refused
-happens setup (Start u) w =
-    if not (is_listed setup.listed u.address) then Err refused.TheVariants.Unlisted
+abbrev pub happens : SettingsModel → Event → WorldState → Result Done Refused
+happens settings (Start u) w =
+    if not (is_listed settings.listed u.address) then Err refused.TheVariants.Unlisted
     else (if list_any (is_process u) w.nodes then Err refused.TheVariants.UniqueUsed
-    else (if is_used u.address w then Err refused.TheVariants.AddressInUse
+    else (if is_in_use u.address w then Err refused.TheVariants.AddressInUse
     else (if nat_le most_starts (length w.nodes) then Err refused.TheVariants.TooManyStarts
-    else Ok (starts setup u w))))
-happens setup (Found u) w =
+    else Ok (starts settings u w))))
+happens settings (Found u) w =
     if w.founded then Err refused.TheVariants.SecondFound
     else acts event.TheVariants.Found (node_of u w) (record w { founded = true })
-happens setup (Join u target) w =
-    if not (is_listed setup.listed target) then Err refused.TheVariants.Unlisted
+happens settings (Join u target) w =
+    if not (is_listed settings.listed target) then Err refused.TheVariants.Unlisted
     else acts (event.TheVariants.Join target) (node_of u w) w
-happens setup (Deliver number) w = delivers (packet_at w number) w
-happens setup (Tick u word) w = Err refused.TheVariants.NotBuilt
-happens setup (Leave u who) w = Err refused.TheVariants.NotBuilt
-happens setup (Down u who) w = Err refused.TheVariants.NotBuilt
-happens setup (Offer u entity payload) w = Err refused.TheVariants.NotBuilt
-happens setup (Stop u) w = Err refused.TheVariants.NotBuilt
+happens settings (Deliver number) w = delivers (packet_at w number) w
+happens settings (Tick u word) w = Err refused.TheVariants.NotBuilt
+happens settings (Leave u who) w = Err refused.TheVariants.NotBuilt
+happens settings (Down u who) w = Err refused.TheVariants.NotBuilt
+happens settings (Offer u entity payload) w = Err refused.TheVariants.NotBuilt
+happens settings (Stop u) w = Err refused.TheVariants.NotBuilt
 
 -- the world after an event; a refused one changes nothing
 abbrev pub after : WorldState → Result Done Refused → WorldState
@@ -141,9 +141,9 @@ after w (Ok done) = done.world
 after w (Err why) = w
 
 -- the world after a list of events, in their order
-abbrev pub run_from : Setup → WorldState → List Event → WorldState
-run_from setup w [] = w
-run_from setup w (e ∷ events) = run_from setup (after w (happens setup e w)) events
+abbrev pub run_from : SettingsModel → WorldState → List Event → WorldState
+run_from settings w [] = w
+run_from settings w (e ∷ events) = run_from settings (after w (happens settings e w)) events
 
-abbrev pub run : Setup → List Event → WorldState
-run setup events = run_from setup empty_world events
+abbrev pub run : SettingsModel → List Event → WorldState
+run settings events = run_from settings empty_world events

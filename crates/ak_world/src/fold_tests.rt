@@ -34,8 +34,8 @@ fn settings(alloc: Global) -> Result<Settings, Fail> {
 fn same(view: &View, gossip: &Gossip) -> bool {
     let one = &view.members;
     let other = gossip.members();
-    for place in 0..one.uniques() {
-        if let (Some((who, standing)), Some((whose, known))) = (one.row(place), other.row(place)) {
+    for index in 0..one.uniques() {
+        if let (Some((who, standing)), Some((whose, known))) = (one.pair(index), other.pair(index)) {
             if !who.compare(whose).is_eq() || standing != known {
                 return false;
             }

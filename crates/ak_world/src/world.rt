@@ -8,8 +8,8 @@ ghost use Rattle.ak_address.specs.Unique.{address_cmp};
 ghost use Rattle.ak_world.specs.Fold.{IsFold, IsIn};
 ghost use Rattle.ak_gossip.specs.Gossip.{GossipState};
 ghost use Rattle.ak_node.specs.Node.{is_for};
-ghost use Rattle.ak_world.specs.WorldWords.{Applies, Scenes, IsReady, state_of};
-ghost use Rattle.ak_node.specs.NodeWords.{Machine};
+ghost use Rattle.ak_world.specs.WorldContracts.{Applies, Scenes, IsReady, state_of};
+ghost use Rattle.ak_node.specs.NodeContracts.{NodeModel};
 
 use ak_address::{Address, Unique};
 use ak_history::History;
@@ -65,21 +65,21 @@ pub(crate) struct Scene {
 
 // Which node the process is.
 fn node_of(nodes: &[Node], who: &Unique) -> Option<usize>
-    ensures { result ≡ position (λ (n : Machine). rules.is_process who.now n.state) nodes.now }
+    ensures { result ≡ position (λ (n : NodeModel). rules.is_process who.now n.state) nodes.now }
 {
     nodes.iter().position(|node| node.me().compare(who).is_eq())
 }
 
 // Which node the packet reaches.
 fn receiver_of(nodes: &[Node], envelope: &Envelope) -> Option<usize>
-    ensures { result ≡ position (λ (n : Machine). is_for n.state.me envelope.now) nodes.now }
+    ensures { result ≡ position (λ (n : NodeModel). is_for n.state.me envelope.now) nodes.now }
 {
     nodes.iter().position(|node| is_for(node.me(), envelope))
 }
 
 // A node runs at the address.
-fn is_used(nodes: &[Node], address: &Address) -> bool
-    ensures { result ≡ list_any (λ (n : Machine). is_eq (address_cmp n.state.me.address address.now)) nodes.now }
+fn is_in_use(nodes: &[Node], address: &Address) -> bool
+    ensures { result ≡ list_any (λ (n : NodeModel). is_eq (address_cmp n.state.me.address address.now)) nodes.now }
 {
     nodes
         .iter()
@@ -97,7 +97,7 @@ impl Scene {
         if node_of(&self.nodes, who).is_some() {
             return Err(Refused::UniqueUsed);
         }
-        if is_used(&self.nodes, &who.address) {
+        if is_in_use(&self.nodes, &who.address) {
             return Err(Refused::AddressInUse);
         }
         if self.nodes.len() >= MOST_STARTS {
@@ -111,12 +111,12 @@ impl Scene {
         ensures settings { self.new.settings ≡ self.old.settings }
         ensures scenes { Scenes (state_of self.old) (Ok (rules.starts self.old.settings who.now (state_of self.old))) result (state_of self.new) }
     {
-        let place = self.nodes.len();
+        let index = self.nodes.len();
         let me = who.copy(alloc)?;
         let node = Node::start(alloc, me, &self.settings)?;
         self.nodes.push(node)?;
         Ok(Step {
-            node: number_of(place),
+            node: number_of(index),
             first_packet: self.next_packet(),
             actions: Actions::empty(alloc),
         })
@@ -160,7 +160,7 @@ impl Scene {
             let sent = self.packets.len() as u64;
             return Err(Refused::NoPacket { sent });
         };
-        let Some(place) = receiver_of(&self.nodes, envelope) else {
+        let Some(index) = receiver_of(&self.nodes, envelope) else {
             return Ok(Step {
                 node: None,
                 first_packet: self.next_packet(),
@@ -168,7 +168,7 @@ impl Scene {
             });
         };
         let envelope = envelope.copy(alloc)?;
-        self.give(alloc, place, NodeEvent::Packet(envelope))
+        self.give(alloc, index, NodeEvent::Packet(envelope))
     }
 
     // The process is given an event.
@@ -178,29 +178,29 @@ impl Scene {
         ensures scenes { Scenes (state_of self.old) (rules.acts event (rules.node_of who.now (state_of self.old)) (state_of self.old)) result (state_of self.new) }
     {
         match node_of(&self.nodes, who) {
-            Some(place) => return self.give(alloc, place, event),
+            Some(index) => return self.give(alloc, index, event),
             None => return Err(Refused::UnknownNode),
         }
     }
 
-    // The node at a place is given an event; what it sends and updates is kept.
-    fn give(&mut self, alloc: Global, place: usize, event: NodeEvent) -> Result<Step, Refused>
+    // The node at an index is given an event; what it sends and updates is kept.
+    fn give(&mut self, alloc: Global, index: usize, event: NodeEvent) -> Result<Step, Refused>
         requires ready { IsReady (state_of self.old) }
-        requires place { place < length self.old.nodes.items }
+        requires index { index < length self.old.nodes.items }
         ensures settings { self.new.settings ≡ self.old.settings }
-        ensures scenes { Scenes (state_of self.old) (rules.gives event place (slice_get (state_of self.old).nodes place) (state_of self.old)) result (state_of self.new) }
+        ensures scenes { Scenes (state_of self.old) (rules.gives event index (slice_get (state_of self.old).nodes index) (state_of self.old)) result (state_of self.new) }
     {
         let first_packet = self.next_packet();
-        let actions = self.nodes[place].step(alloc, event)?;
+        let actions = self.nodes[index].step(alloc, event)?;
         keep_packets(alloc, actions.as_slice(), &mut self.packets)?;
         keep_entries(
             alloc,
-            self.nodes[place].me(),
+            self.nodes[index].me(),
             actions.as_slice(),
             &mut self.history,
         )?;
         Ok(Step {
-            node: number_of(place),
+            node: number_of(index),
             first_packet,
             actions,
         })
@@ -236,16 +236,16 @@ fn packet_at(packets: &[Envelope], number: u64) -> Option<&Envelope>
     if number == 0 {
         return None;
     }
-    let place = usize::try_from(number - 1).ok()?;
-    packets.get(place)
+    let index = usize::try_from(number - 1).ok()?;
+    packets.get(index)
 }
 
 // A start number: fewer processes are started than have a number.
-fn number_of(place: usize) -> Option<u32>
-    requires { place < 64 }
-    ensures { result ≡ Some place }
+fn number_of(index: usize) -> Option<u32>
+    requires { index < 64 }
+    ensures { result ≡ Some index }
 {
-    u32::try_from(place).ok()
+    u32::try_from(index).ok()
 }
 
 // What the actions send is kept, each packet once.
@@ -311,8 +311,8 @@ fn keep_event(alloc: Global, event: &Event, accepted: &mut Vec<Event>) -> Result
     Ok(())
 }
 
-/// A world: a settings' run of the events that it accepted. After want of memory it is spent, and each later event
-/// answers want of memory.
+/// A world: a settings' run of the events that it accepted. Once out of memory it is spent, and each later event
+/// answers that it is out of memory.
 #[derive(Drop)]
 pub struct World {
     scene: Scene,
@@ -323,24 +323,24 @@ pub struct World {
 impl Model for World {
     ghost use Rattle.std.specs.Coded.{codes};
     ghost use Rattle.ak_address.specs.Unique.{coded_address, coded_unique};
-    ghost use Rattle.ak_schedule.specs.Settings.{coded_setup};
+    ghost use Rattle.ak_schedule.specs.Settings.{coded_settings};
     ghost use Rattle.ak_gossip.specs.Gossip.{coded_gossip};
     ghost use Rattle.ak_member.specs.View.{coded_uniques};
-    ghost use Rattle.ak_world.specs.WorldWords.{Chronicle, state_of, IsChronicle};
+    ghost use Rattle.ak_world.specs.WorldContracts.{WorldModel, state_of, IsWorld};
 
-    ghost Value = { Chronicle };
+    ghost Value = { WorldModel };
 
-    ghost coded = { Prim.hlevel (codes, coded_address, coded_unique, coded_uniques, coded_setup, coded_gossip) };
+    ghost coded = { Prim.hlevel (codes, coded_address, coded_unique, coded_uniques, coded_settings, coded_gossip) };
 
-    ghost view = { λ w. record { setup = w.scene.settings; state = state_of w.scene; events = w.accepted.items; spent = w.is_spent } };
+    ghost view = { λ w. record { settings = w.scene.settings; state = state_of w.scene; events = w.accepted.items; spent = w.is_spent } };
 
-    ghost invariant = { λ w. IsChronicle w.scene.settings (state_of w.scene) w.accepted.items w.is_spent };
+    ghost invariant = { λ w. IsWorld w.scene.settings (state_of w.scene) w.accepted.items w.is_spent };
 }
 
 impl World {
     /// The world in which nothing has happened. Takes no memory.
     pub fn new(alloc: Global, settings: Settings) -> World
-        ensures { result ≡ record { setup = settings; state = rules.empty_world; events = []; spent = false } }
+        ensures { result ≡ record { settings = settings; state = rules.empty_world; events = []; spent = false } }
     {
         let scene = Scene {
             settings,
@@ -357,19 +357,19 @@ impl World {
     }
 
     /// Applies one event, or says why it is refused: the first reason of `Refused` that applies. A refusal leaves the
-    /// world as it was; after want of memory the world is spent.
+    /// world as it was; once out of memory the world is spent.
     ///
     /// What a node knows and what a packet carries is the fold of the history: its members with their statuses, its
     /// tombstones and its rows are those that its version shows. So equal versions have equal members, statuses,
-    /// tombstones and rows, whenever and wherever they are held: behind any two numbers of accepted events, in any two
+    /// tombstones and rows, whenever and wherever they are held: after any two numbers of accepted events, in any two
     /// nodes or packets.
     pub fn apply(&mut self, alloc: Global, event: &Event) -> Result<Step, Refused>
         requires { length self.old.events < 2 ^ 62 }
         ensures applied { Applies event.now self.old result self.new }
         ensures numbered { IfOk result (λ step. step.first_packet + length (sent step.actions) < 2 ^ 64) }
-        ensures run { self.new.spent ≡ false → self.new.state ≡ rules.run self.new.setup self.new.events }
+        ensures run { self.new.spent ≡ false → self.new.state ≡ rules.run self.new.settings self.new.events }
         ensures folded { self.new.spent ≡ false → (g : GossipState) → IsIn g self.new.state → IsFold self.new.state.history g }
-        ensures equal { self.new.spent ≡ false → (i j : ℕ) (g f : GossipState) → IsIn g (rules.run self.new.setup (take i self.new.events)) → IsIn f (rules.run self.new.setup (take j self.new.events)) → g.version ≡ f.version → g.view ≡ f.view }
+        ensures equal { self.new.spent ≡ false → (i j : ℕ) (g f : GossipState) → IsIn g (rules.run self.new.settings (take i self.new.events)) → IsIn f (rules.run self.new.settings (take j self.new.events)) → g.version ≡ f.version → g.view ≡ f.view }
     {
         if self.is_spent {
             return Err(Refused::NoMemory);

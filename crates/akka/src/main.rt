@@ -11,13 +11,13 @@ use std::process::ExitCode;
 // A word is at most so long: first a small buffer is tried, then larger ones.
 const SIZES: [usize; 3] = [256, 1 << 16, 1 << 22];
 
-// The word at a place behind the program's name, and None past the last one. Of a word that is longer than
+// The word at an index after the program's name, and None past the last one. Of a word that is longer than
 // any buffer its first bytes do, since no command is so long.
-fn word<R: Env>(rt: &R, alloc: Global, place: usize) -> Result<Option<Text>, AllocError> {
+fn word<R: Env>(rt: &R, alloc: Global, index: usize) -> Result<Option<Text>, AllocError> {
     let mut longest = Text::from_bytes(alloc, b"")?;
     for size in SIZES {
         let mut buffer = vec![in alloc; 0; size]?;
-        match rt.arg(place, &mut buffer) {
+        match rt.arg(index, &mut buffer) {
             Ok(length) => return Ok(Some(Text::from_bytes(alloc, &buffer[..length])?)),
             Err(FillError::NotPresent) => return Ok(None),
             Err(FillError::TooLong) => longest = Text::from_bytes(alloc, &buffer)?,
@@ -26,11 +26,11 @@ fn word<R: Env>(rt: &R, alloc: Global, place: usize) -> Result<Option<Text>, All
     Ok(Some(longest))
 }
 
-// The words behind the program's name, as bytes: one that is not UTF-8 is a word like any other.
+// The words after the program's name, as bytes: one that is not UTF-8 is a word like any other.
 fn words<R: Env>(rt: &R, alloc: Global) -> Result<Vec<Text>, AllocError> {
     let mut words = Vec::new(alloc);
-    for place in 1..usize::MAX {
-        match word(rt, alloc, place)? {
+    for index in 1..usize::MAX {
+        match word(rt, alloc, index)? {
             Some(word) => words.push(word)?,
             None => return Ok(words),
         }

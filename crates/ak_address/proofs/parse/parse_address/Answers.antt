@@ -1,7 +1,7 @@
 use Rattle.std.proofs.Common.{Ok, ◌∙◌}
 use Rattle.std.proofs.lemmas.Result.{err_from_is_err_and}
 use Rattle.ak_address.specs.Spelling.{ChecksPort, before_byte, after_byte}
-use Rattle.ak_address.proofs.Spelled.{address_read, address_same, address_not_refused}
+use Rattle.ak_address.proofs.SpellingLemmas.{address_read, address_same, address_not_refused}
 use Rattle.ak_address.proofs.parse.parse_address.Goals as goal
 
 pub returns-in_err-port-clause-only : goal.returns-in_err-port-clause-only

@@ -1,7 +1,7 @@
 use Rattle.std.proofs.Common.{◌≡◌, List, ℕ, Ok, ◌∙◌, ap, arith}
 use Rattle.std.proofs.lemmas.Result.{err_from_is_err_and}
 use Rattle.ak_address.specs.Spelling.{IsNumber, ChecksPort, before_byte, after_byte}
-use Rattle.ak_address.proofs.Spelled.{unique_parts, unique_read, unique_same, unique_not_refused}
+use Rattle.ak_address.proofs.SpellingLemmas.{unique_parts, unique_read, unique_same, unique_not_refused}
 use Rattle.ak_address.proofs.parse.parse_unique.Goals as goal
 
 pub returns-in_err-port-clause-only : goal.returns-in_err-port-clause-only

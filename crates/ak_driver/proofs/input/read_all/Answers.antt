@@ -2,8 +2,8 @@ use Rattle.std.proofs.Common.{arith, rules, ◌≡◌, ◌<◌, ◌≤◌, ℕ, 
 use Rattle.std.proofs.lemmas.List.{length-take, take_at}
 use Rattle.std.specs.Io.KnownBytes.{Consumes}
 use Rattle.std.proofs.KnownBytes.{Consumes-nil, Consumes-trans}
-use Rattle.ak_driver.specs.InputWords.{reach, IsExtent}
-use Rattle.ak_driver.proofs.InputLemmas.{rest_falls, reads_whole, reads_front, is_past}
+use Rattle.ak_driver.specs.InputContracts.{reach, IsExtent}
+use Rattle.ak_driver.proofs.InputLemmas.{rest_falls, reads_whole, reads_prefix, is_past}
 use Rattle.ak_driver.proofs.input.read_all.Goals as goal
 
 pub reads-init : goal.reads-init
@@ -63,5 +63,5 @@ reads-preserved g c =
 pub returns-clause-reads : goal.returns-clause-reads
 returns-clause-reads g c =
     let past : c.reads.extent.past ≡ true = c.reads-test.false in
-    reads_front (g.S.Source.remaining c.args.input.now) (g.S.Source.remaining c.reads.input) c.reads.bytes.items c.reads.invariant.4
+    reads_prefix (g.S.Source.remaining c.args.input.now) (g.S.Source.remaining c.reads.input) c.reads.bytes.items c.reads.invariant.4
     (is_past c.reads.extent.past c.reads.bytes.items c.reads.extent.lines c.reads.extent.bytes past c.reads.invariant.5)

@@ -1,6 +1,6 @@
 use Rattle.std.proofs.Common.{◌≡◌, ◌-◌, ◌≤◌, length, if◌then◌else◌}
 use Rattle.std.specs.Io.KnownBytes.{Consumes}
-use Rattle.ak_driver.specs.InputWords.{reach, IsExtent}
+use Rattle.ak_driver.specs.InputContracts.{reach, IsExtent}
 use Rattle.ak_driver.proofs.input.read_all.Given as goal
 
 abbrev pub invariant-reads : goal.invariant-reads

@@ -6,4 +6,4 @@ use Rattle.ak_gossip.proofs.gossip.add_members.Given as goal
 
 -- those so far are added that are members
 abbrev pub invariant-others : goal.invariant-others
-invariant-others l = HasAdded l.initial.seen (take l.place (in_order l.others)) (is_member l.members) l.seen
+invariant-others l = HasAdded l.initial.seen (take l.index (in_order l.others)) (is_member l.members) l.seen

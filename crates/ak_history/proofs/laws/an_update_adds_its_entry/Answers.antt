@@ -1,6 +1,6 @@
 use Rattle.std.proofs.Common.{◌+◌, ap}
 use Rattle.ak_clock.specs.Version.{count}
-use Rattle.ak_history.proofs.ViewsJoined.{view-update}
+use Rattle.ak_history.proofs.ViewsMerged.{view-update}
 use Rattle.ak_history.proofs.laws.an_update_adds_its_entry.Goals as goal
 
 pub returns : goal.returns

@@ -1,11 +1,11 @@
 use Rattle.std.proofs.Common.{◌≡◌, ◌+◌, ◌≤◌, length, drop}
 use Rattle.std.specs.FinMap as map
-use Rattle.ak_member.specs.Standing.{member_rows}
+use Rattle.ak_member.specs.Standing.{member_pairs}
 use Rattle.ak_member.proofs.members.members_in.Given as goal
 
 -- those so far, and those of the rows that are left
-abbrev pub invariant-rows : goal.invariant-rows
-invariant-rows l = record {
-  few : l.count ≤ l.row;
-  so_far : l.count + length (member_rows (drop l.row (map.entries l.table))) ≡ length (member_rows (map.entries l.table));
+abbrev pub invariant-pairs : goal.invariant-pairs
+invariant-pairs l = record {
+  few : l.count ≤ l.pair;
+  so_far : l.count + length (member_pairs (drop l.pair (map.entries l.table))) ≡ length (member_pairs (map.entries l.table));
 }

@@ -1,6 +1,6 @@
 use Rattle.std.proofs.Common.{arith}
 use Rattle.std.proofs.lemmas.List.{length-take, length-drop}
-use Rattle.ak_outside.proofs.Fronts.{Appends-pieces}
+use Rattle.ak_outside.proofs.Prefixes.{Appends-pieces}
 use Rattle.ak_outside.proofs.sink.write_all.Goals as goal
 
 pub pieces-preserved : goal.pieces-preserved

@@ -6,7 +6,7 @@ abbrev pub invariant-pieces : goal.invariant-pieces
 invariant-pieces g l =
     (l.done ≤ length l.bytes)
     × (g.W.Sink.faults l.initial.sink ≤ g.W.Sink.faults l.sink)
-    × Appends (g.W.Sink.taken l.initial.sink) (g.W.Sink.taken l.sink) (take l.done l.bytes)
+    × Appends (g.W.Sink.written l.initial.sink) (g.W.Sink.written l.sink) (take l.done l.bytes)
 
 abbrev pub decreases-pieces : goal.decreases-pieces
 decreases-pieces g l = length l.bytes - l.done

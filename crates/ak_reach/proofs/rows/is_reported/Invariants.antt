@@ -7,4 +7,4 @@ use Rattle.ak_reach.proofs.rows.is_reported.Given as goal
 
 -- what the observers that are left say, all say
 abbrev pub invariant-observers : goal.invariant-observers
-invariant-observers l = list_any (λ observer. row_has (map.get l.rows observer) l.subject) (drop l.place (in_order l.observers)) ≡ reported l.rows l.observers l.subject
+invariant-observers l = list_any (λ observer. row_has (map.get l.rows observer) l.subject) (drop l.index (in_order l.observers)) ≡ reported l.rows l.observers l.subject

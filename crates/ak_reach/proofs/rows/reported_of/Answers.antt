@@ -9,13 +9,13 @@ pub subjects-preserved : goal.subjects-preserved
 subjects-preserved c =
     let test = reported c.args.rows.now c.args.observers.now in
     let rest = in_order c.args.subjects.now in
-    ap (with_all_reported test (drop (c.subjects.place + 1) rest)) (c.in_ok-add_reported.ensures ∙ ap (λ o. with_reported test o c.subjects.them) c.at.ensures)
-    ∙ sym (with_left test rest c.subjects.place c.subjects.them)
+    ap (with_all_reported test (drop (c.subjects.index + 1) rest)) (c.in_ok-add_reported.ensures ∙ ap (λ o. with_reported test o c.subjects.them) c.at.ensures)
+    ∙ sym (with_left test rest c.subjects.index c.subjects.them)
     ∙ c.subjects.invariant
 
 pub returns : goal.returns
 returns c =
     let test = reported c.args.rows.now c.args.observers.now in
-    sym (ap (λ rest. with_all_reported test rest c.subjects.them) (none_left c.args.subjects.now c.subjects.place (omega (arith, c.len-place-end.ensures))))
+    sym (ap (λ rest. with_all_reported test rest c.subjects.them) (none_left c.args.subjects.now c.subjects.index (omega (arith, c.len-index-end.ensures))))
     ∙ c.subjects.invariant
     ∙ all_with test c.args.subjects.now

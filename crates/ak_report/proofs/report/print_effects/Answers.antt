@@ -6,6 +6,6 @@ use Rattle.ak_report.proofs.report.print_effects.Goals as goal
 
 pub effects-preserved : goal.effects-preserved
 effects-preserved c =
-    printed_more effect_text c.args.effects.now c.effects.place c.index-effects-place.result _ _ _ _
-    (slice_get_read c.args.effects.now _ c.effects.place c.index-effects-place.result refl (omega arith) c.index-effects-place.is)
+    printed_more effect_text c.args.effects.now c.effects.index c.index-effects-index.result _ _ _ _
+    (slice_get_read c.args.effects.now _ c.effects.index c.index-effects-index.result refl (omega arith) c.index-effects-index.is)
     c.effects.invariant c.in_ok-print_separator.ensures c.in_ok-print_effect.ensures

@@ -1,43 +1,43 @@
 use Rattle.std.proofs.Common.{arith, ◌++◌, map, ap}
 use Rattle.std.proofs.lemmas.Result.{on_ok_weaker}
 use Rattle.std.specs.FinMap as finmap
-use Rattle.ak_member.specs.Standing.{member_rows}
-use Rattle.ak_member.proofs.Walks.{keeps_members}
+use Rattle.ak_member.specs.Standing.{member_pairs}
+use Rattle.ak_member.proofs.MemberLemmas.{keeps_members}
 use Rattle.ak_report.specs.ActionText.{member_text}
 use Rattle.ak_report.proofs.TextLemmas.{all_left, walk_printed, walk_passed, walk_ended}
 use Rattle.ak_report.proofs.report.print_members.Goals as goal
 use Rattle.ak_report.proofs.report.print_members.Goals.{in-Some+in_ok-print_separator+in_ok-print_member, in_default}
 
-pub rows-init : goal.rows-init
-rows-init c = record {
+pub pairs-init : goal.pairs-init
+pairs-init c = record {
   few = omega arith;
-  so_far = ap (λ text. c.args.out.now.items ++ text) (all_left (map member_text (member_rows (finmap.entries c.args.members.now))));
+  so_far = ap (λ text. c.args.out.now.items ++ text) (all_left (map member_text (member_pairs (finmap.entries c.args.members.now))));
 }
 
-pub rows-preserved : goal.rows-preserved
-rows-preserved c =
-    let rows = finmap.entries c.args.members.now in
-    elim c.match-member_row.branch [
+pub pairs-preserved : goal.pairs-preserved
+pairs-preserved c =
+    let pairs = finmap.entries c.args.members.now in
+    elim c.match-member_pair.branch [
       | in-Some+in_ok-print_separator+in_ok-print_member w ↦
           rw w.out-is
           rw w.printed-is
           record {
             few = omega arith;
             so_far =
-                walk_printed member_rows keeps_members member_text rows c.rows.row c.rows.printed (w.in-Some.who.now, (w.in-Some.status, w.in-Some.number)) c.rows.out.items _ _ _ w.in-Some.ensures
-                w.in_ok-print_separator.ensures w.in_ok-print_member.ensures c.rows.invariant.so_far;
+                walk_printed member_pairs keeps_members member_text pairs c.pairs.pair c.pairs.printed (w.in-Some.who.now, (w.in-Some.status, w.in-Some.number)) c.pairs.out.items _ _ _ w.in-Some.ensures
+                w.in_ok-print_separator.ensures w.in_ok-print_member.ensures c.pairs.invariant.so_far;
           }
       | in_default w ↦
           rw w.out-is
           rw w.printed-is
           record {
             few = omega arith;
-            so_far = walk_passed member_rows keeps_members member_text rows c.rows.row c.rows.printed c.rows.out.items _ w.in_default.ensures c.rows.invariant.so_far;
+            so_far = walk_passed member_pairs keeps_members member_text pairs c.pairs.pair c.pairs.printed c.pairs.out.items _ w.in_default.ensures c.pairs.invariant.so_far;
           }
     ]
 
 pub returns : goal.returns
 returns c =
-    let rows = finmap.entries c.args.members.now in
+    let pairs = finmap.entries c.args.members.now in
     let counted = finmap.len-entries c.args.members.now in
-    on_ok_weaker c.print_none.result (λ printed. walk_ended member_rows keeps_members member_text rows c.rows.row c.rows.printed c.rows.out.items c.print_none.new.out.items _ (omega arith) printed c.rows.invariant.so_far) c.print_none.ensures
+    on_ok_weaker c.print_none.result (λ printed. walk_ended member_pairs keeps_members member_text pairs c.pairs.pair c.pairs.printed c.pairs.out.items c.print_none.new.out.items _ (omega arith) printed c.pairs.invariant.so_far) c.print_none.ensures

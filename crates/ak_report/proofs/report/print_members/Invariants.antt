@@ -1,13 +1,13 @@
 use Rattle.std.proofs.Common.{◌≡◌, ◌≤◌, ◌++◌, map, drop}
 use Rattle.std.specs.FinMap as finmap
-use Rattle.ak_member.specs.Standing.{member_rows, members_of}
+use Rattle.ak_member.specs.Standing.{member_pairs, members_of}
 use Rattle.ak_report.specs.ActionText.{listed_text, member_text}
 use Rattle.ak_report.proofs.TextLemmas.{rest_text}
 use Rattle.ak_report.proofs.report.print_members.Given as goal
 
 -- what is printed so far, and the members of the rows that are left
-abbrev pub invariant-rows : goal.invariant-rows
-invariant-rows l = record {
-  few : l.printed ≤ l.row;
-  so_far : l.out.items ++ rest_text l.printed (map member_text (member_rows (drop l.row (finmap.entries l.members)))) ≡ l.initial.out.items ++ listed_text (map member_text (members_of l.members));
+abbrev pub invariant-pairs : goal.invariant-pairs
+invariant-pairs l = record {
+  few : l.printed ≤ l.pair;
+  so_far : l.out.items ++ rest_text l.printed (map member_text (member_pairs (drop l.pair (finmap.entries l.members)))) ≡ l.initial.out.items ++ listed_text (map member_text (members_of l.members));
 }

@@ -11,14 +11,14 @@ processes-preserved c =
     elim c.match-at.branch [
       | in-Some+in_ok-print_bytes+in_ok-print_into w ↦
           rw w.out-is
-          (spaced_more (in_order c.args.who.now) c.processes.place w.in-Some.one.now _ _ _ _ (ap option_to_list w.in-Some.ensures)
+          (spaced_more (in_order c.args.who.now) c.processes.index w.in-Some.one.now _ _ _ _ (ap option_to_list w.in-Some.ensures)
           w.in_ok-print_bytes.ensures.ok w.in_ok-print_into.ensures.ok c.processes.invariant)
       | in_default w ↦
           let counted = members_counted c.args.who.now in
-          absurd (ended (in_order c.args.who.now) c.processes.place (sym w.in_default.ensures) (omega arith))
+          absurd (ended (in_order c.args.who.now) c.processes.index (sym w.in_default.ensures) (omega arith))
     ]
 
 pub returns : goal.returns
 returns c =
     let counted = members_counted c.args.who.now in
-    sym (append-nil c.processes.out.items) ∙ sym (at_drop_all (λ us. c.processes.out.items ++ spaced_text us) (in_order c.args.who.now) c.processes.place (omega arith)) ∙ c.processes.invariant
+    sym (append-nil c.processes.out.items) ∙ sym (at_drop_all (λ us. c.processes.out.items ++ spaced_text us) (in_order c.args.who.now) c.processes.index (omega arith)) ∙ c.processes.invariant

@@ -5,4 +5,4 @@ use Rattle.ak_report.proofs.report.print_spaced.Given as goal
 
 -- what is printed so far, and the processes that are left
 abbrev pub invariant-processes : goal.invariant-processes
-invariant-processes l = l.out.items ++ spaced_text (drop l.place (in_order l.who)) ≡ l.initial.out.items ++ spaced_text (in_order l.who)
+invariant-processes l = l.out.items ++ spaced_text (drop l.index (in_order l.who)) ≡ l.initial.out.items ++ spaced_text (in_order l.who)

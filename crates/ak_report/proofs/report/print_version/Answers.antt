@@ -16,14 +16,14 @@ counts-preserved c =
     elim c.match-at.branch [
       | in-Some+in_ok-print_separator+in_ok-print_seen w ↦
           rw w.out-is
-          (printed_more count_text (finmap.entries c.args.version.now) c.counts.place (w.in-Some.who.now, w.in-Some.count) _ _ _ _ (sym w.in-Some.ensures.row)
+          (printed_more count_text (finmap.entries c.args.version.now) c.counts.index (w.in-Some.who.now, w.in-Some.count) _ _ _ _ (sym w.in-Some.ensures.pair)
           c.counts.invariant w.in_ok-print_separator.ensures w.in_ok-print_seen.ensures)
       | in_default w ↦
           let counted = finmap.len-entries c.args.version.now in
-          absurd (ended (finmap.entries c.args.version.now) c.counts.place (sym w.in_default.ensures.row) (omega arith))
+          absurd (ended (finmap.entries c.args.version.now) c.counts.index (sym w.in_default.ensures.pair) (omega arith))
     ]
 
 pub returns : goal.returns
 returns c =
     let counted = finmap.len-entries c.args.version.now in
-    printed_all count_text (finmap.entries c.args.version.now) c.counts.place _ _ (omega arith) (omega arith) c.counts.invariant
+    printed_all count_text (finmap.entries c.args.version.now) c.counts.index _ _ (omega arith) (omega arith) c.counts.invariant

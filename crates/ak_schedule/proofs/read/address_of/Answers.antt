@@ -1,12 +1,12 @@
 use Rattle.std.proofs.Common.{◌≡◌, Err, subst}
-use Rattle.ak_address.specs.Unique.{Endpoint}
+use Rattle.ak_address.specs.Unique.{AddressModel}
 use Rattle.ak_address.specs.Spelling.{ReadsAs}
 use Rattle.ak_address.specs.declared.parse.AddressFault.{AddressFault}
 use Rattle.ak_address.specs.declared.parse.AddressFault.TheVariants.{BadHost, BadPort}
 use Rattle.ak_schedule.proofs.read.address_of.Goals as goal
 
-at_fault : (value : Endpoint) (fault known : AddressFault) → fault ≡ known → ReadsAs {T = Endpoint} (Err fault) value → ReadsAs {T = Endpoint} (Err known) value
-at_fault value fault known is read = subst (λ (f : AddressFault). ReadsAs {T = Endpoint} (Err f) value) is read
+at_fault : (value : AddressModel) (fault known : AddressFault) → fault ≡ known → ReadsAs {T = AddressModel} (Err fault) value → ReadsAs {T = AddressModel} (Err known) value
+at_fault value fault known is read = subst (λ (f : AddressFault). ReadsAs {T = AddressModel} (Err f) value) is read
 
 pub returns-in-Err-BadHost : goal.returns-in-Err-BadHost
 returns-in-Err-BadHost c = λ value spelt. at_fault value c.in-Err-BadHost.field-0 BadHost c.in-Err-BadHost.field-0-is (c.in-Err-BadHost.ensures.only value spelt)

@@ -2,8 +2,8 @@ use Rattle.std.proofs.Common.{◌≡◌, true, sym, ap, ◌∙◌, refl}
 use Rattle.std.specs.Ordering.{is_eq, ordering_reverse}
 use Rattle.std.specs.declared.cmp.Ordering.{Ordering}
 use Rattle.std.specs.declared.cmp.Ordering.TheVariants.{Less, Equal, Greater}
-use Rattle.ak_address.specs.Unique.{Endpoint, address_cmp}
-use Rattle.ak_address.proofs.Order.{address_total, address_exact}
+use Rattle.ak_address.specs.Unique.{AddressModel, address_cmp}
+use Rattle.ak_address.proofs.OrderLemmas.{address_total, address_exact}
 use Rattle.ak_schedule.proofs.settings.is_same.Goals as goal
 
 tied : (o : Ordering) → is_eq o ≡ true → o ≡ Equal
@@ -16,8 +16,8 @@ own_reverse Less h = cc
 own_reverse Equal h = refl
 own_reverse Greater h = cc
 
-itself : (a b : Endpoint) → a ≡ b → address_cmp a b ≡ Equal
-itself a b same = ap (λ (other : Endpoint). address_cmp a other) (sym same) ∙ own_reverse (address_cmp a a) (address_total.antisymm a a)
+itself : (a b : AddressModel) → a ≡ b → address_cmp a b ≡ Equal
+itself a b same = ap (λ (other : AddressModel). address_cmp a other) (sym same) ∙ own_reverse (address_cmp a a) (address_total.antisymm a a)
 
 pub returns : goal.returns
 returns c = (

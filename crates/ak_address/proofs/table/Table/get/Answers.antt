@@ -1,8 +1,8 @@
 use Rattle.std.proofs.Common.{ap, ◌∙◌}
 use Rattle.std.specs.FinMap as map
 use Rattle.ak_address.specs.Unique.{unique_cmp}
-use Rattle.ak_address.proofs.TableLaws.{rows_found}
+use Rattle.ak_address.proofs.TableLaws.{pairs_found}
 use Rattle.ak_address.proofs.table.Table.get.Goals as goal
 
 pub returns : goal.returns
-returns g c = c.value_of.ensures ∙ ap (map.find unique_cmp c.args.who.now) c.deref.ensures.value ∙ rows_found _ c.self.invariant _ c.self.view_is c.args.who.now
+returns g c = c.value_of.ensures ∙ ap (map.find unique_cmp c.args.who.now) c.deref.ensures.value ∙ pairs_found _ c.self.invariant _ c.self.view_is c.args.who.now

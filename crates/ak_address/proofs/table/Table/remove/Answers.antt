@@ -1,5 +1,5 @@
 use Rattle.std.proofs.Common.{sym, ◌∙◌, arith}
-use Rattle.ak_address.proofs.Changes.{IsBehind, stands_at, goes_at, behind_without}
+use Rattle.ak_address.proofs.TableLemmas.{Underlies, stands_at, goes_at, underlies_without}
 use Rattle.ak_address.proofs.table.Table.remove.Goals as goal
 
 pub remove-requires : goal.remove-requires
@@ -9,18 +9,18 @@ remove-requires g c =
 
 pub invariant_of-self : goal.invariant_of-self
 invariant_of-self g c =
-    let b : IsBehind c.self.inside.entries.items c.args.self.now = record { in_order = c.self.invariant; seen = c.self.view_is } in
+    let b : Underlies c.self.inside.entries.items c.args.self.now = record { in_order = c.self.invariant; seen = c.self.view_is } in
     let s = stands_at _ _ b c.args.who.now _ _ c.deref.ensures.value c.in-Ok.ensures in
-    (behind_without _ _ b c.args.who.now _ (s.without ∙ sym c.remove.ensures.items)).in_order
+    (underlies_without _ _ b c.args.who.now _ (s.without ∙ sym c.remove.ensures.items)).in_order
 
 pub returns-in-Ok : goal.returns-in-Ok
 returns-in-Ok g c =
-    let b : IsBehind c.self.inside.entries.items c.args.self.now = record { in_order = c.self.invariant; seen = c.self.view_is } in
+    let b : Underlies c.self.inside.entries.items c.args.self.now = record { in_order = c.self.invariant; seen = c.self.view_is } in
     let s = stands_at _ _ b c.args.who.now _ _ c.deref.ensures.value c.in-Ok.ensures in
-    (behind_without _ _ b c.args.who.now _ (s.without ∙ sym c.remove.ensures.items)).seen
+    (underlies_without _ _ b c.args.who.now _ (s.without ∙ sym c.remove.ensures.items)).seen
 
 pub returns-in-Err : goal.returns-in-Err
 returns-in-Err g c =
-    let b : IsBehind c.self.inside.entries.items c.args.self.now = record { in_order = c.self.invariant; seen = c.self.view_is } in
+    let b : Underlies c.self.inside.entries.items c.args.self.now = record { in_order = c.self.invariant; seen = c.self.view_is } in
     let s = goes_at _ _ b c.args.who.now _ _ c.deref.ensures.value c.in-Err.ensures in
-    sym c.self.view_is ∙ (behind_without _ _ b c.args.who.now _ s.without).seen
+    sym c.self.view_is ∙ (underlies_without _ _ b c.args.who.now _ s.without).seen

@@ -1,7 +1,7 @@
 use Rattle.std.proofs.Common.{◌≡◌, sym, subst, ◌∙◌}
 use Rattle.ak_clock.specs.Version.{covers, relation, relation_by, Relates}
 use Rattle.ak_clock.proofs.VersionLaws.{relation_means}
-use Rattle.ak_clock.proofs.Walk.{walk_covers}
+use Rattle.ak_clock.proofs.WalkLemmas.{walk_covers}
 use Rattle.ak_clock.proofs.version.Version.compare.Goals as goal
 
 pub returns : goal.returns

@@ -1,7 +1,7 @@
 use Rattle.std.proofs.Common.{◌≡◌, sym, ◌∙◌}
 use Rattle.ak_clock.specs.Version.{covers}
 use Rattle.ak_clock.proofs.VersionLaws.{covers_from_test, test_from_covers}
-use Rattle.ak_clock.proofs.Walk.{walk_covers}
+use Rattle.ak_clock.proofs.WalkLemmas.{walk_covers}
 use Rattle.ak_clock.proofs.version.Version.covers.Goals as goal
 
 pub returns : goal.returns

@@ -1,6 +1,6 @@
 use Rattle.std.proofs.Common.{◌≢◌, ◌+◌, ℕ, arith, subst, sym, ◌++◌, ◌∷◌, []}
 use Rattle.std.proofs.lemmas.Bool.{cases_eq}
-use Rattle.ak_driver.specs.InputWords.{IsExtent, HasCome}
+use Rattle.ak_driver.specs.InputContracts.{IsExtent, HasCome}
 use Rattle.ak_driver.proofs.InputLemmas.{extent_more, has_come, is_extent, come_end, come_other, past_lines, past_long, past_no_cr}
 use Rattle.ak_driver.proofs.input.Extent.take.Goals as goal
 use Rattle.ak_driver.proofs.input.Extent.take.Goals.{then-self-gt-MOST_BYTES-via-then-self-gt-MOST_BYTES, then-self-gt-MOST_BYTES-via-else-self-gt-MOST_BYTES+then-byte-ne13}

@@ -1,6 +1,6 @@
 use Rattle.std.proofs.Common.{◌≡◌, false, ◌<◌, ℕ, ◌+◌, ◌++◌, ◌∷◌, [], List, take, get_or, length, subst, sym, ap, ◌∙◌, append_assoc}
 use Rattle.std.proofs.lemmas.List.{take_more}
-use Rattle.ak_driver.specs.InputWords.{IsExtent, reach}
+use Rattle.ak_driver.specs.InputContracts.{IsExtent, reach}
 use Rattle.ak_driver.proofs.InputLemmas.{grown_more, kept_more}
 use Rattle.ak_driver.proofs.input.Extent.take_all.Goals as goal
 

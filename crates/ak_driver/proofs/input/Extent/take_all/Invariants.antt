@@ -1,6 +1,6 @@
 use Rattle.std.proofs.Common.{◌≡◌, ℕ, ◌+◌, ◌≤◌, ◌++◌, List, take, false}
 use Rattle.std.specs.Bool.{OnFalse}
-use Rattle.ak_driver.specs.InputWords.{reach, IsExtent}
+use Rattle.ak_driver.specs.InputContracts.{reach, IsExtent}
 use Rattle.ak_driver.proofs.input.Extent.take_all.Given as goal
 
 abbrev pub invariant-bytes : goal.invariant-bytes

@@ -1,7 +1,7 @@
 use Rattle.std.proofs.Common.{◌≡◌, ◌+◌, ◌++◌, ℕ, List, Ok, Err, refl, sym, subst, arith}
 use Rattle.std.proofs.lemmas.Result.{err_from_is_err_and}
 use Rattle.ak_driver.specs.declared.replay.Replay.{Replay}
-use Rattle.ak_driver.specs.ReplayWords.{progress, progress_of, HeadingAnswers, RunningAnswers, Turns}
+use Rattle.ak_driver.specs.ReplayContracts.{progress, progress_of, HeadingAnswers, RunningAnswers, Turns}
 use Rattle.ak_driver.proofs.ReplayLemmas.{advance_header, advance_refused, advance_event, advance_declined}
 use Rattle.ak_driver.proofs.replay.Replay.advance.Goals as goal
 

@@ -1,4 +1,4 @@
-use Rattle.ak_gossip.proofs.Kept.{parts_kept, nothing_kept}
+use Rattle.ak_gossip.proofs.InvariantLemmas.{parts_kept, nothing_kept}
 use Rattle.ak_gossip.proofs.gossip.Gossip.empty.Goals as goal
 
 pub invariant_of-result : goal.invariant_of-result

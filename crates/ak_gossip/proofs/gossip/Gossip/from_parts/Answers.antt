@@ -1,7 +1,7 @@
 use Rattle.std.proofs.Common.{◌≡◌, sym, ap, ◌∙◌, subst}
 use Rattle.ak_gossip.specs.Gossip.{GossipState, IsGossip}
 use Rattle.ak_gossip.specs.Parts.{parts_of}
-use Rattle.ak_gossip.proofs.Kept.{parts_kept}
+use Rattle.ak_gossip.proofs.InvariantLemmas.{parts_kept}
 use Rattle.ak_gossip.proofs.PartsBack.{made_of, made_is_gossip, parts_back}
 use Rattle.ak_gossip.proofs.PartsLaws.{one_gossip}
 use Rattle.ak_gossip.proofs.gossip.Gossip.from_parts.Goals as goal

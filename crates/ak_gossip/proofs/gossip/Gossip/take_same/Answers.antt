@@ -1,5 +1,5 @@
 use Rattle.ak_gossip.specs.Gossip.{GossipState}
-use Rattle.ak_gossip.proofs.Kept.{same_parts_kept}
+use Rattle.ak_gossip.proofs.InvariantLemmas.{same_parts_kept}
 use Rattle.ak_gossip.proofs.gossip.Gossip.take_same.Goals as goal
 
 pub invariant_of-self : goal.invariant_of-self

@@ -3,7 +3,7 @@ use Rattle.ak_address.specs.Uniques.{with_one}
 use Rattle.ak_clock.specs.Version.{count, bumped}
 use Rattle.ak_member.specs.View.{after_effects, after_observed, observed}
 use Rattle.ak_gossip.specs.Gossip.{GossipState, MayUpdate}
-use Rattle.ak_gossip.proofs.Kept.{updated_parts_kept}
+use Rattle.ak_gossip.proofs.InvariantLemmas.{updated_parts_kept}
 use Rattle.ak_gossip.proofs.gossip.Gossip.update.Goals as goal
 
 pub invariant_of-self : goal.invariant_of-self

@@ -1,12 +1,12 @@
 use Rattle.std.proofs.Common.{◌≡◌, IfOk, reverse, subst, ap, ◌∙◌}
 use Rattle.ak_history.specs.History.{IsNumbered}
 use Rattle.ak_history.specs.Walk.{with_all_covered}
-use Rattle.ak_history.proofs.Walks.{walk_shows}
+use Rattle.ak_history.proofs.WalkLemmas.{walk_shows}
 use Rattle.ak_history.proofs.history.History.view.Goals as goal
 
 pub returns : goal.returns
 returns c =
-    let behind = ap reverse c.deref.ensures.value ∙ c.self.view_is in
+    let reversed = ap reverse c.deref.ensures.value ∙ c.self.view_is in
     subst (λ u. IfOk c.shown_by.result (λ shown. shown ≡ u))
-    (ap (with_all_covered c.args.version.now) behind ∙ walk_shows c.args.self.now c.args.version.now (subst IsNumbered c.self.view_is c.self.invariant))
+    (ap (with_all_covered c.args.version.now) reversed ∙ walk_shows c.args.self.now c.args.version.now (subst IsNumbered c.self.view_is c.self.invariant))
     c.shown_by.ensures

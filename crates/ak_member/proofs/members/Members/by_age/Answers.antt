@@ -6,8 +6,8 @@ use Rattle.ak_member.proofs.members.Members.by_age.Goals as goal
 
 pub returns : goal.returns
 returns c =
-    IfOk-weaker c.places_of.result (λ places. places.items ≡ map (λ row. row.1) c.deref.result.now) (λ places. IsByAge c.args.self.now places.items)
-    (λ places is.
-    by_age_is c.args.self.now c.in_ok-counted.counted.items c.sort_unstable.new.self.items (c.in_ok-counted.ensures {u = tt}) c.sort_unstable.ensures.permutation c.sort_unstable.ensures.sorted places.items
-    (is ∙ ap (map (λ row. row.1)) c.deref.ensures.value))
-    c.places_of.ensures
+    IfOk-weaker c.indices_of.result (λ indices. indices.items ≡ map (λ pair. pair.1) c.deref.result.now) (λ indices. IsByAge c.args.self.now indices.items)
+    (λ indices is.
+    by_age_is c.args.self.now c.in_ok-counted.counted.items c.sort_unstable.new.self.items (c.in_ok-counted.ensures {u = tt}) c.sort_unstable.ensures.permutation c.sort_unstable.ensures.sorted indices.items
+    (is ∙ ap (map (λ pair. pair.1)) c.deref.ensures.value))
+    c.indices_of.ensures

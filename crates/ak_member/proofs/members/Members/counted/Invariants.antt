@@ -4,8 +4,8 @@ use Rattle.ak_member.specs.Age.{distinct, counted_addresses}
 use Rattle.ak_member.proofs.CountedLaws.{Counting}
 use Rattle.ak_member.proofs.members.Members.counted.Given as goal
 
-abbrev pub invariant-rows : goal.invariant-rows
-invariant-rows l = record {
-  few : l.count ≤ l.row;
-  counting : Counting (option_copied l.last) l.count (drop l.row (map.entries l.self)) (distinct (counted_addresses l.self));
+abbrev pub invariant-pairs : goal.invariant-pairs
+invariant-pairs l = record {
+  few : l.count ≤ l.pair;
+  counting : Counting (option_copied l.last) l.count (drop l.pair (map.entries l.self)) (distinct (counted_addresses l.self));
 }

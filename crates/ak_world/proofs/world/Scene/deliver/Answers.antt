@@ -1,9 +1,9 @@
 use Rattle.std.proofs.Common.{◌≡◌, List, Some, None, position, refl, sym, ap, ◌∙◌}
 use Rattle.ak_wire.specs.declared.envelope.Envelope.{Envelope}
 use Rattle.ak_node.specs.Node.{is_for}
-use Rattle.ak_node.specs.NodeWords.{Machine}
+use Rattle.ak_node.specs.NodeContracts.{NodeModel}
 use Rattle.ak_world.specs.World.{numbered}
-use Rattle.ak_world.specs.WorldWords.{state_of}
+use Rattle.ak_world.specs.WorldContracts.{state_of}
 use Rattle.ak_world.proofs.WorldLemmas.{found-receiver, same-answer, dead-delivery, delivery}
 use Rattle.ak_world.proofs.world.Scene.deliver.Goals as goal
 
@@ -13,7 +13,7 @@ returns-in_default-receiver_of-clause-scenes c =
     let packet : numbered c.args.self.now.packets.items c.args.number ≡ Some e =
     sym (ap (λ (ps : List Envelope). numbered ps c.args.number) c.deref.ensures.value) ∙ sym c.in-Some.ensures in
     let nobody = found-receiver e c.args.self.now.nodes.items c.receiver_of.result None
-    (c.receiver_of.ensures ∙ ap (position (λ (n : Machine). is_for n.state.me e)) c.deref-2.ensures.value) c.in_default-receiver_of.is in
+    (c.receiver_of.ensures ∙ ap (position (λ (n : NodeModel). is_for n.state.me e)) c.deref-2.ensures.value) c.in_default-receiver_of.is in
     dead-delivery (state_of c.args.self.now) c.args.number e _ packet nobody refl c.next_packet.ensures c.next_packet.type_inv c.empty.ensures
 
 pub returns-clause-scenes : goal.returns-clause-scenes
@@ -21,6 +21,6 @@ returns-clause-scenes c =
     let e = c.in-Some.envelope.now in
     let packet : numbered c.args.self.now.packets.items c.args.number ≡ Some e =
     sym (ap (λ (ps : List Envelope). numbered ps c.args.number) c.deref.ensures.value) ∙ sym c.in-Some.ensures in
-    let reached = found-receiver e c.args.self.now.nodes.items c.receiver_of.result (Some c.in-Some-receiver_of.place)
-    (c.receiver_of.ensures ∙ ap (position (λ (n : Machine). is_for n.state.me e)) c.deref-2.ensures.value) c.in-Some-receiver_of.is in
-    same-answer _ _ _ _ _ (delivery (state_of c.args.self.now) c.args.number e c.in_ok-envelope.envelope c.in-Some-receiver_of.place packet reached c.in_ok-envelope.ensures) c.give.ensures.scenes
+    let reached = found-receiver e c.args.self.now.nodes.items c.receiver_of.result (Some c.in-Some-receiver_of.index)
+    (c.receiver_of.ensures ∙ ap (position (λ (n : NodeModel). is_for n.state.me e)) c.deref-2.ensures.value) c.in-Some-receiver_of.is in
+    same-answer _ _ _ _ _ (delivery (state_of c.args.self.now) c.args.number e c.in_ok-envelope.envelope c.in-Some-receiver_of.index packet reached c.in_ok-envelope.ensures) c.give.ensures.scenes

@@ -1,6 +1,6 @@
 use Rattle.std.proofs.Common.{◌≡◌, ◌<◌, List, ◌++◌, length, refl, ap, ◌∙◌, get_or-set_same}
 use Rattle.ak_wire.specs.declared.action.Action.{Action}
-use Rattle.ak_node.specs.NodeWords.{Machine}
+use Rattle.ak_node.specs.NodeContracts.{NodeModel}
 use Rattle.ak_wire.specs.Wire.{sent}
 use Rattle.ak_world.specs.World.{recorded}
 use Rattle.ak_world.proofs.WorldLemmas.{state-at, went-given}
@@ -8,21 +8,21 @@ use Rattle.ak_world.proofs.world.Scene.give.Goals as goal
 
 pub step-requires : goal.step-requires
 step-requires c =
-    c.requires.ready.few_steps c.args.place c.index_mut.result.now.state (state-at c.args.self.now.nodes.items c.args.place c.index_mut.result.now c.requires.place c.index_mut.ensures.value)
+    c.requires.ready.few_steps c.args.index c.index_mut.result.now.state (state-at c.args.self.now.nodes.items c.args.index c.index_mut.result.now c.requires.index c.index_mut.ensures.value)
 
 pub returns : goal.returns
 returns c = record {
   settings = refl;
   scenes = went-given c.args.self.now.nodes.items _ c.args.self.now.packets.items c.keep_packets.new.packets.items c.args.self.now.history c.keep_entries.new.history c.args.self.now.founded
-      c.args.place c.args.event c.index_mut.result.now c.step.new.self c.in_ok-actions.actions c.me.result.now c.number_of.result c.next_packet-first_packet.result
-      (state-at c.args.self.now.nodes.items c.args.place c.index_mut.result.now c.requires.place c.index_mut.ensures.value)
+      c.args.index c.args.event c.index_mut.result.now c.step.new.self c.in_ok-actions.actions c.me.result.now c.number_of.result c.next_packet-first_packet.result
+      (state-at c.args.self.now.nodes.items c.args.index c.index_mut.result.now c.requires.index c.index_mut.ensures.value)
       c.in_ok-actions.ensures.ok.state_after
       c.in_ok-actions.ensures.ok.actions_done
       refl
       (c.in_ok-keep_packets.ensures.kept ∙ ap (λ (xs : List Action). c.args.self.now.packets.items ++ sent xs) c.as_slice.ensures)
-      (let within : c.args.place < length c.args.self.now.nodes.items = c.requires.place in
+      (let within : c.args.index < length c.args.self.now.nodes.items = c.requires.index in
       let at : c.index.result.now ≡ c.step.new.self = rw get_or-set_same at c.index.ensures in
-      c.me.ensures ∙ ap (λ (x : Machine). x.state.me) at)
+      c.me.ensures ∙ ap (λ (x : NodeModel). x.state.me) at)
       (c.in_ok-keep_entries.ensures ∙ ap (λ (xs : List Action). recorded c.me.result.now xs c.args.self.now.history) c.as_slice-2.ensures)
       c.in_ok-keep_packets.ensures.numbered
       c.number_of.ensures

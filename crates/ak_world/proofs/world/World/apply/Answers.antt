@@ -2,7 +2,7 @@ use Rattle.std.proofs.Common.{◌≡◌, false, ◌<◌, ◌^◌, ◌++◌, ◌�
 use Rattle.std.proofs.lemmas.Grind.{common_steps}
 use Rattle.ak_schedule.specs.declared.event.Event.{Event}
 use Rattle.ak_world.specs.World.{run}
-use Rattle.ak_world.specs.WorldWords.{Chronicle, IsReady, state_of}
+use Rattle.ak_world.specs.WorldContracts.{WorldModel, IsReady, state_of}
 use Rattle.ak_world.proofs.FoldRuns.{folds-of_run, views_at_times}
 use Rattle.ak_world.proofs.WorldLemmas.{ready_run, run-went, at-ok}
 use Rattle.ak_world.proofs.world.World.apply.Goals as goal
@@ -10,7 +10,7 @@ use Rattle.ak_world.proofs.world.World.apply.Goals as goal
 pub happens-requires : goal.happens-requires
 happens-requires c =
     let few : length c.self.inside.accepted.items < 2 ^ 62 =
-    subst (λ (events : List Event). length events < 2 ^ 62) (sym (ap (λ (w : Chronicle). w.events) c.self.view_is)) c.requires in
+    subst (λ (events : List Event). length events < 2 ^ 62) (sym (ap (λ (w : WorldModel). w.events) c.self.view_is)) c.requires in
     record { ready = subst IsReady (sym (c.self.invariant.is_run c.if-self.false)) (ready_run c.self.inside.scene.settings c.self.inside.accepted.items few) }
 
 pub invariant_of-self : goal.invariant_of-self

@@ -1,5 +1,0 @@
-use Rattle.ak_address.proofs.Spelled.{number_text_spells, address_text_spells, unique_text_spells}
-use Rattle.ak_address.proofs.print.texts_are_spellings.Goals as goal
-
-pub returns : goal.returns
-returns c = record { numbers = number_text_spells; addresses = address_text_spells; uniques = unique_text_spells }

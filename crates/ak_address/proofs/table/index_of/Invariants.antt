@@ -1,0 +1,16 @@
+use Rattle.std.proofs.Common.{◌-◌, ◌≤◌, length}
+use Rattle.ak_address.specs.Unique.{unique_cmp}
+use Rattle.ak_address.proofs.Pairs.{IsAboveBefore, IsBelowFrom}
+use Rattle.ak_address.proofs.table.index_of.Given as goal
+
+-- the process is above the pairs before the low index, and below those from the high one on
+abbrev pub invariant-halves : goal.invariant-halves
+invariant-halves g l = record {
+  in_order : l.low ≤ l.high;
+  in_range : l.high ≤ length l.entries;
+  above : IsAboveBefore unique_cmp l.who l.entries l.low;
+  below : IsBelowFrom unique_cmp l.who l.entries l.high;
+}
+
+abbrev pub decreases-halves : goal.decreases-halves
+decreases-halves g l = l.high - l.low

@@ -1,0 +1,18 @@
+ghost use Rattle.std.specs.Prelude.{◌≡◌, ℕ, ◌⊎◌, List};
+ghost use Rattle.ak_driver.specs.ReplayText.{IsReplay};
+ghost use Rattle.ak_driver.specs.Worked.{empty_schedule, empty_text, founding_schedule, founding_text};
+
+/// A schedule has exactly one replay text and one status, and the status is 0 or 4. (Which line is refused, with which
+/// code, the steps before it and the summary are all determined by the bytes.)
+pub fn replays_are_determined()
+    ensures one { (bytes : List ℕ) (s t : ℕ) (x y : List ℕ) → IsReplay bytes s x → IsReplay bytes t y → (s ≡ t) × (x ≡ y) }
+    ensures status { (bytes : List ℕ) (s : ℕ) (x : List ℕ) → IsReplay bytes s x → (s ≡ 0) ⊎ (s ≡ 4) }
+    ensures some { (bytes : List ℕ) → (s : ℕ) × (x : List ℕ) × IsReplay bytes s x }
+{}
+
+/// What the definitions say that two small schedules print: one without an event, and one in which two nodes start and
+/// one founds the cluster.
+pub fn worked_schedules()
+    ensures empty { IsReplay empty_schedule 0 empty_text }
+    ensures founding { IsReplay founding_schedule 0 founding_text }
+{}
