@@ -1,6 +1,6 @@
 -- The parts of a spelling stand before and after the first `:` and the first `#`, and each list of bytes spells one
 -- value at most.
-use Rattle.std.proofs.Common.{◌≡◌, ℕ, ◌+◌, ◌^◌, ◌<◌, ◌≤◌, Bool, true, false, eqb, List, ◌∷◌, ◌++◌, length, drop, get_or, All, Ok, Err, sym, refl, ap, ◌∙◌, arith, append_assoc, length-append, length-drop, decimal}
+use Rattle.std.proofs.Common.{◌≡◌, ℕ, ◌+◌, ◌^◌, ◌<◌, ◌≤◌, Bool, true, false, eqb, List, ◌∷◌, ◌++◌, length, drop, get_or, All, Result, Ok, Err, is_ok, Option, None, Some, is_some, IfSome, IfNone, IsTrue, ◌↔◌, sym, refl, ap, ◌∙◌, arith, append_assoc, length-append, length-drop, decimal}
 use Rattle.std.proofs.lemmas.Bool.{false≢true, eqb-true}
 use Rattle.std.specs.List.{position_or_len}
 use Rattle.std.specs.Int.{IsInRange}
@@ -12,7 +12,7 @@ use Rattle.std.proofs.lemmas.Bool.Decides.{nat_tests}
 use Rattle.std.proofs.lemmas.List.Sums.{split_at_first, passes_at_first, AllPass-from_list_all}
 use Rattle.std.proofs.lemmas.Str.Parse.{digit_at}
 use Rattle.ak_address.specs.Unique.{AddressModel, UniqueModel, IsHost, IsAddress, IsUnique, is_host_byte}
-use Rattle.ak_address.specs.Spelling.{IsNumber, IsPort, SpellsAddress, SpellsUnique, IsWord, ReadsAs, ChecksPort, address_text, unique_text, before_byte, after_byte}
+use Rattle.ak_address.specs.Spelling.{IsNumber, IsPort, SpellsAddress, SpellsUnique, IsWord, ReadsAs, SomeAddress, SomeUnique, ChecksPort, address_text, unique_text, before_byte, after_byte}
 use Rattle.ak_address.specs.declared.parse.AddressFault.{AddressFault}
 use Rattle.ak_address.specs.declared.parse.AddressFault.TheVariants.{BadHost, BadPort, BadUid, NoMemory}
 use Rattle.ak_address.proofs.Reading.{index_is}
@@ -183,3 +183,35 @@ unique_not_refused bytes host port u fault host_is port_is checked spelt =
     let parts = unique_parts bytes u spelt in
     let range = spelt.range.address in
     not_refused host port u fault checked (rw (host_is, parts.0) range.host) (u.address.port, rw port_is parts.1, range.port, range.port_fits)
+
+-- ---- whether bytes spell a value at all
+pub address_test : (bytes host port : List ℕ) (r : Result ℕ AddressFault) → host ≡ before_byte 58 bytes → port ≡ after_byte 58 bytes → ChecksPort host port r → IsTrue (is_ok r) ↔ SomeAddress bytes
+address_test bytes host port (Ok n) host_is port_is checked =
+    let here : ChecksPort (before_byte 58 bytes) (after_byte 58 bytes) (Ok n) = rw (host_is, port_is) at checked in
+    (λ _. (record { host = before_byte 58 bytes; port = n }, address_read bytes (record { host = before_byte 58 bytes; port = n }) refl here), λ _. refl)
+address_test bytes host port (Err BadHost) host_is port_is checked = (λ is. absurd (false≢true is), λ s. absurd (address_not_refused bytes host port s.0 BadHost host_is port_is checked s.1))
+address_test bytes host port (Err BadPort) host_is port_is checked = (λ is. absurd (false≢true is), λ s. absurd (address_not_refused bytes host port s.0 BadPort host_is port_is checked s.1))
+address_test bytes host port (Err BadUid) host_is port_is checked = absurd checked
+address_test bytes host port (Err NoMemory) host_is port_is checked = absurd checked
+
+-- the port of bytes that spell a unique is good
+pub unique_port : (bytes host port : List ℕ) (r : Result ℕ AddressFault) → host ≡ before_byte 58 bytes → port ≡ before_byte 35 (after_byte 58 bytes) → ChecksPort host port r → SomeUnique bytes → IsTrue (is_ok r)
+unique_port bytes host port (Ok n) host_is port_is checked s = refl
+unique_port bytes host port (Err BadHost) host_is port_is checked s = absurd (unique_not_refused bytes host port s.0 BadHost host_is port_is checked s.1)
+unique_port bytes host port (Err BadPort) host_is port_is checked s = absurd (unique_not_refused bytes host port s.0 BadPort host_is port_is checked s.1)
+unique_port bytes host port (Err BadUid) host_is port_is checked s = absurd checked
+unique_port bytes host port (Err NoMemory) host_is port_is checked s = absurd checked
+
+-- and with a good port it is the uid that decides
+pub unique_test : (bytes host port uid : List ℕ) (r : Result ℕ AddressFault) (o : Option ℕ) → host ≡ before_byte 58 bytes → port ≡ before_byte 35 (after_byte 58 bytes) → uid ≡ after_byte 35 (after_byte 58 bytes)
+    → ChecksPort host port r → IsTrue (is_ok r) → IfSome o (λ n. IsNumber uid n × (1 ≤ n) × (n ≤ 9223372036854775807)) → IfNone o ((n : ℕ) → IsNumber uid n → 1 ≤ n → n ≤ 9223372036854775807 → ⊥)
+    → IsTrue (is_some o) ↔ SomeUnique bytes
+unique_test bytes host port uid (Err e) o host_is port_is uid_is checked good found none = absurd (false≢true good)
+unique_test bytes host port uid (Ok p) (Some n) host_is port_is uid_is checked good found none =
+    let here : ChecksPort (before_byte 58 bytes) (before_byte 35 (after_byte 58 bytes)) (Ok p) = rw (host_is, port_is) at checked in
+    let number : IsNumber (after_byte 35 (after_byte 58 bytes)) n = rw uid_is at found.0 in
+    (λ _. (record { address = record { host = before_byte 58 bytes; port = p }; uid = n }, unique_read bytes (record { address = record { host = before_byte 58 bytes; port = p }; uid = n }) refl here number found.1 (omega (arith, found.2))), λ _. refl)
+unique_test bytes host port uid (Ok p) None host_is port_is uid_is checked good found none = (
+  λ is. absurd (false≢true is),
+  λ s. absurd (none s.0.uid (rw uid_is (unique_parts bytes s.0 s.1).2) s.1.range.uid (omega (arith, s.1.range.uid_fits))),
+)

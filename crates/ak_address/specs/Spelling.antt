@@ -69,6 +69,13 @@ ReadsAs (Err BadPort) value = ⊥
 ReadsAs (Err BadUid) value = ⊥
 ReadsAs (Err NoMemory) value = Unit {0}
 
+-- the bytes spell some address, and some unique
+abbrev pub SomeAddress : List ℕ → Type 0
+SomeAddress bytes = (a : AddressModel) × SpellsAddress bytes a
+
+abbrev pub SomeUnique : List ℕ → Type 0
+SomeUnique bytes = (u : UniqueModel) × SpellsUnique bytes u
+
 -- at least one byte, and each from `!` to `~`: no space and no line end
 abbrev pub IsWord : List ℕ → Type 0
 IsWord bytes = (1 ≤ length bytes) × All (λ b. (32 < b) × (b < 127)) bytes

@@ -2,7 +2,7 @@ ghost use Rattle.std.specs.Prelude.{◌≡◌, ℕ, ◌<◌, ◌≤◌, ◌^◌,
 ghost use Rattle.std.specs.List.{position_or_len, list_all};
 ghost use Rattle.std.specs.Str.Parse.{AllDigits, digits_value};
 ghost use Rattle.ak_address.specs.Unique.{AddressModel, UniqueModel, IsHost, is_host_byte};
-ghost use Rattle.ak_address.specs.Spelling.{IsNumber, IsPort, IsUid, SpellsAddress, SpellsUnique, IsWord, ReadsAs, ChecksPort, before_byte, after_byte};
+ghost use Rattle.ak_address.specs.Spelling.{IsNumber, IsPort, IsUid, SpellsAddress, SpellsUnique, ReadsAs, SomeAddress, SomeUnique, ChecksPort, before_byte, after_byte};
 
 use crate::address::{Address, Unique};
 use crate::text::Text;
@@ -88,6 +88,7 @@ pub fn parse_address(alloc: Global, bytes: &[u8]) -> Result<Address, AddressFaul
         ↔ (IsHost (before_byte 58 bytes.now) × (¬ IsPort (after_byte 58 bytes.now))) }
     ensures no_uid { ¬ IsErrOf result AddressFault.BadUid }
     ensures only { (a : AddressModel) → SpellsAddress bytes.now a → ReadsAs result a }
+    ensures memory { IsErrOf result AddressFault.NoMemory → SomeAddress bytes.now }
 {
     let (host, port) = split_at_byte(bytes, b':');
     let port = checked_port(host, port)?;
@@ -110,6 +111,7 @@ pub fn parse_unique(alloc: Global, bytes: &[u8]) -> Result<Unique, AddressFault>
         ↔ (IsHost (before_byte 58 bytes.now) × IsPort (before_byte 35 (after_byte 58 bytes.now))
         × (¬ IsUid (after_byte 35 (after_byte 58 bytes.now)))) }
     ensures only { (u : UniqueModel) → SpellsUnique bytes.now u → ReadsAs result u }
+    ensures memory { IsErrOf result AddressFault.NoMemory → SomeUnique bytes.now }
 {
     let (host, rest) = split_at_byte(bytes, b':');
     let (port, uid) = split_at_byte(rest, b'#');
@@ -122,6 +124,26 @@ pub fn parse_unique(alloc: Global, bytes: &[u8]) -> Result<Unique, AddressFault>
     };
     let address = Address { host, port };
     Ok(Unique { address, uid })
+}
+
+/// Whether these bytes spell an address, as `parse_address` reads it. Takes no memory.
+pub fn is_address(bytes: &[u8]) -> bool
+    ensures { IsTrue result ↔ SomeAddress bytes.now }
+{
+    let (host, port) = split_at_byte(bytes, b':');
+    checked_port(host, port).is_ok()
+}
+
+/// Whether these bytes spell a unique, as `parse_unique` reads it. Takes no memory.
+pub fn is_unique(bytes: &[u8]) -> bool
+    ensures { IsTrue result ↔ SomeUnique bytes.now }
+{
+    let (host, rest) = split_at_byte(bytes, b':');
+    let (port, uid) = split_at_byte(rest, b'#');
+    match checked_port(host, port) {
+        Ok(_) => parse_number(uid, LEAST_UID, MOST_UID).is_some(),
+        Err(_) => false,
+    }
 }
 
 // The port after a good host.

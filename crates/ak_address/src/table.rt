@@ -62,6 +62,13 @@ impl<V> Table<V> {
         value_of(&self.entries, who)
     }
 
+    /// The process as the table has it, and what it has at it; none where it has nothing. Takes no memory.
+    pub fn find(&self, who: &Unique) -> Option<(&Unique, &V)>
+        ensures { option_map (λ pair. (pair.0.now, pair.1.now)) result ≡ option_map {U = UniqueModel × V} (λ v. (who.now, v)) (map.get self.now who.now) }
+    {
+        pair_of(&self.entries, who)
+    }
+
     /// How many processes it has.
     pub fn len(&self) -> usize
         ensures { result ≡ map.len self.now }
@@ -174,6 +181,20 @@ fn value_of<'a, V>(entries: &'a [(Unique, V)], who: &Unique) -> Option<&'a V>
 {
     match index_of(entries, who) {
         Ok(index) => Some(&entries[index].1),
+        Err(_) => None,
+    }
+}
+
+// The pair of the process.
+fn pair_of<'a, V>(entries: &'a [(Unique, V)], who: &Unique) -> Option<(&'a Unique, &'a V)>
+    requires { IsTrue (map.is_sorted unique_cmp entries.now) }
+    ensures { option_map (λ pair. (pair.0.now, pair.1.now)) result ≡ option_map {U = UniqueModel × V} (λ v. (who.now, v)) (map.find unique_cmp who.now entries.now) }
+{
+    match index_of(entries, who) {
+        Ok(index) => {
+            let entry = &entries[index];
+            Some((&entry.0, &entry.1))
+        }
         Err(_) => None,
     }
 }

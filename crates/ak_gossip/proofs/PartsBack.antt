@@ -12,7 +12,7 @@ use Rattle.ak_address.specs.Unique.{UniqueModel, unique_cmp}
 use Rattle.ak_address.specs.Uniques.{no_one, has}
 use Rattle.ak_address.proofs.OrderLemmas.{unique_total}
 use Rattle.ak_address.proofs.Pairs.{find_at, both}
-use Rattle.ak_address.proofs.TableLaws.{same_table, same_or_apart, other_key, rows_of, true_is}
+use Rattle.ak_address.proofs.TableLaws.{same_table, same_or_apart, other_key, pairs_of, true_is}
 use Rattle.ak_clock.specs.declared.version.TheConstants.{BOUND}
 use Rattle.ak_clock.specs.Version.{Counts, IsVersion}
 use Rattle.ak_clock.proofs.VersionLaws.{empty_is_version, reaching_is_version}
@@ -210,7 +210,7 @@ module _ (parts : List Part) (valid : AreParts parts) where
   ]
 
   made_entries : map.entries made.view.standings ≡ rows
-  made_entries = rows_of rows (true_is _ pairs_sorted) made.view.standings (same_table (map.from_sorted rows) made.view.standings (λ q. map.get-from_sorted unique_cmp rows q pairs_sorted ∙ sym (found_row q)))
+  made_entries = pairs_of rows (true_is _ pairs_sorted) made.view.standings (same_table (map.from_sorted rows) made.view.standings (λ q. map.get-from_sorted unique_cmp rows q pairs_sorted ∙ sym (found_row q)))
 
   abbrev everybody : List UniqueModel
   everybody = list.map (λ (part : Part). part.unique) parts

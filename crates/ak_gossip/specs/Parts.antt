@@ -9,14 +9,24 @@ use Rattle.ak_clock.specs.declared.version.TheConstants.{BOUND}
 use Rattle.ak_clock.specs.Version.{count}
 use Rattle.ak_member.specs.declared.standing.Standing.{Standing}
 use Rattle.ak_member.specs.declared.standing.Standing.TheVariants.{Member, Buried}
-use Rattle.ak_member.specs.Standing.{rank, as_member}
+use Rattle.ak_member.specs.declared.status.Status.{Status}
+use Rattle.ak_member.specs.declared.status.Status.TheVariants.{Joining, Up, Leaving, Exiting, Down}
+use Rattle.ak_member.specs.Standing.{as_member}
 use Rattle.ak_member.specs.View.{Row}
 use Rattle.ak_gossip.specs.declared.part.Part.{Part}
 use Rattle.ak_gossip.specs.Gossip.{GossipState, most_uniques, IsStanding}
 
--- 1 to 5 for the statuses of a member in their order, 6 for a tombstone, 7 for a confirmed one
+-- the numbers of a datagram are a table of their own: a status that comes later gets a number that is free then
+abbrev pub state_of_status : Status → ℕ
+state_of_status Joining = 1
+state_of_status Up = 2
+state_of_status Leaving = 3
+state_of_status Exiting = 4
+state_of_status Down = 5
+
+-- and 6 for a tombstone, 7 for a confirmed one
 abbrev pub state_of : Standing → ℕ
-state_of (Member status number) = rank status
+state_of (Member status number) = state_of_status status
 state_of (Buried false) = 6
 state_of (Buried true) = 7
 

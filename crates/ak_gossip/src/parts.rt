@@ -4,7 +4,7 @@ ghost use Rattle.ak_address.specs.Uniques.{no_one, with_one};
 ghost use Rattle.ak_member.specs.Standing.{nobody};
 ghost use Rattle.ak_clock.specs.declared.version.TheConstants.{BOUND};
 ghost use Rattle.ak_gossip.specs.Gossip.{GossipState, IsGossip, IsNumber, most_uniques};
-ghost use Rattle.ak_gossip.specs.Parts.{state_of, number_of, row_number_of, indices_of, subjects_of, part_of, parts_of, IsState, IsPart, AreParts};
+ghost use Rattle.ak_gossip.specs.Parts.{state_of_status, state_of, number_of, row_number_of, indices_of, subjects_of, part_of, parts_of, IsState, IsPart, AreParts};
 ghost use Rattle.ak_gossip.specs.PartsWalk.{standing_of, ascend_from, is_above, ascend_after, has_there, with_counts, with_known, with_standings, with_seen, with_process, with_indices, with_part_row, with_part_rows};
 
 use crate::gossip::{Gossip, MOST_UNIQUES};
@@ -197,9 +197,21 @@ fn state_of(standing: Standing) -> u8
     ensures { result ≡ state_of standing }
 {
     match standing {
-        Standing::Member(status, _) => status.rank(),
+        Standing::Member(status, _) => state_of_status(status),
         Standing::Buried(false) => 6,
         Standing::Buried(true) => 7,
+    }
+}
+
+fn state_of_status(status: Status) -> u8
+    ensures { result ≡ state_of_status status }
+{
+    match status {
+        Status::Joining => 1,
+        Status::Up => 2,
+        Status::Leaving => 3,
+        Status::Exiting => 4,
+        Status::Down => 5,
     }
 }
 

@@ -1,6 +1,6 @@
 -- What a view knows of each process, and what two views of it come to (Akka's Cluster Specification, "Membership
 -- Lifecycle" and "Gossip": a status only rises, and a process that was removed never comes back).
-use Rattle.std.specs.Prelude.{ℕ, min, nat_lt, ◌==◌, Bool, ◌||◌, List, [], ◌∷◌, Option, None, Some, is_some, if◌then◌else◌}
+use Rattle.std.specs.Prelude.{ℕ, min, nat_lt, ◌==◌, Bool, true, false, ◌||◌, List, [], ◌∷◌, Option, None, Some, is_some, if◌then◌else◌}
 use Rattle.std.specs.FinMap as map
 use Rattle.ak_address.specs.Unique.{UniqueModel, unique_cmp}
 use Rattle.ak_address.specs.Table.{value_with, merged_tables}
@@ -72,6 +72,20 @@ tombstone_of (Some standing) = as_tombstone standing
 
 abbrev pub is_member : Standings → UniqueModel → Bool
 is_member s who = is_some (member_of (map.get s who))
+
+-- a status that is Down
+abbrev pub is_down : Status → Bool
+is_down Joining = false
+is_down Up = false
+is_down Leaving = false
+is_down Exiting = false
+is_down Down = true
+
+-- a process that is Down or a tombstone is gone; any other, and one of whom nothing is known, is not
+abbrev pub is_gone : Option Standing → Bool
+is_gone None = false
+is_gone (Some (Member status number)) = is_down status
+is_gone (Some (Buried confirmed)) = true
 
 -- the pairs that have one, in their order
 abbrev pub pair_of : {X : Type 0} → UniqueModel → Option X → List (UniqueModel × X) → List (UniqueModel × X)

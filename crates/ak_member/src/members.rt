@@ -1,7 +1,9 @@
 ghost use Rattle.std.specs.Prelude.{◌≡◌, IfOk, OnOk, OnErr, IsOk, IsSome, length, slice_get, option_map, option_to_list, ◌+◌, ℕ};
 ghost use Rattle.std.specs.FinMap as map;
 ghost use Rattle.ak_address.specs.Table.{value_with};
-ghost use Rattle.ak_member.specs.Standing.{nobody, merged_standings, merged_standing, known, member_pairs, tombstone_pairs, raised, buried, member_of, tombstone_of, members_of, tombstones_of};
+ghost use Rattle.ak_address.specs.Unique.{UniqueModel};
+ghost use Rattle.ak_member.specs.declared.status.Status.{Status};
+ghost use Rattle.ak_member.specs.Standing.{nobody, merged_standings, merged_standing, known, member_pairs, tombstone_pairs, raised, buried, is_gone, member_of, tombstone_of, members_of, tombstones_of};
 ghost use Rattle.ak_member.specs.View.{after_effect, after_effects};
 
 use crate::effect::{Effect, Effects};
@@ -59,17 +61,29 @@ impl Members {
     }
 
     /// The member that the process is; none where it is no member. Takes no memory.
-    pub fn get<'a>(&'a self, who: &'a Unique) -> Option<Member<'a>>
-        ensures { option_map (λ m. (m.status, m.up_number)) result ≡ member_of (map.get self.now who.now) }
+    pub fn get(&self, who: &Unique) -> Option<Member<'_>>
+        ensures { option_map (λ m. (m.unique.now, (m.status, m.up_number))) result ≡ option_map {U = UniqueModel × (Status × ℕ)} (λ m. (who.now, m)) (member_of (map.get self.now who.now)) }
     {
-        match self.table.get(who) {
-            Some(Standing::Member(status, up_number)) => Some(Member {
-                unique: who,
+        match self.table.find(who) {
+            Some((unique, Standing::Member(status, up_number))) => Some(Member {
+                unique,
                 status: *status,
                 up_number: *up_number,
             }),
-            Some(Standing::Buried(_)) => None,
+            Some((_, Standing::Buried(_))) => None,
             None => None,
+        }
+    }
+
+    /// Whether the process is Down or was removed: it takes no part any more (Akka's Cluster Specification, "Membership
+    /// Lifecycle"). One of whom nothing is known is not gone. Takes no memory.
+    pub fn is_gone(&self, who: &Unique) -> bool
+        ensures { result ≡ is_gone (map.get self.now who.now) }
+    {
+        match self.table.get(who) {
+            Some(Standing::Member(status, _)) => *status == Status::Down,
+            Some(Standing::Buried(_)) => true,
+            None => false,
         }
     }
 

@@ -1,2 +1,3 @@
+pub mod Change
 pub mod Node
 pub mod NodeContracts

@@ -11,16 +11,14 @@ use Rattle.ak_clock.specs.Version.{count, relation}
 use Rattle.ak_clock.specs.declared.version.Relation as clock
 use Rattle.ak_member.specs.declared.effect.Effect.{Effect}
 use Rattle.ak_member.specs.declared.effect.Effect.TheVariants.{Joined}
-use Rattle.ak_member.specs.declared.status.Status.{Status}
-use Rattle.ak_member.specs.declared.status.Status.TheVariants.{Joining, Up, Leaving, Exiting, Down}
-use Rattle.ak_member.specs.Standing.{Standings, member_of, members_of}
+use Rattle.ak_member.specs.Standing.{Standings, members_of}
 use Rattle.ak_member.specs.Standing as standing
 use Rattle.ak_gossip.specs.declared.gossip.Received as received
 use Rattle.ak_gossip.specs.declared.gossip.GossipFault as fault
 use Rattle.ak_wire.specs.declared.envelope.Message.{Message}
 use Rattle.ak_wire.specs.declared.envelope.Message as message
 use Rattle.ak_wire.specs.declared.envelope.Envelope.{Envelope}
-use Rattle.ak_schedule.specs.Settings.{SettingsModel}
+use Rattle.ak_schedule.specs.Settings.{SettingsModel, is_listed}
 use Rattle.ak_node.specs.declared.node.State.{State}
 use Rattle.ak_node.specs.declared.node.NodeEvent.{NodeEvent}
 use Rattle.ak_node.specs.declared.node.NodeEvent as event
@@ -32,9 +30,13 @@ use Rattle.ak_gossip.specs.Gossip.{GossipState, nothing_known, is_known, updated
 abbrev pub started : UniqueModel → SettingsModel → State
 started me settings = record { me = me; settings = settings; steps = 0; gossip = nothing_known; founder = false; target = None }
 
+-- what a node knows: definitions and proofs ask it of a state by this word alone
+abbrev pub known : State → GossipState
+known n = n.gossip
+
 -- a node is a member where it is one of its own view
 abbrev pub is_member : State → Bool
-is_member n = standing.is_member n.gossip.view.standings n.me
+is_member n = standing.is_member (known n).view.standings n.me
 
 -- what a rule makes of a state, and what it does
 abbrev pub Outcome : Type 0
@@ -56,26 +58,23 @@ to_address n to what = action.TheVariants.Send (record { from = n.me; to = to; u
 -- the node makes one update, by these effects
 abbrev pub update : List Effect → State → Outcome
 update effects n = (
-  record n { gossip = updated n.me effects n.gossip },
-  action.TheVariants.Update (count n.gossip.version n.me + 1) effects ∷ [],
+  record n { gossip = updated n.me effects (known n) },
+  action.TheVariants.Update (count (known n).version n.me + 1) effects ∷ [],
 )
 
 -- then the node answers with what it knows
 abbrev pub and_sends : (GossipState → Message) → UniqueModel → Outcome → Outcome
-and_sends what to o = (o.0, o.1 ++ to_process o.0 to (what o.0.gossip) ∷ [])
+and_sends what to o = (o.0, o.1 ++ to_process o.0 to (what (known o.0)) ∷ [])
 
 -- Founding: the node becomes the first member. (A node that was removed learns so from its view; it does nothing.)
 abbrev pub found : State → Outcome
-found n = if is_known n.gossip.view.standings n.me then nothing n else update (Joined n.me ∷ []) (record n { founder = true })
+found n = if is_known (known n).view.standings n.me then nothing n else update (Joined n.me ∷ []) (record n { founder = true })
 
 -- the node asks to join, through an address
 abbrev pub join : AddressModel → State → Outcome
 join target n =
     if is_member n then nothing n
     else (record n { target = Some target }, to_address n target message.TheVariants.Join ∷ [])
-
-abbrev pub is_listed : List AddressModel → AddressModel → Bool
-is_listed listed a = list_any (λ b. is_eq (address_cmp b a)) listed
 
 -- another member is at the address of this one
 abbrev pub has_member_beside : UniqueModel → Standings → Bool
@@ -90,25 +89,18 @@ abbrev pub on_join : UniqueModel → State → Outcome
 on_join from n =
     if not (is_member n) then refused 3 n
     else (if not (is_listed n.settings.listed from.address) then refused 4 n
-    else (if standing.is_member n.gossip.view.standings from then and_sends message.TheVariants.Welcome from (nothing n)
-    else (if is_known n.gossip.view.standings from then nothing n
-    else (if has_member_beside from n.gossip.view.standings then nothing n
-    else (if nat_le most_at_join (finmap.len n.gossip.view.standings) then refused 6 n
+    else (if standing.is_member (known n).view.standings from then and_sends message.TheVariants.Welcome from (nothing n)
+    else (if is_known (known n).view.standings from then nothing n
+    else (if has_member_beside from (known n).view.standings then nothing n
+    else (if nat_le most_at_join (finmap.len (known n).view.standings) then refused 6 n
     else and_sends message.TheVariants.Welcome from (update (Joined from ∷ []) n))))))
 
--- a node that its view shows as Down or removed sends no gossip
-abbrev pub is_out : Option (Status × ℕ) → Bool
-is_out None = true
-is_out (Some (Joining, number)) = false
-is_out (Some (Up, number)) = false
-is_out (Some (Leaving, number)) = false
-is_out (Some (Exiting, number)) = false
-is_out (Some (Down, number)) = true
-
+-- a node that its view shows as Down or as a tombstone is gone; one that its view does not know is not
 abbrev pub is_gone : State → Bool
-is_gone n = is_out (member_of (finmap.get n.gossip.view.standings n.me))
+is_gone n = standing.is_gone (finmap.get (known n).view.standings n.me)
 
--- the sender of a gossip is answered, but where it is known to know what the node knows
+-- the sender of a gossip that is accepted is answered, but where both know the same and the sender knows that the node does;
+-- and a node that is gone answers nobody
 abbrev pub is_answered : UniqueModel → GossipState → received.Received → Bool
 is_answered me incoming received.TheVariants.Same = not (has incoming.seen me)
 is_answered me incoming received.TheVariants.Newer = true
@@ -120,14 +112,14 @@ on_received from incoming n (Err (fault.TheVariants.ForeignCount own theirs)) = 
 on_received from incoming n (Err (fault.TheVariants.TooManyUniques union)) = refused 6 n
 on_received from incoming n (Err fault.TheVariants.NoMemory) = nothing n
 on_received from incoming n (Ok r) =
-    let known = nothing (record n { gossip = r.1 }) in
-    if is_answered n.me incoming r.0 && not (is_gone known.0) then and_sends message.TheVariants.Gossip from known else known
+    let o = nothing (record n { gossip = r.1 }) in
+    if is_answered n.me incoming r.0 && not (is_gone o.0) then and_sends message.TheVariants.Gossip from o else o
 
 -- a gossip in which the node is neither a member nor a tombstone is passed over
 abbrev pub on_gossip : UniqueModel → GossipState → State → Outcome
 on_gossip from incoming n =
     if is_known incoming.view.standings n.me
-    then on_received from incoming n (receive n.me n.gossip incoming)
+    then on_received from incoming n (receive n.me (known n) incoming)
     else nothing n
 
 abbrev pub on_message : UniqueModel → Message → State → Outcome
@@ -157,7 +149,7 @@ is_other old new = not (is_same (relation old new))
 
 abbrev pub closed : State → Outcome → Outcome
 closed before o =
-    if is_other before.gossip.version o.0.gossip.version then (o.0, o.1 ++ action.TheVariants.View ∷ []) else o
+    if is_other (known before).version (known o.0).version then (o.0, o.1 ++ action.TheVariants.View ∷ []) else o
 
 -- one event given to a node: its rule, and then the closing
 abbrev pub step : NodeEvent → State → Outcome

@@ -2,7 +2,9 @@
 //! (Akka's Cluster Specification, "Membership Lifecycle"; the messages are this project's choice).
 #![tactic(auto)]
 
+mod laws;
 mod node;
 
 pub use ak_wire::{Action, Actions};
+pub use laws::steps_update_once;
 pub use node::{Node, NodeEvent, State, is_for};

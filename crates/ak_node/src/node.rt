@@ -7,12 +7,12 @@ ghost use Rattle.ak_clock.specs.Version.{count};
 ghost use Rattle.ak_member.specs.Standing as standing;
 ghost use Rattle.ak_gossip.specs.Gossip.{MayUpdate, is_known};
 ghost use Rattle.ak_node.specs.Node as rules;
-ghost use Rattle.ak_node.specs.NodeContracts.{Does, KnowsItself};
+ghost use Rattle.ak_node.specs.NodeContracts.{Does, KnowsItself, IsSameProcess, IsLeftOver};
 
 use ak_address::{Address, Unique};
 use ak_clock::Relation;
 use ak_gossip::{Gossip, GossipFault, Received};
-use ak_member::{Effect, Effects, Member, Members, Standing, Status};
+use ak_member::{Effect, Effects, Members, Standing};
 use ak_schedule::Settings;
 use ak_wire::{Action, Actions, Envelope, Message};
 use std::alloc::{AllocError, Global};
@@ -64,33 +64,14 @@ fn one(alloc: Global, action: Action) -> Result<Actions, AllocError>
     Ok(actions)
 }
 
-// The address belongs to the cluster.
-fn is_listed_at(settings: &Settings, at: &Address) -> bool
-    ensures { result ≡ rules.is_listed settings.now.listed at.now }
-{
-    settings.is_listed(at)
-}
-
-// The address of the process belongs to the cluster.
-fn is_listed(settings: &Settings, who: &Unique) -> bool
-    ensures { result ≡ rules.is_listed settings.now.listed who.now.address }
-{
-    is_listed_at(settings, &who.address)
-}
-
-// Both processes are at one address.
-fn is_beside(one: &Unique, other: &Unique) -> bool
-    ensures { result ≡ is_eq (address_cmp one.now.address other.now.address) }
-{
-    one.address.compare(&other.address).is_eq()
-}
-
-// The row at an index is of a member at the address of this process.
+// At an index among all that are known stands a member at the address of this process.
 fn is_member_beside(who: &Unique, members: &Members, index: usize) -> bool
     ensures { result ≡ list_any (λ m. is_eq (address_cmp m.0.address who.now.address)) (standing.member_pairs (option_to_list (slice_get (map.entries members.now) index))) }
 {
     match members.pair(index) {
-        Some((other, Standing::Member(_, _))) => is_beside(other, who),
+        Some((other, Standing::Member(_, _))) => {
+            other.address.compare(&who.address).is_eq()
+        }
         Some((_, Standing::Buried(_))) => false,
         None => false,
     }
@@ -100,7 +81,7 @@ fn is_member_beside(who: &Unique, members: &Members, index: usize) -> bool
 fn has_member_beside(who: &Unique, members: &Members) -> bool
     ensures { result ≡ rules.has_member_beside who.now members.now }
 {
-    'rows: for index in 0..members.uniques() {
+    'pairs: for index in 0..members.uniques() {
         if is_member_beside(who, members, index) {
             return true;
         }
@@ -122,22 +103,6 @@ fn is_known(members: &Members, who: &Unique) -> bool
     members.get(who).is_some() || members.tombstone(who).is_some()
 }
 
-// The process is Down, or no member.
-fn is_out(members: &Members, who: &Unique) -> bool
-    ensures { result ≡ rules.is_out (standing.member_of (map.get members.now who.now)) }
-{
-    match members.get(who) {
-        Some(
-            Member {
-                unique: _,
-                status,
-                up_number: _,
-            },
-        ) => status == Status::Down,
-        None => true,
-    }
-}
-
 impl State {
     fn is_member(&self) -> bool
         ensures { result ≡ rules.is_member self.now }
@@ -147,35 +112,28 @@ impl State {
 
     // The process is a member of what the node knows.
     fn has_member(&self, who: &Unique) -> bool
-        ensures { result ≡ standing.is_member self.now.gossip.view.standings who.now }
+        ensures { result ≡ standing.is_member (rules.known self.now).view.standings who.now }
     {
         is_member(self.gossip.members(), who)
     }
 
     // The process is a member or a tombstone of what the node knows.
     fn knows(&self, who: &Unique) -> bool
-        ensures { result ≡ is_known self.now.gossip.view.standings who.now }
+        ensures { result ≡ is_known (rules.known self.now).view.standings who.now }
     {
         is_known(self.gossip.members(), who)
     }
 
-    // What the node knows shows it as Down, or no longer as a member.
+    // What the node knows shows it as Down or as a tombstone.
     fn is_gone(&self) -> bool
         ensures { result ≡ rules.is_gone self.now }
     {
-        is_out(self.gossip.members(), &self.me)
-    }
-
-    // Another member is at the address of the process.
-    fn has_member_beside(&self, who: &Unique) -> bool
-        ensures { result ≡ rules.has_member_beside who.now self.now.gossip.view.standings }
-    {
-        has_member_beside(who, self.gossip.members())
+        self.gossip.members().is_gone(&self.me)
     }
 
     // What the node knows holds as many processes as a view may that admits others.
     fn is_full(&self) -> bool
-        ensures { result ≡ nat_le rules.most_at_join (map.len self.now.gossip.view.standings) }
+        ensures { result ≡ nat_le rules.most_at_join (map.len (rules.known self.now).view.standings) }
     {
         self.gossip.members().uniques() >= MOST_AT_JOIN
     }
@@ -196,8 +154,9 @@ impl State {
 
     // An entry with one effect.
     fn update(&mut self, alloc: Global, effect: Effect) -> Result<Actions, AllocError>
-        requires { MayUpdate self.old.me (effect ∷ []) self.old.gossip }
-        ensures { IfOk result (λ actions. Does (rules.update (effect ∷ []) self.old) self.new actions) }
+        requires { MayUpdate self.old.me (effect ∷ []) (rules.known self.old) }
+        ensures does { IfOk result (λ actions. Does (rules.update (effect ∷ []) self.old) self.new actions) }
+        ensures same { IsSameProcess self.old self.new }
     {
         let mut effects = Effects::empty(alloc);
         effects.push(effect)?;
@@ -206,9 +165,10 @@ impl State {
     }
 
     fn found(&mut self, alloc: Global) -> Result<Actions, AllocError>
-        requires count { count self.old.gossip.version self.old.me < 2 ^ 62 }
-        requires itself { KnowsItself self.old.me self.old.gossip }
-        ensures { IfOk result (λ actions. Does (rules.found self.old) self.new actions) }
+        requires count { count (rules.known self.old).version self.old.me < 2 ^ 62 }
+        requires itself { KnowsItself self.old.me (rules.known self.old) }
+        ensures does { IfOk result (λ actions. Does (rules.found self.old) self.new actions) }
+        ensures same { IsSameProcess self.old self.new }
     {
         if self.knows(&self.me) {
             return Ok(Actions::empty(alloc));
@@ -220,7 +180,8 @@ impl State {
     }
 
     fn join(&mut self, alloc: Global, target: Address) -> Result<Actions, AllocError>
-        ensures { IfOk result (λ actions. Does (rules.join target self.old) self.new actions) }
+        ensures does { IfOk result (λ actions. Does (rules.join target self.old) self.new actions) }
+        ensures same { IsSameProcess self.old self.new }
     {
         if self.is_member() {
             return Ok(Actions::empty(alloc));
@@ -241,7 +202,7 @@ impl State {
 
     // Adds the answer that a join gets.
     fn welcome(&self, alloc: Global, to: &Unique, actions: &mut Actions) -> Result<(), AllocError>
-        ensures { OnOk result (actions.new ≡ actions.old ++ rules.to_process self.now to.now (Message.Welcome self.now.gossip) ∷ []) }
+        ensures { OnOk result (actions.new ≡ actions.old ++ rules.to_process self.now to.now (Message.Welcome (rules.known self.now)) ∷ []) }
     {
         let gossip = self.gossip.copy(alloc)?;
         let action = self.to_process(alloc, to, Message::Welcome(gossip))?;
@@ -250,7 +211,7 @@ impl State {
 
     // Adds the answer that a gossip gets.
     fn answer(&self, alloc: Global, to: &Unique, actions: &mut Actions) -> Result<(), AllocError>
-        ensures { OnOk result (actions.new ≡ actions.old ++ rules.to_process self.now to.now (Message.Gossip self.now.gossip) ∷ []) }
+        ensures { OnOk result (actions.new ≡ actions.old ++ rules.to_process self.now to.now (Message.Gossip (rules.known self.now)) ∷ []) }
     {
         let gossip = self.gossip.copy(alloc)?;
         let action = self.to_process(alloc, to, Message::Gossip(gossip))?;
@@ -259,13 +220,14 @@ impl State {
 
     // A process asks to join (Akka's Cluster Specification, "Joining": any member admits it).
     fn on_join(&mut self, alloc: Global, from: &Unique) -> Result<Actions, AllocError>
-        requires { count self.old.gossip.version self.old.me < 2 ^ 62 }
-        ensures { IfOk result (λ actions. Does (rules.on_join from.now self.old) self.new actions) }
+        requires { count (rules.known self.old).version self.old.me < 2 ^ 62 }
+        ensures does { IfOk result (λ actions. Does (rules.on_join from.now self.old) self.new actions) }
+        ensures same { IsSameProcess self.old self.new }
     {
         if !self.is_member() {
             return one(alloc, Action::Refused(NOT_MEMBER));
         }
-        if !is_listed(&self.settings, from) {
+        if !self.settings.is_listed(&from.address) {
             return one(alloc, Action::Refused(UNLISTED));
         }
         if self.has_member(from) {
@@ -276,7 +238,7 @@ impl State {
         if self.knows(from) {
             return Ok(Actions::empty(alloc));
         }
-        if self.has_member_beside(from) {
+        if has_member_beside(from, self.gossip.members()) {
             return Ok(Actions::empty(alloc));
         }
         if self.is_full() {
@@ -289,14 +251,17 @@ impl State {
         Ok(actions)
     }
 
-    // A gossip arrives (Akka's Cluster Specification, "Gossip": the receiver answers where it knows what the sender may not).
+    // A gossip arrives (Akka's Cluster Specification, "Gossip"). It is accepted or refused. The sender of an accepted one is
+    // answered with what the node knows then, but where both know the same and the sender knows that the node does; a node
+    // that is Down or a tombstone in the result answers nobody (this project's choice).
     fn on_gossip(
         &mut self,
         alloc: Global,
         from: &Unique,
         incoming: &Gossip,
     ) -> Result<Actions, AllocError>
-        ensures { IfOk result (λ actions. Does (rules.on_gossip from.now incoming.now self.old) self.new actions) }
+        ensures does { IfOk result (λ actions. Does (rules.on_gossip from.now incoming.now self.old) self.new actions) }
+        ensures same { IsSameProcess self.old self.new }
     {
         if !is_known(incoming.members(), &self.me) {
             return Ok(Actions::empty(alloc));
@@ -324,8 +289,9 @@ impl State {
     }
 
     fn on_packet(&mut self, alloc: Global, envelope: &Envelope) -> Result<Actions, AllocError>
-        requires { count self.old.gossip.version self.old.me < 2 ^ 62 }
-        ensures { IfOk result (λ actions. Does (rules.rule (NodeEvent.Packet envelope.now) self.old) self.new actions) }
+        requires { count (rules.known self.old).version self.old.me < 2 ^ 62 }
+        ensures does { IfOk result (λ actions. Does (rules.rule (NodeEvent.Packet envelope.now) self.old) self.new actions) }
+        ensures same { IsSameProcess self.old self.new }
     {
         if !is_for(&self.me, envelope) {
             return one(alloc, Action::Dead);
@@ -338,9 +304,10 @@ impl State {
     }
 
     fn rule(&mut self, alloc: Global, event: NodeEvent) -> Result<Actions, AllocError>
-        requires count { count self.old.gossip.version self.old.me < 2 ^ 62 }
-        requires itself { KnowsItself self.old.me self.old.gossip }
-        ensures { IfOk result (λ actions. Does (rules.rule event self.old) self.new actions) }
+        requires count { count (rules.known self.old).version self.old.me < 2 ^ 62 }
+        requires itself { KnowsItself self.old.me (rules.known self.old) }
+        ensures does { IfOk result (λ actions. Does (rules.rule event self.old) self.new actions) }
+        ensures same { IsSameProcess self.old self.new }
     {
         match event {
             NodeEvent::Found => self.found(alloc),
@@ -351,10 +318,11 @@ impl State {
 
     // One event: its rule, and then the closing, which shows the view where the version is another.
     fn step(&mut self, alloc: Global, event: NodeEvent) -> Result<Actions, AllocError>
-        requires count { count self.old.gossip.version self.old.me < 2 ^ 62 }
+        requires count { count (rules.known self.old).version self.old.me < 2 ^ 62 }
         requires steps { self.old.steps < 2 ^ 62 }
-        requires itself { KnowsItself self.old.me self.old.gossip }
-        ensures { IfOk result (λ actions. Does (rules.step event self.old) self.new actions) }
+        requires itself { KnowsItself self.old.me (rules.known self.old) }
+        ensures does { IfOk result (λ actions. Does (rules.step event self.old) self.new actions) }
+        ensures same { IsSameProcess self.old self.new }
     {
         let before = self.gossip.version().copy(alloc)?;
         self.steps += 1;
@@ -377,8 +345,9 @@ pub fn is_for(me: &Unique, envelope: &Envelope) -> bool
     envelope.uid == 0 || envelope.uid == me.uid
 }
 
-/// A node. Once out of memory it is spent: it knows nothing, and each later step answers that it is out of memory. It made at
-/// most one update in each of its steps, and where it knows anybody it knows itself: invariants of the type.
+/// A node. Once out of memory it is spent: it is the same process with the same settings and knows nothing, and each later
+/// step answers that it is out of memory. It counts no more of its own updates than it had steps, and where it knows anybody
+/// it knows itself: invariants of the type.
 #[derive(Drop)]
 pub struct Node {
     state: State,
@@ -386,7 +355,7 @@ pub struct Node {
 }
 
 impl Model for Node {
-    ghost use Rattle.ak_node.specs.NodeContracts.{NodeModel, IsNode};
+    ghost use Rattle.ak_node.specs.NodeContracts.{NodeModel, IsNode, HasForgotten};
     ghost use Rattle.std.specs.Coded.{codes};
     ghost use Rattle.ak_address.specs.Unique.{coded_address, coded_unique};
     ghost use Rattle.ak_schedule.specs.Settings.{coded_settings};
@@ -399,7 +368,7 @@ impl Model for Node {
 
     ghost view = { λ n. record { state = n.state; spent = n.spent } };
 
-    ghost invariant = { λ n. IsNode n.state };
+    ghost invariant = { λ n. IsNode n.state × HasForgotten n.spent n.state };
 }
 
 impl Node {
@@ -422,12 +391,13 @@ impl Node {
         })
     }
 
-    /// Gives the node one event, and answers its actions. Once out of memory the node is spent.
+    /// Gives the node one event, and answers its actions. Once out of memory the node is spent: it still shows its process
+    /// and its settings, and has forgotten what it knew.
     pub fn step(&mut self, alloc: Global, event: NodeEvent) -> Result<Actions, AllocError>
         requires { self.old.state.steps < 2 ^ 62 }
         ensures ok { IfOk result (λ actions. Does (rules.step event self.old.state) self.new.state actions) }
         ensures alive { OnOk result (self.old.spent ≡ false) × OnOk result (self.new.spent ≡ false) }
-        ensures spent { OnErr result (self.new.spent ≡ true) }
+        ensures spent { OnErr result ((self.new.spent ≡ true) × IsLeftOver self.old.state self.new.state) }
     {
         if self.spent {
             return Err(AllocError);
@@ -458,7 +428,7 @@ impl Node {
 
     /// What it knows.
     pub fn gossip(&self) -> &Gossip
-        ensures { result.now ≡ self.now.state.gossip }
+        ensures { result.now ≡ rules.known self.now.state }
     {
         &self.state.gossip
     }

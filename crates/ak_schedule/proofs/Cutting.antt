@@ -1,12 +1,13 @@
 -- A text cut at its first line end, and a line cut at the end of its first word.
-use Rattle.std.proofs.Common.{◌≡◌, ℕ, ◌+◌, ◌-◌, ◌<◌, Bool, true, false, cond, not, ◌==◌, List, [], ◌∷◌, length, take, drop, refl, sym, ◌≢◌, zero, suc, one-add, ◌∙◌, ap, get_or, Some, None, arith, drop-cons, length-drop}
+use Rattle.std.proofs.Common.{◌≡◌, ℕ, ◌+◌, ◌-◌, ◌<◌, Bool, true, false, cond, not, ◌==◌, List, [], ◌∷◌, ◌++◌, inl, inr, All, length, take, drop, refl, sym, ◌≢◌, zero, suc, one-add, ◌∙◌, ap, get_or, Some, None, arith, drop-cons, length-drop}
 use Rattle.std.specs.Prelude.{filter, position, map}
 use Rattle.std.specs.List.{slice_split, onto_first, position_or_len}
-use Rattle.std.proofs.lemmas.List.{take_rest, length-take-le}
+use Rattle.std.proofs.lemmas.List.{take_rest, length-take-le, take-append-drop, get_or-take}
 use Rattle.std.proofs.Math.Seq.{drop-length}
 use Rattle.std.proofs.lemmas.List.Splits.{length-slice_split, slice_split_first, slice_split_none, slice_split-cons_yes, slice_split-cons_no}
 use Rattle.std.proofs.lemmas.List.Sums.{fails_before_first, passes_at_first, prefix_len-le-length}
 use Rattle.std.proofs.lemmas.List.Elements.{All-from_get_or}
+use Rattle.std.proofs.lemmas.Bool.{eqb-true}
 use Rattle.std.proofs.lemmas.Bool.Decides.{nat_tests}
 use Rattle.ak_schedule.specs.Line.{words, begins, without_cr, begun, IsFirstPart, IsFirstLine, IsFirstWord}
 
@@ -24,7 +25,15 @@ cut_at byte xs i h =
     record {
       parts = rw (take_rest xs (i + 1), at.0) (slice_split_first (λ b. b == byte) xs 0 (rw (← at.0) at.1));
       shorter = rw (take_rest xs (i + 1), length-take-le i xs (omega arith), length-drop (i + 1) xs) (omega arith);
+      whole = rw (take_rest xs (i + 1)) (cut_whole byte xs i at.0 at.1);
     }
+  where
+    -- the byte at which a text is cut stands between its two parts
+    cut_whole : (byte : ℕ) (xs : List ℕ) (i : ℕ) → i ≡ position_or_len (λ b. b == byte) xs → i < length xs → xs ≡ take i xs ++ byte ∷ drop (i + 1) xs
+    cut_whole byte xs i at within =
+        let is : get_or xs i 0 ≡ byte = eqb-true (get_or xs i 0) byte (rw at (passes_at_first (λ b. b == byte) xs 0 (omega (arith, at, within)))) in
+        let next : suc i ≡ i + 1 = omega arith in
+        sym (take-append-drop i xs) ∙ ap (λ l. take i xs ++ l) (drop-cons xs i 0 within ∙ (λ j. is j ∷ drop (next j) xs))
 
 pub cut_none : (byte : ℕ) (xs : List ℕ) → None ≡ position (λ b. b == byte) xs → slice_split (λ b. b == byte) xs ≡ xs ∷ []
 cut_none byte xs h =
@@ -32,6 +41,17 @@ cut_none byte xs h =
     slice_split_none (λ b. b == byte) xs (All-from_get_or (λ x. (x == byte) ≡ false) xs 0 (λ i l. fails_before_first (λ b. b == byte) xs i 0 (omega arith)))
 
 -- spaces before the first word
+spaces_before : (xs : List ℕ) (i : ℕ) → Some i ≡ position (λ b. not (b == 32)) xs → All (λ b. b ≡ 32) (take i xs)
+spaces_before xs i h =
+    let at = position_at (λ b. not (b == 32)) xs i h in
+    All-from_get_or (λ b. b ≡ 32) (take i xs) 0 (λ j l.
+      let before : j < i = omega (arith, l, length-take-le i xs (omega (arith, at.1))) in
+      get_or-take i xs j 0 before ∙ eqb-true (get_or xs j 0) 32 (not_false (get_or xs j 0 == 32) (fails_before_first (λ b. not (b == 32)) xs j 0 (omega (arith, before, at.0)))))
+  where
+    not_false : (b : Bool) → not b ≡ false → b ≡ true
+    not_false true h = refl
+    not_false false h = cc
+
 words_space : (xs : List ℕ) (x : ℕ) → (x == 32) ≡ true → words (x ∷ xs) ≡ words xs
 words_space xs x h = ap (filter begins) (slice_split-cons_yes (λ b. b == 32) x xs h)
 
@@ -75,7 +95,16 @@ pub word_cut : (xs w rest : List ℕ) (i : ℕ) → Some i ≡ position (λ b. n
 word_cut xs w rest i h cut =
     let whole : take (length xs - i) (drop i xs) ≡ drop i xs = take_rest xs i in
     let word = first_part xs w (slice_split (λ b. b == 32) rest) i h (rw (← whole) cut.parts) in
-    record { first = word.0; not_empty = word.1; shorter = omega (arith, cut.shorter, ap length whole, length-drop i xs) }
+    record {
+      first = word.0;
+      not_empty = word.1;
+      shorter = omega (arith, cut.shorter, ap length whole, length-drop i xs);
+      spaces = take i xs;
+      begun = drop i xs;
+      spaces_first = sym (take-append-drop i xs);
+      only_spaces = spaces_before xs i h;
+      whole = inl (sym whole ∙ cut.whole);
+    }
 
 pub word_to_the_end : (xs : List ℕ) (i : ℕ) → Some i ≡ position (λ b. not (b == 32)) xs
     → slice_split (λ b. b == 32) (take (length xs - i) (drop i xs)) ≡ take (length xs - i) (drop i xs) ∷ [] → IsFirstWord xs (take (length xs - i) (drop i xs)) []
@@ -83,7 +112,16 @@ word_to_the_end xs i h parts =
     let whole : take (length xs - i) (drop i xs) ≡ drop i xs = take_rest xs i in
     let at = position_at (λ b. not (b == 32)) xs i h in
     let word = first_part xs (take (length xs - i) (drop i xs)) [] i h (ap (slice_split (λ b. b == 32)) (sym whole) ∙ parts) in
-    record { first = word.0; not_empty = word.1; shorter = omega arith }
+    record {
+      first = word.0;
+      not_empty = word.1;
+      shorter = omega arith;
+      spaces = take i xs;
+      begun = drop i xs;
+      spaces_first = sym (take-append-drop i xs);
+      only_spaces = spaces_before xs i h;
+      whole = inr (sym whole, refl);
+    }
 
 -- one CR at the end
 pub cr_dropped : (xs : List ℕ) (n : ℕ) → length xs ≡ suc n → get_or xs n 0 ≡ 13 → take n xs ≡ without_cr xs
@@ -117,8 +155,17 @@ line_cut xs line rest cut =
     record {
       first = ap (λ (ps : List (List ℕ)). map without_cr (begun ps)) cut.parts ∙ ap (map without_cr) (begun_more line parts more);
       shorter = omega (arith, cut.shorter);
+      with_cr = line;
+      line_is = refl;
+      whole = inl cut.whole;
     }
 
 pub last_line : (xs : List ℕ) → xs ≢ [] → slice_split (λ b. b == 10) xs ≡ xs ∷ [] → IsFirstLine xs (without_cr xs) []
 last_line [] some h = absurd (some refl)
-last_line (x ∷ xs) some h = record { first = ap (λ (ps : List (List ℕ)). map without_cr (begun ps)) h; shorter = omega arith }
+last_line (x ∷ xs) some h = record {
+  first = ap (λ (ps : List (List ℕ)). map without_cr (begun ps)) h;
+  shorter = omega arith;
+  with_cr = x ∷ xs;
+  line_is = refl;
+  whole = inr (refl, refl);
+}

@@ -67,10 +67,10 @@ pub kind_is : (k : kind.Kind) (ws : List (List ℕ)) (e : Event) → SpellsWords
 kind_is k ws e h = same_kind (event_kind e) k (named (kind_name k ∷ ws) ws (kind_name k) refl e h)
 
 -- a fault of a part is the fault of the whole
-pub refused : {T U : Type 0} (P : T → Type 0) (Q : U → Type 0) (fault : LineFault) → Reads P (Err fault) → ((u : U) → Q u → (t : T) × P t) → Reads Q (Err fault)
-refused P Q Malformed none part = λ u whole. none (part u whole).0 (part u whole).1
-refused P Q BadHeader none part = none
-refused P Q NoMemory none part = tt
+pub refused : {T U : Type 0} (P : T → Type 0) (Q : U → Type 0) (fault : LineFault) → Reads P (Err fault) → ((u : U) → Q u → (t : T) × P t) → ((t : T) → P t → (u : U) × Q u) → Reads Q (Err fault)
+refused P Q Malformed none part whole_of = λ u whole. none (part u whole).0 (part u whole).1
+refused P Q BadHeader none part whole_of = none
+refused P Q NoMemory some part whole_of = whole_of some.0 some.1
 
 start_of : (ws : List (List ℕ)) (e : Event) → event_kind e ≡ kind.TheVariants.Start → SpellsWords (codes "start" ∷ ws) e → (u : UniqueModel) × SpellsOne ws u
 start_of ws (Start u) k h = let rest : ws ≡ h.0 ∷ [] = cc in (u, (h.0, rest, h.2))
@@ -135,6 +135,7 @@ pub one_at : (ws : List (List ℕ)) (a : List ℕ) (r : Result UniqueModel LineF
 one_at ws a (Ok u) one h = (a, one, h)
 one_at ws a (Err fault) one h =
     refused (SpellsUnique a) (SpellsOne ws) fault h (λ u whole. let first : whole.0 ≡ a = cc in (u, subst (λ (w : List ℕ). SpellsUnique w u) first whole.2))
+    (λ u spelt. (u, (a, one, spelt)))
 
 pub two_at : (ws : List (List ℕ)) (a b : List ℕ) → ws ≡ a ∷ b ∷ [] → (pair : UniqueModel × UniqueModel) → SpellsTwo ws pair → SpellsUnique a pair.0 × SpellsUnique b pair.1
 two_at ws a b two pair h =

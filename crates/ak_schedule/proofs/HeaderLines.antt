@@ -16,7 +16,7 @@ header_refused which line old is none next read =
     none next.settings (subst (λ (h : Header). Sets h (words line) old.settings next.settings) same read.sets.words)
 
 pub header_fault : {T : Type 0} (P : T → Type 0) (which : Header) (line : List ℕ) (old : Drafted) (fault : LineFault) → slice_get headers old.read ≡ Some which
-    → RefusesValue P fault → ((new : SettingsModel) → Sets which (words line) old.settings new → (t : T) × P t) → HeaderAnswers (Err fault) line old old
-header_fault P which line old Malformed is none part = none
-header_fault P which line old BadHeader is none part = (refl, header_refused which line old is (λ new sets. none (part new sets).0 (part new sets).1))
-header_fault P which line old NoMemory is none part = refl
+    → old.read ≡ 0 → RefusesValue P fault → ((new : SettingsModel) → Sets which (words line) old.settings new → (t : T) × P t) → HeaderAnswers (Err fault) line old old
+header_fault P which line old Malformed is first none part = none
+header_fault P which line old BadHeader is first none part = (refl, header_refused which line old is (λ new sets. none (part new sets).0 (part new sets).1))
+header_fault P which line old NoMemory is first none part = (refl, first)

@@ -4,6 +4,7 @@ pub mod Deciding
 pub mod EventWords
 pub mod HeaderLines
 pub mod LineParts
+pub mod ListedLemmas
 pub mod Listing
 pub mod OneWay
 pub mod PassedOver

@@ -56,12 +56,13 @@ pub record ReadsHeader (line : List ℕ) (old new : Drafted) : Type 0 where
   pub sets : SetsHeader which line old.settings new.settings
   pub count : new.read ≡ old.read + 1
 
--- the next header, and whether it is the ninth; refused exactly where the line is not the next header
+-- the next header, and whether it is the ninth; refused exactly where the line is not the next header; memory runs out at the
+-- first header alone, which holds addresses while it is read
 abbrev pub HeaderAnswers : Result Bool LineFault → List ℕ → Drafted → Drafted → Type 0
 HeaderAnswers (Ok done) line old new = ReadsHeader line old new × (IsTrue done ↔ (new.read ≡ 9))
 HeaderAnswers (Err Malformed) line old new = ⊥
 HeaderAnswers (Err BadHeader) line old new = (new ≡ old) × ((next : Drafted) → ReadsHeader line old next → ⊥)
-HeaderAnswers (Err NoMemory) line old new = new ≡ old
+HeaderAnswers (Err NoMemory) line old new = (new ≡ old) × (old.read ≡ 0)
 
 -- a header's value is refused exactly where none is spelled
 abbrev pub RefusesValue : {T : Type 0} → (T → Type 0) → LineFault → Type 0

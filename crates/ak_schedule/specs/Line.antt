@@ -1,5 +1,5 @@
 -- The lines of a recorded schedule and the words of a line (this project's format).
-use Rattle.std.specs.Prelude.{◌≡◌, ℕ, ◌+◌, ◌<◌, ◌≤◌, ◌⊎◌, Bool, true, false, ◌==◌, List, [], ◌∷◌, filter, map, length, if◌then◌else◌}
+use Rattle.std.specs.Prelude.{◌≡◌, ℕ, ◌+◌, ◌<◌, ◌≤◌, ◌⊎◌, Bool, true, false, ◌==◌, List, [], ◌∷◌, ◌++◌, filter, map, length, All, if◌then◌else◌}
 use Rattle.std.specs.List.{slice_split}
 
 -- a list is not empty
@@ -46,14 +46,28 @@ pub record IsPassedOver (line : List ℕ) : Type 0 where
 pub record IsFirstPart (byte : ℕ) (bytes prefix rest : List ℕ) : Type 0 where
   pub parts : slice_split (λ b. b == byte) bytes ≡ prefix ∷ slice_split (λ b. b == byte) rest
   pub shorter : length prefix + length rest < length bytes
+  pub whole : bytes ≡ prefix ++ byte ∷ rest
 
--- the first line of a text, and the lines after it
+-- a text is a piece and what stands after it: after the byte that ends the piece, or nothing where the text ends with it
+abbrev pub IsPieceAndRest : ℕ → List ℕ → List ℕ → List ℕ → Type 0
+IsPieceAndRest byte bytes piece rest = (bytes ≡ piece ++ byte ∷ rest) ⊎ ((bytes ≡ piece) × (rest ≡ []))
+
+-- the first line of a text, and the bytes after it
 pub record IsFirstLine (bytes line rest : List ℕ) : Type 0 where
   pub first : lines bytes ≡ line ∷ lines rest
   pub shorter : length rest < length bytes
+  -- the line with the CR that it may end with
+  pub with_cr : List ℕ
+  pub line_is : line ≡ without_cr with_cr
+  pub whole : IsPieceAndRest 10 bytes with_cr rest
 
--- the first word of a line, and the words after it
+-- the first word of a line, and the bytes after it
 pub record IsFirstWord (line word rest : List ℕ) : Type 0 where
   pub first : words line ≡ word ∷ words rest
   pub not_empty : begins word ≡ true
   pub shorter : length rest < length line
+  pub spaces : List ℕ
+  pub begun : List ℕ
+  pub spaces_first : line ≡ spaces ++ begun
+  pub only_spaces : All (λ b. b ≡ 32) spaces
+  pub whole : IsPieceAndRest 32 begun word rest

@@ -5,12 +5,12 @@ use Rattle.ak_address.specs.Spelling.{SpellsUnique}
 use Rattle.ak_schedule.specs.declared.fault.LineFault.{LineFault}
 use Rattle.ak_schedule.specs.declared.fault.LineFault.TheVariants.{Malformed, BadHeader, NoMemory}
 
--- a value that is spelled; malformed exactly where none is; running out of memory may come for any line
+-- a value that is spelled; malformed exactly where none is; memory runs out only where one is
 abbrev pub Reads : {T : Type 0} → (T → Type 0) → Result T LineFault → Type 0
 Reads Spells (Ok value) = Spells value
 Reads {T} Spells (Err Malformed) = (value : T) → Spells value → ⊥
 Reads Spells (Err BadHeader) = ⊥
-Reads Spells (Err NoMemory) = Unit {0}
+Reads {T} Spells (Err NoMemory) = (value : T) × Spells value
 
 -- one word, which spells the unique
 abbrev pub SpellsOne : List (List ℕ) → UniqueModel → Type 0

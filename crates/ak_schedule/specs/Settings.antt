@@ -2,8 +2,9 @@
 use Rattle.std.specs.Prelude.{◌≡◌, ◌≢◌, ℕ, ◌≤◌, ◌⊎◌, Bool, true, false, List, length, refl}
 use Rattle.std.proofs.Common.{inl, inr}
 use Rattle.std.specs.Coded.{Coded, code_by, coded×, coded⊎, coded_ℕ, coded_bool, coded_list}
-use Rattle.std.specs.List.{AllByRecursion, AllPairs}
-use Rattle.ak_address.specs.Unique.{AddressModel, IsAddress, coded_address}
+use Rattle.std.specs.List.{AllByRecursion, AllPairs, list_any}
+use Rattle.std.specs.Ordering.{is_eq}
+use Rattle.ak_address.specs.Unique.{AddressModel, IsAddress, address_cmp, coded_address}
 use Rattle.ak_schedule.specs.declared.settings.Strategy.{Strategy}
 use Rattle.ak_schedule.specs.declared.settings.Strategy.TheVariants.{StaticQuorum, KeepMajority, DownAll}
 
@@ -45,6 +46,10 @@ pub record IsSettings (s : SettingsModel) : Type 0 where
   pub threshold : IsWithin 1000 s.threshold
   pub limit : IsWithin 1000 s.limit
 
+-- an address belongs to the cluster
+abbrev pub is_listed : List AddressModel → AddressModel → Bool
+is_listed listed a = list_any (λ b. is_eq (address_cmp b a)) listed
+
 -- how many addresses a settled view counts at least
 abbrev pub settling_size : Strategy → ℕ
 settling_size (StaticQuorum quorum) = quorum
@@ -70,7 +75,7 @@ numbered_again DownAll = refl
 abbrev pub coded_strategy : Coded Strategy
 coded_strategy = code_by (ℕ ⊎ Bool) (coded⊎ coded_ℕ coded_bool) strategy_number numbered_strategy numbered_again
 
--- a setup is stored as its fields, in pairs
+-- settings are stored as their fields, in pairs
 abbrev pub coded_settings : Coded SettingsModel
 coded_settings =
     code_by (List AddressModel × (Strategy × (ℕ × (ℕ × (ℕ × (ℕ × (ℕ × (ℕ × ℕ))))))))

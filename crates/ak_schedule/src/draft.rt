@@ -59,7 +59,7 @@ impl Draft {
     }
 
     /// Reads the next header line. True exactly where it is the ninth. Refused as `BadHeader` exactly
-    /// where no value makes the line the next header; only memory can fail besides. At every error the
+    /// where no value makes the line the next header; only memory can fail besides, at the first header. At every error the
     /// draft is as it was. The headers, their order and their ranges are this project's choice.
     pub fn header(&mut self, alloc: Global, line: &[u8]) -> Result<bool, LineFault>
         requires { self.old.read < HEADERS }

@@ -9,7 +9,10 @@ use crate::event::Event;
 use crate::fault::LineFault;
 use crate::kind::{Kind, kind_of};
 use crate::line::{MOST_BYTES, next_word, one_word, three_words, two_words};
-use ak_address::{Address, AddressFault, Text, Unique, parse_address, parse_number, parse_unique};
+use ak_address::{
+    Address, AddressFault, Text, Unique, is_address, is_unique, parse_address, parse_number,
+    parse_unique,
+};
 use std::alloc::Global;
 
 const MOST_TICK_WORD: u64 = 4294967295;
@@ -18,8 +21,9 @@ const MOST_NUMBER: u64 = 9223372036854775807;
 
 const MOST_ENTITY_BYTES: usize = 64;
 
-/// The event that the line spells. Refused as `Malformed` exactly where it spells none; a line that is
-/// passed over spells none. Only memory can fail besides. The spellings are this project's choice.
+/// The event that the line spells. Refused as `Malformed` exactly where it spells none, whether or not memory would be
+/// found; a line that is passed over spells none. Only memory can fail besides, for a line that spells an event. The
+/// spellings are this project's choice.
 pub fn read_line(alloc: Global, line: &[u8]) -> Result<Event, LineFault>
     ensures { Reads (SpellsEvent line.now) result }
 {
@@ -109,6 +113,9 @@ fn read_join(alloc: Global, rest: &[u8]) -> Result<Event, LineFault>
     let Some((who, target)) = two_words(rest) else {
         return Err(LineFault::Malformed);
     };
+    if !is_address(target) {
+        return Err(LineFault::Malformed);
+    }
     match unique_of(alloc, who) {
         Err(fault) => return Err(fault),
         Ok(who) => match address_of(alloc, target) {
@@ -183,6 +190,9 @@ fn two_uniques(alloc: Global, rest: &[u8]) -> Result<(Unique, Unique), LineFault
     let Some((one, other)) = two_words(rest) else {
         return Err(LineFault::Malformed);
     };
+    if !is_unique(other) {
+        return Err(LineFault::Malformed);
+    }
     match unique_of(alloc, one) {
         Err(fault) => return Err(fault),
         Ok(one) => match unique_of(alloc, other) {

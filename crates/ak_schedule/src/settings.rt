@@ -1,5 +1,5 @@
 ghost use Rattle.std.specs.Prelude.{◌≡◌, ◌↔◌, IsTrue, IfOk, Contains};
-ghost use Rattle.ak_schedule.specs.Settings.{settling_size};
+ghost use Rattle.ak_schedule.specs.Settings.{is_listed, settling_size};
 
 use ak_address::Address;
 use std::alloc::{AllocError, Global};
@@ -78,7 +78,8 @@ impl Settings {
 
     /// True exactly where the address belongs to the cluster. Takes no memory.
     pub fn is_listed(&self, at: &Address) -> bool
-        ensures { IsTrue result ↔ Contains self.now.listed at.now }
+        ensures value { result ≡ is_listed self.now.listed at.now }
+        ensures meaning { IsTrue result ↔ Contains self.now.listed at.now }
     {
         contains_address(&self.listed, at)
     }
@@ -104,27 +105,23 @@ impl Settings {
 
 /// True exactly where the address is among these. Takes no memory.
 pub(crate) fn contains_address(listed: &[Address], at: &Address) -> bool
-    ensures { IsTrue result ↔ Contains listed.now at.now }
+    ensures value { result ≡ is_listed listed.now at.now }
+    ensures meaning { IsTrue result ↔ Contains listed.now at.now }
 {
-    'rows: for each in listed {
-        if is_same(each, at) {
-            return true;
-        }
-    }
-    false
+    is_among(listed, at)
 }
 
-fn is_same(one: &Address, other: &Address) -> bool
-    ensures { IsTrue result ↔ (one.now ≡ other.now) }
+fn is_among(listed: &[Address], at: &Address) -> bool
+    ensures { result ≡ is_listed listed.now at.now }
 {
-    one.compare(other).is_eq()
+    listed.iter().any(|each| each.compare(at).is_eq())
 }
 
 fn copy_addresses(alloc: Global, listed: &[Address]) -> Result<Vec<Address>, AllocError>
     ensures { IfOk result (λ copies. copies.items ≡ listed.now) }
 {
     let mut copies = Vec::new(alloc);
-    'rows: for each in listed {
+    'addresses: for each in listed {
         let copy = each.copy(alloc)?;
         copies.push(copy)?;
     }

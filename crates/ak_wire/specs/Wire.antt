@@ -1,10 +1,12 @@
 -- What nodes say to each other, by its names, and what of it a node's actions send.
-use Rattle.std.specs.Prelude.{ℕ, List, [], ◌∷◌, codes}
+use Rattle.std.specs.Prelude.{ℕ, List, [], ◌∷◌, Option, None, Some, codes}
+use Rattle.ak_gossip.specs.Gossip.{GossipState}
+use Rattle.ak_member.specs.declared.effect.Effect.{Effect}
 use Rattle.ak_wire.specs.declared.envelope.Envelope.{Envelope}
 use Rattle.ak_wire.specs.declared.envelope.Message.{Message}
 use Rattle.ak_wire.specs.declared.envelope.Message as message
 use Rattle.ak_wire.specs.declared.action.Action.{Action}
-use Rattle.ak_wire.specs.declared.action.Action.TheVariants.{Send}
+use Rattle.ak_wire.specs.declared.action.Action.TheVariants.{Send, Update, View, Refused, Dead}
 
 -- the name of a message's kind
 abbrev pub kind_text : Message → List ℕ
@@ -12,8 +14,38 @@ kind_text message.TheVariants.Join = codes "join"
 kind_text (message.TheVariants.Welcome g) = codes "welcome"
 kind_text (message.TheVariants.Gossip g) = codes "gossip"
 
+-- the gossip that a message carries
+abbrev pub gossip_of : Message → Option GossipState
+gossip_of message.TheVariants.Join = None
+gossip_of (message.TheVariants.Welcome g) = Some g
+gossip_of (message.TheVariants.Gossip g) = Some g
+
+-- the packet that an action sends
+abbrev pub envelope_of : Action → Option Envelope
+envelope_of (Send e) = Some e
+envelope_of (Update number effects) = None
+envelope_of View = None
+envelope_of (Refused why) = None
+envelope_of Dead = None
+
+-- the effects of the update that an action makes
+abbrev pub effects_of : Action → Option (List Effect)
+effects_of (Send e) = None
+effects_of (Update number effects) = Some effects
+effects_of View = None
+effects_of (Refused why) = None
+effects_of Dead = None
+
+abbrev pub put : {X : Type 0} → Option X → List X → List X
+put None xs = xs
+put (Some x) xs = x ∷ xs
+
 -- the packets that actions send, in order
 abbrev pub sent : List Action → List Envelope
 sent [] = []
-sent (Send e ∷ actions) = e ∷ sent actions
-sent (a ∷ actions) = sent actions
+sent (a ∷ actions) = put (envelope_of a) (sent actions)
+
+-- the effects of the updates that they make, in order
+abbrev pub updates_of : List Action → List (List Effect)
+updates_of [] = []
+updates_of (a ∷ actions) = put (effects_of a) (updates_of actions)

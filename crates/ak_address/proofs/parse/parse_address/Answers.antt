@@ -1,4 +1,4 @@
-use Rattle.std.proofs.Common.{Ok, ◌∙◌}
+use Rattle.std.proofs.Common.{Ok, ◌∙◌, refl}
 use Rattle.std.proofs.lemmas.Result.{err_from_is_err_and}
 use Rattle.ak_address.specs.Spelling.{ChecksPort, before_byte, after_byte}
 use Rattle.ak_address.proofs.SpellingLemmas.{address_read, address_same, address_not_refused}
@@ -19,3 +19,10 @@ returns-clause-read c =
 
 pub returns-clause-only : goal.returns-clause-only
 returns-clause-only c = λ a spelt. address_same c.args.bytes.now _ a (returns-clause-read c) spelt
+
+pub returns-in_default-clause-memory : goal.returns-in_default-clause-memory
+returns-in_default-clause-memory c =
+    λ _.
+    let bytes = c.args.bytes.now in
+    let checked : ChecksPort (before_byte 58 bytes) (after_byte 58 bytes) (Ok c.in_ok-port.port) = rw (c.split_at_byte.ensures.before, c.split_at_byte.ensures.after) at (c.in_ok-port.ensures {u = tt}) in
+    (record { host = before_byte 58 bytes; port = c.in_ok-port.port }, address_read bytes (record { host = before_byte 58 bytes; port = c.in_ok-port.port }) refl checked)

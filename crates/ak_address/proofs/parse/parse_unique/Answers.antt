@@ -1,5 +1,6 @@
-use Rattle.std.proofs.Common.{◌≡◌, List, ℕ, Ok, ◌∙◌, ap, arith}
+use Rattle.std.proofs.Common.{◌≡◌, List, ℕ, Ok, ◌∙◌, refl, ap, arith}
 use Rattle.std.proofs.lemmas.Result.{err_from_is_err_and}
+use Rattle.ak_address.specs.Unique.{UniqueModel}
 use Rattle.ak_address.specs.Spelling.{IsNumber, ChecksPort, before_byte, after_byte}
 use Rattle.ak_address.proofs.SpellingLemmas.{unique_parts, unique_read, unique_same, unique_not_refused}
 use Rattle.ak_address.proofs.parse.parse_unique.Goals as goal
@@ -32,3 +33,14 @@ returns-clause-read c =
 
 pub returns-clause-only : goal.returns-clause-only
 returns-clause-only c = λ u spelt. unique_same c.args.bytes.now _ u (returns-clause-read c) spelt
+
+pub returns-in_default-from_bytes-clause-memory : goal.returns-in_default-from_bytes-clause-memory
+returns-in_default-from_bytes-clause-memory c =
+    λ _.
+    let bytes = c.args.bytes.now in
+    let checked : ChecksPort (before_byte 58 bytes) (before_byte 35 (after_byte 58 bytes)) (Ok c.in_ok-port.port) = rw (c.split_at_byte.ensures.before, c.split_at_byte-2.ensures.before, c.split_at_byte.ensures.after) at (c.in_ok-port.ensures {u = tt}) in
+    let found = c.in-Some.ensures.found in
+    let rest : c.split_at_byte-2.result.1.now ≡ after_byte 35 (after_byte 58 bytes) = c.split_at_byte-2.ensures.after ∙ ap (λ (b : List ℕ). after_byte 35 b) c.split_at_byte.ensures.after in
+    let uid : IsNumber (after_byte 35 (after_byte 58 bytes)) c.in-Some.uid = rw rest at found.0 in
+    let u : UniqueModel = record { address = record { host = before_byte 58 bytes; port = c.in_ok-port.port }; uid = c.in-Some.uid } in
+    (u, unique_read bytes u refl checked uid (omega arith) (omega arith))

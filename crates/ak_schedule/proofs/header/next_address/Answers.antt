@@ -9,4 +9,4 @@ returns-in-Err c =
 
 pub returns-then-contains_address : goal.returns-then-contains_address
 returns-then-contains_address c =
-    not_twice c.args.name.now c.args.listed.now c.in-Ok.address c.in-Ok.ensures (c.contains_address.ensures.0 c.if-contains_address.true)
+    not_twice c.args.name.now c.args.listed.now c.in-Ok.address c.in-Ok.ensures (c.contains_address.ensures.meaning.0 c.if-contains_address.true)

@@ -7,5 +7,5 @@ use Rattle.ak_node.proofs.node.State.found.Goals as goal
 
 pub update-requires : goal.update-requires
 update-requires c =
-    subst (λ (u : UniqueModel). MayUpdate c.args.self.now.me (Joined u ∷ []) c.args.self.now.gossip) (sym c.in_ok-me.ensures)
-    (may_found c.args.self.now.me c.args.self.now.gossip c.invariant.ensures c.requires.count c.requires.itself c.if-knows.ensures)
+    subst (λ (u : UniqueModel). MayUpdate c.args.self.now.me (Joined u ∷ []) (known c.args.self.now)) (sym c.in_ok-me.ensures)
+    (may_found c.args.self.now.me (known c.args.self.now) c.invariant.ensures c.requires.count c.requires.itself c.if-knows.ensures)

@@ -50,5 +50,5 @@ returns c =
 
 pub update-requires : goal.update-requires
 update-requires c =
-    subst (λ (u : UniqueModel). MayUpdate c.args.self.now.me (Joined u ∷ []) c.args.self.now.gossip) (sym c.in_ok-joined.ensures)
-    (may_admit c.args.self.now.me c.args.from.now c.args.self.now.gossip c.invariant.ensures c.requires c.if-not-is_member.ensures c.if-is_full.ensures)
+    subst (λ (u : UniqueModel). MayUpdate c.args.self.now.me (Joined u ∷ []) (known c.args.self.now)) (sym c.in_ok-joined.ensures)
+    (may_admit c.args.self.now.me c.args.from.now (known c.args.self.now) c.invariant.ensures c.requires c.if-not-is_member.ensures c.if-is_full.ensures)

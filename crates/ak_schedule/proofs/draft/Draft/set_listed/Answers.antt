@@ -21,5 +21,5 @@ returns-in-Ok c =
 
 pub returns-in-Err : goal.returns-in-Err
 returns-in-Err c =
-    header_fault (SpellsListing (words c.args.line.now)) header.TheVariants.Listed c.args.line.now c.args.self.now c.in-Err.fault (rw c.requires.at refl) c.in-Err.ensures
+    header_fault (SpellsListing (words c.args.line.now)) header.TheVariants.Listed c.args.line.now c.args.self.now c.in-Err.fault (rw c.requires.at refl) c.requires.at c.in-Err.ensures
     (λ new sets. (sets.0, sets.1))
