@@ -6,6 +6,7 @@ ghost use Rattle.std.specs.FinMap as map;
 ghost use Rattle.ak_clock.specs.Version.{count};
 ghost use Rattle.ak_member.specs.Standing as standing;
 ghost use Rattle.ak_gossip.specs.Gossip.{MayUpdate, is_known};
+ghost use Rattle.ak_schedule.specs.Settings.{is_listed};
 ghost use Rattle.ak_node.specs.Node as rules;
 ghost use Rattle.ak_node.specs.NodeContracts.{Does, KnowsItself, IsSameProcess, IsLeftOver};
 
@@ -62,6 +63,13 @@ fn one(alloc: Global, action: Action) -> Result<Actions, AllocError>
     let mut actions = Actions::empty(alloc);
     actions.push(action)?;
     Ok(actions)
+}
+
+// The address of the process belongs to the cluster.
+fn is_listed(settings: &Settings, who: &Unique) -> bool
+    ensures { result ≡ is_listed settings.now.listed who.now.address }
+{
+    settings.is_listed(&who.address)
 }
 
 // At an index among all that are known stands a member at the address of this process.
@@ -227,7 +235,7 @@ impl State {
         if !self.is_member() {
             return one(alloc, Action::Refused(NOT_MEMBER));
         }
-        if !self.settings.is_listed(&from.address) {
+        if !is_listed(&self.settings, from) {
             return one(alloc, Action::Refused(UNLISTED));
         }
         if self.has_member(from) {

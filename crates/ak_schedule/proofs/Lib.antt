@@ -3,6 +3,7 @@ pub mod Cutting
 pub mod Deciding
 pub mod EventWords
 pub mod HeaderLines
+pub mod HeaderRuns
 pub mod LineParts
 pub mod ListedLemmas
 pub mod Listing

@@ -1,5 +1,5 @@
 -- The header lines of a schedule, as far as they are read.
-use Rattle.std.specs.Prelude.{◌≡◌, ◌↔◌, ℕ, ◌+◌, ◌<◌, ◌≤◌, Bool, IsTrue, List, [], length, Contains, Some, slice_get, Result, Ok, Err, refl}
+use Rattle.std.specs.Prelude.{◌≡◌, ◌↔◌, ℕ, ◌+◌, ◌<◌, ◌≤◌, Bool, IsTrue, List, [], ◌∷◌, length, Contains, Some, slice_get, Result, Ok, Err, refl}
 use Rattle.std.specs.List.{AllZip}
 use Rattle.std.specs.Coded.{Coded, code_by, coded×, coded_ℕ}
 use Rattle.ak_address.specs.Unique.{AddressModel}
@@ -55,6 +55,15 @@ pub record ReadsHeader (line : List ℕ) (old new : Drafted) : Type 0 where
   pub next : slice_get headers old.read ≡ Some which
   pub sets : SetsHeader which line old.settings new.settings
   pub count : new.read ≡ old.read + 1
+
+-- lines are headers, read one after another
+abbrev pub ReadsHeaders : List (List ℕ) → Drafted → Drafted → Type 0
+ReadsHeaders [] old new = new ≡ old
+ReadsHeaders (line ∷ rest) old new = (next : Drafted) × ReadsHeader line old next × ReadsHeaders rest next new
+
+-- settings, all of whose headers are read
+abbrev pub all_read : SettingsModel → Drafted
+all_read s = record { read = 9; settings = s }
 
 -- the next header, and whether it is the ninth; refused exactly where the line is not the next header; memory runs out at the
 -- first header alone, which holds addresses while it is read

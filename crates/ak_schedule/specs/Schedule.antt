@@ -52,6 +52,22 @@ headers =
     header.TheVariants.Listed ∷ header.TheVariants.Strategy ∷ header.TheVariants.Margin ∷ header.TheVariants.Deadline ∷ header.TheVariants.Stable
     ∷ header.TheVariants.Shards ∷ header.TheVariants.Buffer ∷ header.TheVariants.Threshold ∷ header.TheVariants.Limit ∷ []
 
+-- a header line with these words spells the value that the settings have
+abbrev pub SpellsValue : header.Header → List (List ℕ) → SettingsModel → Type 0
+SpellsValue header.TheVariants.Listed ws s = SpellsListing ws s.listed
+SpellsValue header.TheVariants.Strategy ws s = SpellsStrategy ws s.strategy
+SpellsValue header.TheVariants.Margin ws s = SpellsSetting (codes "margin") 1000000 ws s.margin
+SpellsValue header.TheVariants.Deadline ws s = SpellsSetting (codes "deadline") 1000000 ws s.deadline
+SpellsValue header.TheVariants.Stable ws s = SpellsSetting (codes "stable") 1000000 ws s.stable
+SpellsValue header.TheVariants.Shards ws s = SpellsSetting (codes "shards") 1000 ws s.shards
+SpellsValue header.TheVariants.Buffer ws s = SpellsSetting (codes "buffer") 100000 ws s.buffer
+SpellsValue header.TheVariants.Threshold ws s = SpellsSetting (codes "threshold") 1000 ws s.threshold
+SpellsValue header.TheVariants.Limit ws s = SpellsSetting (codes "limit") 1000 ws s.limit
+
+-- nine header lines, none of them too long, spell these settings, a line for each in the order of the headers
+abbrev pub SpellsSettings : List (List ℕ) → SettingsModel → Type 0
+SpellsSettings headings s = AllZip (λ which line. (length line ≤ most_bytes) × SpellsValue which (words line) s) headers headings
+
 -- what an entity is called: 1 to 64 bytes from `!` to `~`
 pub record IsEntity (name : List ℕ) : Type 0 where
   pub not_empty : 1 ≤ length name

@@ -1,8 +1,8 @@
 ghost use Rattle.std.specs.Prelude.{◌≡◌, ◌≢◌, ℕ, List, [], ◌∷◌, ◌++◌, All};
-ghost use Rattle.ak_schedule.specs.Draft.{Drafted, ReadsHeader};
+ghost use Rattle.ak_schedule.specs.Draft.{Drafted, ReadsHeader, ReadsHeaders, all_read, first_draft};
 ghost use Rattle.ak_schedule.specs.Line.{lines, words, without_cr, IsPassedOver};
 ghost use Rattle.ak_schedule.specs.Settings.{SettingsModel};
-ghost use Rattle.ak_schedule.specs.Schedule.{SpellsEvent, SetsHeader, IsSpelled, IsEvent, event_text};
+ghost use Rattle.ak_schedule.specs.Schedule.{SpellsEvent, SetsHeader, SpellsSettings, IsSpelled, IsEvent, event_text};
 
 use crate::event::Event;
 use crate::settings::Header;
@@ -48,4 +48,10 @@ pub fn words_stand_between_spaces()
     ensures space { (line : List ℕ) → words (32 ∷ line) ≡ words line }
     ensures first { (word line : List ℕ) → All (λ b. b ≢ 32) word → word ≢ [] → words (word ++ 32 ∷ line) ≡ word ∷ words line }
     ensures last { (word : List ℕ) → All (λ b. b ≢ 32) word → word ≢ [] → words word ≡ word ∷ [] }
+{}
+
+/// Nine header lines are read one after another exactly where they spell settings, and what is read is those settings.
+pub fn headers_spell_settings()
+    ensures read { (headings : List (List ℕ)) (s : SettingsModel) → ReadsHeaders headings first_draft (all_read s) → SpellsSettings headings s }
+    ensures back { (headings : List (List ℕ)) (s : SettingsModel) → SpellsSettings headings s → ReadsHeaders headings first_draft (all_read s) }
 {}

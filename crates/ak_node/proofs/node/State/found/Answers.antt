@@ -2,6 +2,7 @@ use Rattle.std.proofs.Common.{[], ◌∷◌, sym, subst}
 use Rattle.ak_address.specs.Unique.{UniqueModel}
 use Rattle.ak_member.specs.declared.effect.Effect.TheVariants.{Joined}
 use Rattle.ak_gossip.specs.Gossip.{MayUpdate}
+use Rattle.ak_node.specs.Node.{known}
 use Rattle.ak_node.proofs.NodeLemmas.{may_found}
 use Rattle.ak_node.proofs.node.State.found.Goals as goal
 
