@@ -22,12 +22,14 @@ use Rattle.ak_node.specs.declared.node.NodeEvent.TheVariants as event
 use Rattle.ak_wire.specs.declared.action.Action.{Action}
 use Rattle.ak_wire.specs.declared.action.Action.TheVariants as action
 use Rattle.ak_history.specs.History.{entries_of, IsNumbered, view}
-use Rattle.ak_gossip.specs.Gossip.{GossipState, is_known, seen_by, same, both, taken, noted, most_uniques}
-use Rattle.ak_node.specs.Node.{Outcome, nothing, refused, update, and_sends, to_process, is_member, is_listed, has_member_beside, most_at_join, on_join, found, join, is_answered, is_gone, on_received, on_gossip, on_message, is_for, rule, is_other, step}
+use Rattle.ak_gossip.specs.Gossip.{GossipState, is_known, seen_by, same, both, accepted, noted, most_uniques}
+use Rattle.ak_schedule.specs.Settings.{is_listed}
+use Rattle.ak_node.specs.Node.{Outcome, nothing, refused, update, and_sends, to_process, is_member, has_member_beside, most_at_join, on_join, found, join, is_answered, is_gone, on_received, on_gossip, on_message, is_for, rule, is_other, step}
 use Rattle.ak_wire.specs.Wire.{sent}
 use Rattle.ak_world.specs.World.{recorded}
 use Rattle.ak_world.specs.Fold.{IsFold}
-use Rattle.ak_world.proofs.WorldLemmas.{sent-append, recorded-append}
+use Rattle.ak_wire.proofs.Sending.{sent-append}
+use Rattle.ak_world.proofs.WorldLemmas.{recorded-append}
 use Rattle.ak_history.proofs.HistoryLemmas.{bounded-prefix, bounded-update, entries-author, entries-others}
 use Rattle.ak_history.proofs.ViewsMerged.{view-merged, view-later, view-update}
 
@@ -184,7 +186,7 @@ module _ (history : List Entry) (is_numbered : IsNumbered history) (me : UniqueM
   not_above : count incoming.version me ≤ count own.version me
   not_above = let below : count incoming.version me ≤ entries_of me history = fold.bounded me in let mine = k.own in omega arith
 
-  by_relation : (a b : Bool) → covers own.version incoming.version ≡ a → covers incoming.version own.version ≡ b → Knows history me (noted me (taken (relation_by a b) own incoming)).1
+  by_relation : (a b : Bool) → covers own.version incoming.version ≡ a → covers incoming.version own.version ≡ b → Knows history me (noted me (accepted (relation_by a b) own incoming)).1
   by_relation true true p q = noted_knows (same own incoming) (record { own = k.own; fold = record { shown = k.fold.shown; bounded = k.fold.bounded } })
   by_relation true false p q = k
   by_relation false true p q = noted_knows incoming (record {
@@ -214,7 +216,7 @@ module _ (history : List Entry) (is_numbered : IsNumbered history) (me : UniqueM
     };
   })
 
-  noted_is : Knows history me (noted me (taken (relation own.version incoming.version) own incoming)).1
+  noted_is : Knows history me (noted me (accepted (relation own.version incoming.version) own incoming)).1
   noted_is = by_relation (covers own.version incoming.version) (covers incoming.version own.version) refl refl
 
 -- the answer of receiving, by its tests
@@ -235,7 +237,7 @@ module _ (history : List Entry) (is_numbered : IsNumbered history) where
       (by_tests_good history is_numbered from n incoming
       (nat_lt (count n.gossip.version n.me) (count incoming.version n.me)) (nat_lt most_uniques (map.len (standing.merged_standings n.gossip.view.standings incoming.view.standings)))
       (count n.gossip.version n.me) (count incoming.version n.me) (map.len (standing.merged_standings n.gossip.view.standings incoming.view.standings))
-      (noted n.me (taken (relation n.gossip.version incoming.version) n.gossip incoming)) k (noted_is history is_numbered n.me n.gossip incoming k fold))
+      (noted n.me (accepted (relation n.gossip.version incoming.version) n.gossip incoming)) k (noted_is history is_numbered n.me n.gossip incoming k fold))
       (nothing_good history is_numbered n k)
 
   on_message_good : (from : UniqueModel) (m : Message) (n : State) → Knows history n.me n.gossip → CarriesFold history m → Good history n.me (on_message from m n)

@@ -10,7 +10,7 @@ use Rattle.ak_member.specs.View.{empty_view, after_entry}
 use Rattle.ak_address.proofs.TableLaws.{key_itself}
 use Rattle.ak_clock.specs.Version.{count}
 use Rattle.ak_clock.proofs.VersionLaws.{count-empty}
-use Rattle.ak_schedule.specs.Settings.{SettingsModel}
+use Rattle.ak_schedule.specs.Settings.{SettingsModel, is_listed}
 use Rattle.ak_schedule.specs.declared.event.Event.{Event}
 use Rattle.ak_schedule.specs.declared.event.Event.TheVariants.{Start, Found, Join, Tick, Deliver, Leave, Down, Offer, Stop}
 use Rattle.ak_history.specs.declared.entry.Entry.{Entry}
@@ -21,14 +21,14 @@ use Rattle.ak_node.specs.declared.node.State.{State}
 use Rattle.ak_node.specs.declared.node.NodeEvent.{NodeEvent}
 use Rattle.ak_node.specs.declared.node.NodeEvent.TheVariants as event
 use Rattle.ak_wire.specs.declared.action.Action.{Action}
-use Rattle.ak_wire.specs.declared.action.Action.TheVariants.{Send, Update, View, Refused as RefusedAction, Dead}
-use Rattle.ak_world.specs.declared.world.Refused.{Refused}
-use Rattle.ak_world.specs.declared.world.Refused.TheVariants as refusal
+use Rattle.ak_member.specs.declared.effect.Effect.{Effect}
+use Rattle.ak_world.specs.declared.world.Reason.{Reason}
+use Rattle.ak_world.specs.declared.world.Reason.TheVariants as refusal
 use Rattle.ak_history.specs.History.{entries_of, IsNumbered, view}
 use Rattle.ak_gossip.specs.Gossip.{GossipState}
-use Rattle.ak_node.specs.Node.{Outcome, started, is_listed, step}
-use Rattle.ak_world.specs.World.{WorldState, Done, empty_world, recorded, stepped, gives, acts, arrives, delivers, starts, packet_at, is_process, is_in_use, node_of, receiver_of, most_starts, happens, after, run_from, run}
-use Rattle.ak_wire.specs.Wire.{sent}
+use Rattle.ak_node.specs.Node.{Outcome, started, step}
+use Rattle.ak_world.specs.World.{WorldState, Done, empty_world, recorded, with_update, stepped, gives, acts, arrives, delivers, starts, packet_at, is_process, is_in_use, node_of, receiver_of, most_starts, happens, after, run_from, run}
+use Rattle.ak_wire.specs.Wire.{sent, effects_of}
 use Rattle.ak_world.specs.Fold.{IsFold, Carries, IsIn}
 use Rattle.ak_node.proofs.NodeLemmas.{any_here}
 use Rattle.ak_history.proofs.ViewsMerged.{view-prefix}
@@ -106,14 +106,14 @@ carries_kept old new kept (message.Gossip g) c = kept g c
 
 recorded-prefix : (author : UniqueModel) (actions : List Action) (history : List Entry) → (added : List Entry) × (recorded author actions history ≡ added ++ history)
 recorded-prefix author [] history = ([], refl)
-recorded-prefix author (Update number effects ∷ actions) history =
-    let entry : Entry = record { author = author; number = entries_of author history + 1; effects = effects } in
-    let rest = recorded-prefix author actions (entry ∷ history) in
-    (rest.0 ++ entry ∷ [], rest.1 ∙ sym (append_assoc rest.0 (entry ∷ []) history))
-recorded-prefix author (Send e ∷ actions) history = recorded-prefix author actions history
-recorded-prefix author (View ∷ actions) history = recorded-prefix author actions history
-recorded-prefix author (RefusedAction why ∷ actions) history = recorded-prefix author actions history
-recorded-prefix author (Dead ∷ actions) history = recorded-prefix author actions history
+recorded-prefix author (a ∷ actions) history =
+    let one = update-prefix (effects_of a) in
+    let rest = recorded-prefix author actions (with_update author (effects_of a) history) in
+    (rest.0 ++ one.0, rest.1 ∙ ap (λ h. rest.0 ++ h) one.1 ∙ sym (append_assoc rest.0 one.0 history))
+  where
+    update-prefix : (o : Option (List Effect)) → (added : List Entry) × (with_update author o history ≡ added ++ history)
+    update-prefix None = ([], refl)
+    update-prefix (Some effects) = (record { author = author; number = entries_of author history + 1; effects = effects } ∷ [], refl)
 
 -- ---- a step of one node
 module _ (nodes : List State) (packets : List Envelope) (history : List Entry) (s : Sound nodes packets history) (index : ℕ) (n : State) (at : slice_get nodes index ≡ Some n) (o : Outcome) (good : Good history n.me o) where
@@ -216,7 +216,7 @@ numbered_carries : (w : WorldState) (s : IsSound w) (b : Bool) (index : ℕ) (e 
 numbered_carries w s true index e is = absurd (cc)
 numbered_carries w s false index e is = s.carried.at index e is
 
-next_if : (h : List Entry) (w : WorldState) (b : Bool) (why : Refused) (r : Result Done Refused) → Next h w → Next h (after w r) → Next h (after w (if b then Err why else r))
+next_if : (h : List Entry) (w : WorldState) (b : Bool) (why : Reason) (r : Result Done Reason) → Next h w → Next h (after w r) → Next h (after w (if b then Err why else r))
 next_if h w true why r p q = p
 next_if h w false why r p q = q
 
@@ -272,9 +272,9 @@ run_sound settings events = (run_next settings empty_world events empty_sound).s
 
 -- ---- what is in a world
 carried_fold : (history : List Entry) (g : GossipState) (m : Message) → CarriesFold history m → Carries g m → IsFold history g
-carried_fold history g message.Join fold carries = absurd carries
-carried_fold history g (message.Welcome known) fold carries = subst (IsFold history) carries fold
-carried_fold history g (message.Gossip known) fold carries = subst (IsFold history) carries fold
+carried_fold history g message.Join fold carries = absurd (cc)
+carried_fold history g (message.Welcome held) fold carries = subst (IsFold history) (same_Some held g carries) fold
+carried_fold history g (message.Gossip held) fold carries = subst (IsFold history) (same_Some held g carries) fold
 
 known_fold : (w : WorldState) → IsSound w → (g : GossipState) → IsIn g w → IsFold w.history g
 known_fold w s g (inl there) = subst (IsFold w.history) there.3 (s.each there.0 there.1 there.2).fold

@@ -6,51 +6,35 @@ use Rattle.std.proofs.lemmas.Option.{same_Some, slice_get-map, slice_get-get_or}
 use Rattle.std.proofs.lemmas.Bool.{leb-false, lt-leb}
 use Rattle.std.proofs.lemmas.Bool.Decides.{nat_tests}
 use Rattle.std.proofs.lemmas.List.{take_more, map-set}
-use Rattle.std.proofs.lemmas.List.Folds.{list_any_at}
-use Rattle.std.proofs.lemmas.Cmp.{tied_itself}
-use Rattle.std.specs.declared.cmp.Ordering.{Ordering}
-use Rattle.std.specs.declared.cmp.Ordering.TheVariants.{Less, Equal, Greater}
+use Rattle.std.proofs.lemmas.List.Sums.{prefix_len-le-length}
 use Rattle.std.specs.Ordering.{is_eq}
-use Rattle.ak_address.proofs.OrderLemmas.{address_total, address_exact}
 use Rattle.std.specs.List.{list_any, prefix_len, position_or_len}
 use Rattle.ak_address.specs.Unique.{AddressModel, UniqueModel, address_cmp}
-use Rattle.ak_schedule.specs.Settings.{SettingsModel}
+use Rattle.ak_schedule.specs.Settings.{SettingsModel, is_listed}
 use Rattle.ak_schedule.specs.declared.event.Event.{Event}
 use Rattle.ak_schedule.specs.declared.event.Event.TheVariants.{Start, Found, Join, Tick, Deliver, Leave, Down, Offer, Stop}
 use Rattle.ak_history.specs.declared.entry.Entry.{Entry}
 use Rattle.ak_member.specs.declared.effect.Effect.{Effect}
-use Rattle.ak_member.specs.declared.effect.Effect.TheVariants.{Joined}
 use Rattle.ak_wire.specs.declared.envelope.Envelope.{Envelope}
-use Rattle.ak_wire.specs.declared.envelope.Message.{Message}
-use Rattle.ak_wire.specs.declared.envelope.Message as message
-use Rattle.ak_gossip.specs.declared.gossip.Received as received
-use Rattle.ak_gossip.specs.declared.gossip.GossipFault as fault
 use Rattle.ak_node.specs.declared.node.State.{State}
 use Rattle.ak_node.specs.declared.node.NodeEvent.{NodeEvent}
 use Rattle.ak_node.specs.declared.node.NodeEvent as event
 use Rattle.ak_wire.specs.declared.action.Action.{Action}
-use Rattle.ak_wire.specs.declared.action.Action.TheVariants.{Send, Update, View, Refused, Dead}
-use Rattle.ak_world.specs.declared.world.Refused as refused
+use Rattle.ak_wire.specs.declared.action.Action.TheVariants as action
+use Rattle.ak_wire.specs.declared.action.Action.TheVariants.{Send, Update}
+use Rattle.ak_world.specs.declared.world.Refused.{Refused}
+use Rattle.ak_world.specs.declared.world.Reason as reason
 use Rattle.ak_world.specs.declared.world.Step.{Step}
-use Rattle.std.specs.FinMap as map
-use Rattle.ak_member.specs.Standing as standing
-use Rattle.ak_gossip.specs.Gossip.{GossipState, is_known, receive}
 use Rattle.ak_history.specs.History.{entries_of}
-use Rattle.ak_node.specs.Node.{Outcome, started, is_for, is_listed, is_member, has_member_beside, most_at_join, nothing, refused as refused_by, and_sends, update, on_join, on_received, on_gossip, on_message, rule, step}
+use Rattle.ak_node.specs.Node.{started, is_for, step}
+use Rattle.ak_node.proofs.StepChanges.{step_changes}
 use Rattle.ak_node.specs.NodeContracts.{NodeModel}
-use Rattle.ak_world.specs.World.{WorldState, Done, recorded, gives, acts, arrives, delivers, starts, stepped, is_process, is_in_use, happens, after, run_from, run, empty_world, node_of, receiver_of, packet_at}
-use Rattle.ak_wire.specs.Wire.{sent}
-use Rattle.ak_world.specs.WorldContracts.{states, IsReady, Went, Scenes}
+use Rattle.ak_world.specs.World.{WorldState, Done, recorded, with_update, gives, acts, arrives, delivers, starts, stepped, is_process, is_in_use, happens, after, run_from, run, empty_world, node_of, receiver_of, packet_at}
+use Rattle.ak_wire.specs.Wire.{sent, effects_of}
+use Rattle.ak_wire.proofs.Sending.{sent-append}
+use Rattle.ak_world.specs.WorldContracts.{states, IsReady, Went, IsAccepted, Scenes}
 
--- what actions send and record, by parts
-pub sent-append : (a b : List Action) → sent (a ++ b) ≡ sent a ++ sent b
-sent-append [] b = refl
-sent-append (Send e ∷ a) b = ap (λ (es : List Envelope). e ∷ es) (sent-append a b)
-sent-append (Update number effects ∷ a) b = sent-append a b
-sent-append (View ∷ a) b = sent-append a b
-sent-append (Refused why ∷ a) b = sent-append a b
-sent-append (Dead ∷ a) b = sent-append a b
-
+-- ---- what actions send and record, by parts
 -- one more action
 pub sent-more : (xs : List Action) (i : ℕ) (a : Action) → i < length xs → a ≡ get_or xs i a → sent (take (i + 1) xs) ≡ sent (take i xs) ++ sent (a ∷ [])
 sent-more xs i a lt is =
@@ -67,18 +51,13 @@ sent-kept old now new xs i a lt is before here =
 pub sent-none : (a : Action) → ((e : Envelope) → a ≡ Send e → ⊥) → sent (a ∷ []) ≡ []
 sent-none (Send e) other = absurd (other e refl)
 sent-none (Update number effects) other = refl
-sent-none View other = refl
-sent-none (Refused why) other = refl
-sent-none Dead other = refl
+sent-none action.View other = refl
+sent-none (action.Refused why) other = refl
+sent-none action.Dead other = refl
 
 pub recorded-append : (author : UniqueModel) (a b : List Action) (history : List Entry) → recorded author (a ++ b) history ≡ recorded author b (recorded author a history)
 recorded-append author [] b history = refl
-recorded-append author (Send e ∷ a) b history = recorded-append author a b history
-recorded-append author (Update number effects ∷ a) b history =
-    recorded-append author a b (record { author = author; number = entries_of author history + 1; effects = effects } ∷ history)
-recorded-append author (View ∷ a) b history = recorded-append author a b history
-recorded-append author (Refused why ∷ a) b history = recorded-append author a b history
-recorded-append author (Dead ∷ a) b history = recorded-append author a b history
+recorded-append author (x ∷ a) b history = recorded-append author a b (with_update author (effects_of x) history)
 
 pub recorded-more : (author : UniqueModel) (xs : List Action) (i : ℕ) (a : Action) (history : List Entry) → i < length xs → a ≡ get_or xs i a
     → recorded author (take (i + 1) xs) history ≡ recorded author (a ∷ []) (recorded author (take i xs) history)
@@ -94,9 +73,9 @@ recorded-kept author old now new xs i a lt is before here =
 pub recorded-none : (author : UniqueModel) (now : List Entry) (a : Action) → ((n : ℕ) (es : List Effect) → a ≡ Update n es → ⊥) → recorded author (a ∷ []) now ≡ now
 recorded-none author now (Send e) other = refl
 recorded-none author now (Update number effects) other = absurd (other number effects refl)
-recorded-none author now View other = refl
-recorded-none author now (Refused why) other = refl
-recorded-none author now Dead other = refl
+recorded-none author now action.View other = refl
+recorded-none author now (action.Refused why) other = refl
+recorded-none author now action.Dead other = refl
 
 pub recorded-pushed : (author : UniqueModel) (now new : List Entry) (a : Action) (k n : ℕ) (fs es : List Effect) → a ≡ Update n es → fs ≡ es → k ≡ entries_of author now + 1
     → new ≡ record { author = author; number = k; effects = fs } ∷ now → new ≡ recorded author (a ∷ []) now
@@ -140,48 +119,8 @@ pub is_some-position : {X : Type 0} (p : X → Bool) (xs : List X) → is_some (
 is_some-position p xs = some_if (ltb (position_or_len p xs) (length xs)) (position_or_len p xs) ∙ found_one p xs
 
 -- each step of a node counts one event
-steps_if : (b : Bool) (x y : Outcome) (k : ℕ) → x.0.steps ≡ k → y.0.steps ≡ k → (if b then x else y).0.steps ≡ k
-steps_if true x y k p q = p
-steps_if false x y k p q = q
-
-received_steps : (from : UniqueModel) (incoming : GossipState) (n : State) (r : Result (received.Received × GossipState) fault.GossipFault) → (on_received from incoming n r).0.steps ≡ n.steps
-received_steps from incoming n (Err (fault.TheVariants.ForeignCount own theirs)) = refl
-received_steps from incoming n (Err (fault.TheVariants.TooManyUniques union)) = refl
-received_steps from incoming n (Err fault.TheVariants.NoMemory) = refl
-received_steps from incoming n (Ok r) = steps_if _ _ _ _ refl refl
-
-gossip_steps : (from : UniqueModel) (incoming : GossipState) (n : State) → (on_gossip from incoming n).0.steps ≡ n.steps
-gossip_steps from incoming n = steps_if _ _ _ _ (received_steps from incoming n (receive n.me n.gossip incoming)) refl
-
-steps_of_six : (a b c d e f : Bool) (t u v w x y z : Outcome) (k : ℕ) → t.0.steps ≡ k → u.0.steps ≡ k → v.0.steps ≡ k → w.0.steps ≡ k → x.0.steps ≡ k → y.0.steps ≡ k → z.0.steps ≡ k
-    → (if a then t else (if b then u else (if c then v else (if d then w else (if e then x else (if f then y else z)))))).0.steps ≡ k
-steps_of_six true b c d e f t u v w x y z k pt pu pv pw px py pz = pt
-steps_of_six false true c d e f t u v w x y z k pt pu pv pw px py pz = pu
-steps_of_six false false true d e f t u v w x y z k pt pu pv pw px py pz = pv
-steps_of_six false false false true e f t u v w x y z k pt pu pv pw px py pz = pw
-steps_of_six false false false false true f t u v w x y z k pt pu pv pw px py pz = px
-steps_of_six false false false false false f t u v w x y z k pt pu pv pw px py pz = steps_if f y z k py pz
-
-join_steps : (from : UniqueModel) (n : State) → (on_join from n).0.steps ≡ n.steps
-join_steps from n =
-    steps_of_six (not (is_member n)) (not (is_listed n.settings.listed from.address)) (standing.is_member n.gossip.view.standings from) (is_known n.gossip.view.standings from) (has_member_beside from n.gossip.view.standings)
-    (leb most_at_join (map.len n.gossip.view.standings)) (refused_by 3 n) (refused_by 4 n) (and_sends message.TheVariants.Welcome from (nothing n)) (nothing n) (nothing n) (refused_by 6 n)
-    (and_sends message.TheVariants.Welcome from (update (Joined from ∷ []) n)) n.steps refl refl refl refl refl refl refl
-
-message_steps : (from : UniqueModel) (m : Message) (n : State) → (on_message from m n).0.steps ≡ n.steps
-message_steps from message.TheVariants.Join n = join_steps from n
-message_steps from (message.TheVariants.Welcome g) n = gossip_steps from g n
-message_steps from (message.TheVariants.Gossip g) n = gossip_steps from g n
-
-rule_steps : (e : NodeEvent) (n : State) → (rule e n).0.steps ≡ n.steps
-rule_steps event.TheVariants.Found n = steps_if _ _ _ _ refl refl
-rule_steps (event.TheVariants.Join target) n = steps_if _ _ _ _ refl refl
-rule_steps (event.TheVariants.Packet e) n = steps_if _ _ _ _ (message_steps e.from e.message n) refl
-
 step_steps : (e : NodeEvent) (n : State) → (step e n).0.steps ≡ n.steps + 1
-step_steps e n =
-    let counted = rule_steps e (record n { steps = n.steps + 1 }) in
-    steps_if _ _ _ _ counted counted
+step_steps e n = (step_changes e n).same_steps
 
 -- what is true of each node stays true where one is replaced, and where one is added
 set_each : (P : State → Type 0) (xs : List State) (index : ℕ) (x : State) → ((j : ℕ) (m : State) → slice_get xs j ≡ Some m → P m) → P x
@@ -210,7 +149,7 @@ older j k w le young = record {
   steps = λ index n is. let below : n.steps ≤ j = young.steps index n is in omega arith;
 }
 
-young_if : (k : ℕ) (w : WorldState) (b : Bool) (x y : Result Done refused.Refused) → IsYoung k (after w x) → (b ≡ false → IsYoung k (after w y)) → IsYoung k (after w (if b then x else y))
+young_if : (k : ℕ) (w : WorldState) (b : Bool) (x y : Result Done reason.Reason) → IsYoung k (after w x) → (b ≡ false → IsYoung k (after w y)) → IsYoung k (after w (if b then x else y))
 young_if k w true x y p q = p
 young_if k w false x y p q = q refl
 
@@ -244,7 +183,7 @@ starts_young k settings u w old room = record {
 }
 
 starts_if : (k : ℕ) (w : WorldState) (a b c d : Bool) (done : Done) → IsYoung k w → (d ≡ false → IsYoung k done.world)
-    → IsYoung k (after w (if a then Err refused.TheVariants.Unlisted else (if b then Err refused.TheVariants.UniqueUsed else (if c then Err refused.TheVariants.AddressInUse else (if d then Err refused.TheVariants.TooManyStarts else Ok done)))))
+    → IsYoung k (after w (if a then Err reason.TheVariants.Unlisted else (if b then Err reason.TheVariants.UniqueUsed else (if c then Err reason.TheVariants.AddressInUse else (if d then Err reason.TheVariants.TooManyStarts else Ok done)))))
 starts_if k w true b c d done old new = old
 starts_if k w false true c d done old new = old
 starts_if k w false false true d done old new = old
@@ -256,9 +195,9 @@ happens_young k settings (Start u) w young old =
     starts_if (k + 1) w (not (is_listed settings.listed u.address)) (list_any (is_process u) w.nodes) (is_in_use u.address w) (leb 64 (length w.nodes)) (starts settings u w) old
     (starts_young k settings u w old)
 happens_young k settings (Found u) w young old =
-    young_if (k + 1) w w.founded (Err refused.TheVariants.SecondFound) (acts event.TheVariants.Found (node_of u w) (record w { founded = true })) old (λ a. acts_young k event.TheVariants.Found (node_of u w) w (record w { founded = true }) (record { few = young.few; steps = young.steps }) old)
+    young_if (k + 1) w w.founded (Err reason.TheVariants.SecondFound) (acts event.TheVariants.Found (node_of u w) (record w { founded = true })) old (λ a. acts_young k event.TheVariants.Found (node_of u w) w (record w { founded = true }) (record { few = young.few; steps = young.steps }) old)
 happens_young k settings (Join u target) w young old =
-    young_if (k + 1) w (not (is_listed settings.listed target)) (Err refused.TheVariants.Unlisted) (acts (event.TheVariants.Join target) (node_of u w) w) old (λ a. acts_young k (event.TheVariants.Join target) (node_of u w) w w young old)
+    young_if (k + 1) w (not (is_listed settings.listed target)) (Err reason.TheVariants.Unlisted) (acts (event.TheVariants.Join target) (node_of u w) w) old (λ a. acts_young k (event.TheVariants.Join target) (node_of u w) w w young old)
 happens_young k settings (Deliver number) w young old = delivers_young k (packet_at w number) w young old
 happens_young k settings (Tick u word) w young old = old
 happens_young k settings (Leave u who) w young old = old
@@ -296,35 +235,6 @@ state-at xs i n lt is =
     ∙ ap (option_map (λ (m : NodeModel). m.state)) (slice_get-get_or xs i n lt)
     ∙ ap (λ (m : NodeModel). Some m.state) (sym is)
 
--- the addresses that are listed
-tied_same : (o : Ordering) → is_eq o ≡ true → o ≡ Equal
-tied_same Less e = absurd (cc)
-tied_same Equal e = refl
-tied_same Greater e = absurd (cc)
-
-listed_from : (xs : List AddressModel) (a : AddressModel) → Contains xs a → is_listed xs a ≡ true
-listed_from xs a at =
-    list_any_at (λ b. is_eq (address_cmp b a)) xs at.0 a at.1 (ap (λ (b : AddressModel). is_eq (address_cmp b a)) at.2 ∙ ap is_eq (tied_itself address_total a))
-
-first_or_rest : (b c : Bool) → (b || c) ≡ true → (b ≡ true) ⊎ (c ≡ true)
-first_or_rest true c e = inl refl
-first_or_rest false c e = inr e
-
-contains_from : (xs : List AddressModel) (a : AddressModel) → is_listed xs a ≡ true → Contains xs a
-contains_from [] a e = absurd (cc)
-contains_from (x ∷ xs) a e =
-    ⊎_elim (λ here. (0, omega arith, address_exact x a (tied_same (address_cmp x a) here)))
-    (λ later. let at = contains_from xs a later in (suc at.0, (let lt : at.0 < length xs = at.1 in omega arith), at.2))
-    (first_or_rest (is_eq (address_cmp x a)) (is_listed xs a) e)
-
-false_unless : (b : Bool) → (b ≡ true → ⊥) → b ≡ false
-false_unless true other = absurd (other refl)
-false_unless false other = refl
-
-pub listed-test : (xs : List AddressModel) (a : AddressModel) (b : Bool) → (IsTrue b ↔ Contains xs a) → is_listed xs a ≡ b
-listed-test xs a true both = listed_from xs a (both.0 refl)
-listed-test xs a false both = false_unless (is_listed xs a) (λ e. true≢false (sym (both.1 (contains_from xs a e))))
-
 -- what a node did with an event is what the world's step says
 pub went-given : (nodes new_nodes : List NodeModel) (packets new_packets : List Envelope) (history new_history : List Entry) (founded : Bool)
     (index : ℕ) (e : NodeEvent) (n m : NodeModel) (actions : List Action) (u : UniqueModel) (number : Option ℕ) (first : ℕ)
@@ -353,6 +263,25 @@ went-given nodes new_nodes packets new_packets history new_history founded index
           omega (arith, long, few, first_is);
     }
 
+-- what is found is there
+pub position-within : {X : Type 0} (p : X → Bool) (xs : List X) (i : ℕ) → position p xs ≡ Some i → i < length xs
+position-within p xs i h = grind (arith, nat_tests, prefix_len-le-length (λ x. not (p x)) xs)
+
+-- a node that is there is given an event, which is accepted
+pub state-there : (xs : List NodeModel) (i : ℕ) → i < length xs → (n : State) × (slice_get (states xs) i ≡ Some n)
+state-there [] i lt = absurd (omega arith)
+state-there (x ∷ xs) zero lt = (x.state, refl)
+state-there (x ∷ xs) (suc i) lt = state-there xs i (omega arith)
+
+pub given-accepted : (e : NodeEvent) (nodes : List NodeModel) (index : ℕ) (w : WorldState) → w.nodes ≡ states nodes → index < length nodes → IsAccepted (gives e index (slice_get w.nodes index) w)
+given-accepted e nodes index w are lt =
+    let there = state-there nodes index lt in
+    (stepped index (step e there.0) w, ap (λ (o : Option State). gives e index o w) (ap (λ (ns : List State). slice_get ns index) are ∙ there.1))
+
+-- an answer is accepted where an equal one is
+pub accepted-too : (a b : Result Done reason.Reason) → b ≡ a → IsAccepted a → IsAccepted b
+accepted-too a b same accepted = (accepted.0, same ∙ accepted.1)
+
 -- which node the code found is which the world names
 pub found-node : (u : UniqueModel) (nodes : List NodeModel) (r o : Option ℕ) → r ≡ position (λ (n : NodeModel). is_process u n.state) nodes → r ≡ o → position (is_process u) (states nodes) ≡ o
 found-node u nodes r o answers is = position-states (is_process u) nodes ∙ sym answers ∙ is
@@ -361,7 +290,7 @@ pub found-receiver : (e : Envelope) (nodes : List NodeModel) (r o : Option ℕ) 
 found-receiver e nodes r o answers is = position-states (λ (n : State). is_for n.me e) nodes ∙ sym answers ∙ is
 
 -- one answer in place of another
-pub same-answer : (w v : WorldState) (a b : Result Done refused.Refused) (r : Result Step refused.Refused) → b ≡ a → Scenes w a r v → Scenes w b r v
+pub same-answer : (w v : WorldState) (a b : Result Done reason.Reason) (r : Result Step Refused) → b ≡ a → Scenes w a r v → Scenes w b r v
 same-answer w v a b r same scenes = subst (λ x. Scenes w x r v) (sym same) scenes
 
 -- whether the process was started, whether its address is used, and whether many were started
@@ -373,8 +302,8 @@ pub any-address : (a : AddressModel) (nodes : List NodeModel) → list_any (λ (
 any-address a nodes = list_any-states (λ (n : State). is_eq (address_cmp n.me.address a)) nodes
 
 -- the tests of a start, as the calls answer them: the address is listed, the process was started, a node runs there
-pub start-listed : (xs : List AddressModel) (a : AddressModel) (u : UniqueModel) (b c : Bool) → a ≡ u.address → (IsTrue b ↔ Contains xs a) → b ≡ c → is_listed xs u.address ≡ c
-start-listed xs a u b c at both is = ap (is_listed xs) (sym at) ∙ listed-test xs a b both ∙ is
+pub start-listed : (xs : List AddressModel) (a : AddressModel) (u : UniqueModel) (b c : Bool) → a ≡ u.address → b ≡ is_listed xs a → b ≡ c → is_listed xs u.address ≡ c
+start-listed xs a u b c at value is = ap (is_listed xs) (sym at) ∙ sym value ∙ is
 
 pub start-known : (nodes kept : List NodeModel) (u : UniqueModel) (r : Option ℕ) (b c : Bool) → r ≡ position (λ (n : NodeModel). is_process u n.state) kept → kept ≡ nodes → b ≡ is_some r → b ≡ c → list_any (is_process u) (states nodes) ≡ c
 start-known nodes kept u r b c answers same some is =
@@ -393,9 +322,9 @@ pub few-nodes : (nodes : List NodeModel) → length nodes < 64 → leb 64 (lengt
 few-nodes nodes few = ap (leb 64) (length-states nodes) ∙ lt-leb 64 (length nodes) few
 
 -- the answer to a start, by its tests
-abbrev start_by : SettingsModel → UniqueModel → WorldState → Bool → Bool → Bool → Bool → Result Done refused.Refused
+abbrev start_by : SettingsModel → UniqueModel → WorldState → Bool → Bool → Bool → Bool → Result Done reason.Reason
 start_by settings u w l a b c =
-    if not l then Err refused.TheVariants.Unlisted else (if a then Err refused.TheVariants.UniqueUsed else (if b then Err refused.TheVariants.AddressInUse else (if c then Err refused.TheVariants.TooManyStarts else Ok (starts settings u w))))
+    if not l then Err reason.TheVariants.Unlisted else (if a then Err reason.TheVariants.UniqueUsed else (if b then Err reason.TheVariants.AddressInUse else (if c then Err reason.TheVariants.TooManyStarts else Ok (starts settings u w))))
 
 pub start-answer : (settings : SettingsModel) (u : UniqueModel) (w : WorldState) (l a b c : Bool) → is_listed settings.listed u.address ≡ l → list_any (is_process u) w.nodes ≡ a → is_in_use u.address w ≡ b → leb 64 (length w.nodes) ≡ c
     → happens settings (Start u) w ≡ start_by settings u w l a b c
@@ -407,8 +336,8 @@ start-answer settings u w l a b c pl pa pb pc =
 
 -- the answer to a join, by its test
 pub join-answer : (settings : SettingsModel) (u : UniqueModel) (target : AddressModel) (w : WorldState) (l : Bool) → is_listed settings.listed target ≡ l
-    → happens settings (Join u target) w ≡ (if not l then Err refused.TheVariants.Unlisted else acts (event.TheVariants.Join target) (node_of u w) w)
-join-answer settings u target w l pl = ap (λ (x : Bool). if not x then Err refused.TheVariants.Unlisted else acts (event.TheVariants.Join target) (node_of u w) w) pl
+    → happens settings (Join u target) w ≡ (if not l then Err reason.TheVariants.Unlisted else acts (event.TheVariants.Join target) (node_of u w) w)
+join-answer settings u target w l pl = ap (λ (x : Bool). if not x then Err reason.TheVariants.Unlisted else acts (event.TheVariants.Join target) (node_of u w) w) pl
 
 -- a packet that reaches no process, and one that reaches a node
 pub dead-delivery : (w : WorldState) (number : ℕ) (e : Envelope) (s : Step) → packet_at w number ≡ Some e → receiver_of e w ≡ None → s.node ≡ None → s.first_packet ≡ length w.packets + 1 → s.first_packet < 2 ^ 64

@@ -5,7 +5,8 @@ use Rattle.ak_history.specs.declared.entry.Entry.{Entry}
 use Rattle.ak_node.specs.declared.node.State.{State}
 use Rattle.ak_wire.specs.declared.envelope.Envelope.{Envelope}
 use Rattle.ak_wire.specs.declared.envelope.Message.{Message}
-use Rattle.ak_wire.specs.declared.envelope.Message as message
+use Rattle.ak_wire.specs.Wire.{gossip_of}
+use Rattle.ak_node.specs.Node.{known}
 use Rattle.ak_gossip.specs.Gossip.{GossipState}
 use Rattle.ak_history.specs.History.{IsBounded, view}
 use Rattle.ak_world.specs.World.{WorldState}
@@ -18,12 +19,10 @@ pub record IsFold (history : List Entry) (gossip : GossipState) : Type 0 where
 
 -- a message carries this
 abbrev pub Carries : GossipState → Message → Type 0
-Carries g message.TheVariants.Join = ⊥
-Carries g (message.TheVariants.Welcome known) = known ≡ g
-Carries g (message.TheVariants.Gossip known) = known ≡ g
+Carries g m = gossip_of m ≡ Some g
 
 -- a node of the world knows this, or a packet of it carries it
 abbrev pub IsIn : GossipState → WorldState → Type 0
 IsIn g w =
-    ((index : ℕ) × (n : State) × (slice_get w.nodes index ≡ Some n) × (n.gossip ≡ g))
+    ((index : ℕ) × (n : State) × (slice_get w.nodes index ≡ Some n) × (known n ≡ g))
     ⊎ ((index : ℕ) × (e : Envelope) × (slice_get w.packets index ≡ Some e) × Carries g e.message)

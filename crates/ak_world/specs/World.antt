@@ -4,7 +4,7 @@ use Rattle.std.specs.Prelude.{ℕ, ◌+◌, ◌-◌, Bool, true, false, not, nat
 use Rattle.std.specs.List.{list_any, position}
 use Rattle.std.specs.Ordering.{is_eq}
 use Rattle.ak_address.specs.Unique.{AddressModel, UniqueModel, address_cmp, unique_cmp}
-use Rattle.ak_schedule.specs.Settings.{SettingsModel}
+use Rattle.ak_schedule.specs.Settings.{SettingsModel, is_listed}
 use Rattle.ak_schedule.specs.declared.event.Event.{Event}
 use Rattle.ak_schedule.specs.declared.event.Event.TheVariants.{Start, Found, Join, Tick, Deliver, Leave, Down, Offer, Stop}
 use Rattle.ak_history.specs.declared.entry.Entry.{Entry}
@@ -12,13 +12,13 @@ use Rattle.ak_wire.specs.declared.envelope.Envelope.{Envelope}
 use Rattle.ak_node.specs.declared.node.NodeEvent.{NodeEvent}
 use Rattle.ak_node.specs.declared.node.NodeEvent as event
 use Rattle.ak_wire.specs.declared.action.Action.{Action}
-use Rattle.ak_wire.specs.declared.action.Action.TheVariants.{Update}
-use Rattle.ak_wire.specs.Wire.{sent}
-use Rattle.ak_world.specs.declared.world.Refused.{Refused}
-use Rattle.ak_world.specs.declared.world.Refused as refused
+use Rattle.ak_member.specs.declared.effect.Effect.{Effect}
+use Rattle.ak_wire.specs.Wire.{sent, effects_of}
+use Rattle.ak_world.specs.declared.world.Reason.{Reason}
+use Rattle.ak_world.specs.declared.world.Reason as reason
 use Rattle.ak_node.specs.declared.node.State.{State}
 use Rattle.ak_history.specs.History.{entries_of}
-use Rattle.ak_node.specs.Node.{Outcome, started, is_listed, is_for, step}
+use Rattle.ak_node.specs.Node.{Outcome, started, is_for, step}
 
 pub record WorldState : Type 0 where
   -- in the order of their starts
@@ -49,12 +49,15 @@ receiver_of e w = position (λ n. is_for n.me e) w.nodes
 abbrev pub is_in_use : AddressModel → WorldState → Bool
 is_in_use a w = list_any (λ n. is_eq (address_cmp n.me.address a)) w.nodes
 
--- The entries that actions add to a history: each has its author's next number.
+-- an update adds an entry, with its author's next number
+abbrev pub with_update : UniqueModel → Option (List Effect) → List Entry → List Entry
+with_update author None history = history
+with_update author (Some effects) history = record { author = author; number = entries_of author history + 1; effects = effects } ∷ history
+
+-- the entries that actions add to a history
 abbrev pub recorded : UniqueModel → List Action → List Entry → List Entry
 recorded author [] history = history
-recorded author (Update number effects ∷ actions) history =
-    recorded author actions (record { author = author; number = entries_of author history + 1; effects = effects } ∷ history)
-recorded author (a ∷ actions) history = recorded author actions history
+recorded author (a ∷ actions) history = recorded author actions (with_update author (effects_of a) history)
 
 -- what one event did: the acting node, or none for a dead delivery, and its actions
 pub record Done : Type 0 where
@@ -76,14 +79,14 @@ stepped index o w =
     }
 
 -- the node at an index is given an event
-abbrev pub gives : NodeEvent → ℕ → Option State → WorldState → Result Done Refused
+abbrev pub gives : NodeEvent → ℕ → Option State → WorldState → Result Done Reason
 gives e index (Some n) w = Ok (stepped index (step e n) w)
-gives e index None w = Err refused.TheVariants.UnknownNode
+gives e index None w = Err reason.TheVariants.UnknownNode
 
 -- the process is given an event; one that was never started is refused
-abbrev pub acts : NodeEvent → Option ℕ → WorldState → Result Done Refused
+abbrev pub acts : NodeEvent → Option ℕ → WorldState → Result Done Reason
 acts e (Some index) w = gives e index (slice_get w.nodes index) w
-acts e None w = Err refused.TheVariants.UnknownNode
+acts e None w = Err reason.TheVariants.UnknownNode
 
 -- a schedule may start this many processes
 abbrev pub most_starts : ℕ
@@ -99,13 +102,13 @@ starts settings u w =
     }
 
 -- a packet that reaches no process changes nothing
-abbrev pub arrives : Envelope → Option ℕ → WorldState → Result Done Refused
+abbrev pub arrives : Envelope → Option ℕ → WorldState → Result Done Reason
 arrives e (Some index) w = gives (event.TheVariants.Packet e) index (slice_get w.nodes index) w
 arrives e None w = Ok (record { world = w; node = None; actions = [] })
 
-abbrev pub delivers : Option Envelope → WorldState → Result Done Refused
+abbrev pub delivers : Option Envelope → WorldState → Result Done Reason
 delivers (Some e) w = arrives e (receiver_of e w) w
-delivers None w = Err (refused.TheVariants.NoPacket (length w.packets))
+delivers None w = Err (reason.TheVariants.NoPacket (length w.packets))
 
 -- the packet of a number from 1 on
 abbrev pub numbered : List Envelope → ℕ → Option Envelope
@@ -115,28 +118,28 @@ abbrev pub packet_at : WorldState → ℕ → Option Envelope
 packet_at w number = numbered w.packets number
 
 -- What an event makes of a world, or the first reason why it is refused.
-abbrev pub happens : SettingsModel → Event → WorldState → Result Done Refused
+abbrev pub happens : SettingsModel → Event → WorldState → Result Done Reason
 happens settings (Start u) w =
-    if not (is_listed settings.listed u.address) then Err refused.TheVariants.Unlisted
-    else (if list_any (is_process u) w.nodes then Err refused.TheVariants.UniqueUsed
-    else (if is_in_use u.address w then Err refused.TheVariants.AddressInUse
-    else (if nat_le most_starts (length w.nodes) then Err refused.TheVariants.TooManyStarts
+    if not (is_listed settings.listed u.address) then Err reason.TheVariants.Unlisted
+    else (if list_any (is_process u) w.nodes then Err reason.TheVariants.UniqueUsed
+    else (if is_in_use u.address w then Err reason.TheVariants.AddressInUse
+    else (if nat_le most_starts (length w.nodes) then Err reason.TheVariants.TooManyStarts
     else Ok (starts settings u w))))
 happens settings (Found u) w =
-    if w.founded then Err refused.TheVariants.SecondFound
+    if w.founded then Err reason.TheVariants.SecondFound
     else acts event.TheVariants.Found (node_of u w) (record w { founded = true })
 happens settings (Join u target) w =
-    if not (is_listed settings.listed target) then Err refused.TheVariants.Unlisted
+    if not (is_listed settings.listed target) then Err reason.TheVariants.Unlisted
     else acts (event.TheVariants.Join target) (node_of u w) w
 happens settings (Deliver number) w = delivers (packet_at w number) w
-happens settings (Tick u word) w = Err refused.TheVariants.NotBuilt
-happens settings (Leave u who) w = Err refused.TheVariants.NotBuilt
-happens settings (Down u who) w = Err refused.TheVariants.NotBuilt
-happens settings (Offer u entity payload) w = Err refused.TheVariants.NotBuilt
-happens settings (Stop u) w = Err refused.TheVariants.NotBuilt
+happens settings (Tick u word) w = Err reason.TheVariants.NotBuilt
+happens settings (Leave u who) w = Err reason.TheVariants.NotBuilt
+happens settings (Down u who) w = Err reason.TheVariants.NotBuilt
+happens settings (Offer u entity payload) w = Err reason.TheVariants.NotBuilt
+happens settings (Stop u) w = Err reason.TheVariants.NotBuilt
 
 -- the world after an event; a refused one changes nothing
-abbrev pub after : WorldState → Result Done Refused → WorldState
+abbrev pub after : WorldState → Result Done Reason → WorldState
 after w (Ok done) = done.world
 after w (Err why) = w
 

@@ -4,6 +4,7 @@ use Rattle.ak_schedule.specs.Settings.{SettingsModel}
 use Rattle.ak_schedule.specs.declared.event.Event.{Event}
 use Rattle.ak_world.specs.declared.world.Scene.{Scene}
 use Rattle.ak_world.specs.declared.world.Step.{Step}
+use Rattle.ak_world.specs.declared.world.Reason.{Reason}
 use Rattle.ak_world.specs.declared.world.Refused.{Refused}
 use Rattle.ak_world.specs.declared.world.Refused as refused
 use Rattle.ak_node.specs.declared.node.State.{State}
@@ -33,7 +34,7 @@ pub record Shows (before : WorldState) (step : Step) (done : Done) : Type 0 wher
   pub actions : step.actions ≡ done.actions
 
 -- What an event made of a world was accepted: the new state is what it made, and the packets have numbers.
-pub record Went (old : WorldState) (answer : Result Done Refused) (step : Step) (new : WorldState) : Type 0 where
+pub record Went (old : WorldState) (answer : Result Done Reason) (step : Step) (new : WorldState) : Type 0 where
   pub done : Done
   pub happened : answer ≡ Ok done
   pub world : new ≡ done.world
@@ -41,22 +42,19 @@ pub record Went (old : WorldState) (answer : Result Done Refused) (step : Step) 
   pub numbers : step.first_packet + length (sent step.actions) < 2 ^ 64
 
 -- An event was refused for this reason, and nothing changed.
-pub record Stayed (old : WorldState) (answer : Result Done Refused) (why : Refused) (new : WorldState) : Type 0 where
+pub record Stayed (old : WorldState) (answer : Result Done Reason) (why : Reason) (new : WorldState) : Type 0 where
   pub reason : answer ≡ Err why
   pub unchanged : new ≡ old
 
--- what a call answered and left is what the definitions answer; running out of memory is free
-abbrev pub Scenes : WorldState → Result Done Refused → Result Step Refused → WorldState → Type 0
+-- an event is accepted
+abbrev pub IsAccepted : Result Done Reason → Type 0
+IsAccepted answer = (done : Done) × (answer ≡ Ok done)
+
+-- What a call answered and left is what the definitions answer. Memory runs out only where the event is accepted.
+abbrev pub Scenes : WorldState → Result Done Reason → Result Step Refused → WorldState → Type 0
 Scenes old answer (Ok step) new = Went old answer step new
-Scenes old answer (Err refused.TheVariants.NoMemory) new = Unit {0}
-Scenes old answer (Err refused.TheVariants.Unlisted) new = Stayed old answer refused.TheVariants.Unlisted new
-Scenes old answer (Err refused.TheVariants.UniqueUsed) new = Stayed old answer refused.TheVariants.UniqueUsed new
-Scenes old answer (Err refused.TheVariants.AddressInUse) new = Stayed old answer refused.TheVariants.AddressInUse new
-Scenes old answer (Err refused.TheVariants.SecondFound) new = Stayed old answer refused.TheVariants.SecondFound new
-Scenes old answer (Err refused.TheVariants.UnknownNode) new = Stayed old answer refused.TheVariants.UnknownNode new
-Scenes old answer (Err (refused.TheVariants.NoPacket sent)) new = Stayed old answer (refused.TheVariants.NoPacket sent) new
-Scenes old answer (Err refused.TheVariants.TooManyStarts) new = Stayed old answer refused.TheVariants.TooManyStarts new
-Scenes old answer (Err refused.TheVariants.NotBuilt) new = Stayed old answer refused.TheVariants.NotBuilt new
+Scenes old answer (Err (refused.TheVariants.Invalid why)) new = Stayed old answer why new
+Scenes old answer (Err refused.TheVariants.NoMemory) new = IsAccepted answer
 
 -- few nodes were started, and each was given few events
 pub record IsReady (w : WorldState) : Type 0 where
@@ -72,23 +70,24 @@ pub record Accepts (event : Event) (old : WorldModel) (step : Step) (new : World
   pub shown : Shows old.state step done
 
 -- An event was refused for the first reason that applies, and nothing changed.
-pub record Refuses (event : Event) (old : WorldModel) (why : Refused) (new : WorldModel) : Type 0 where
+pub record Refuses (event : Event) (old : WorldModel) (why : Reason) (new : WorldModel) : Type 0 where
   pub alive : old.spent ≡ false
   pub reason : happens old.settings event old.state ≡ Err why
   pub unchanged : new ≡ old
 
--- What a call of `apply` answered, by cases. Once out of memory the world is spent; a spent world answers nothing else.
+-- Memory ran out, at an event that is accepted or because the world was spent before. The world is spent: it still shows
+-- its settings and the events that it accepted.
+pub record Spends (event : Event) (old new : WorldModel) : Type 0 where
+  pub accepted : old.spent ≡ false → IsAccepted (happens old.settings event old.state)
+  pub spent : new.spent ≡ true
+  pub same_settings : new.settings ≡ old.settings
+  pub same_events : new.events ≡ old.events
+
+-- what a call of `apply` answered, by cases
 abbrev pub Applies : Event → WorldModel → Result Step Refused → WorldModel → Type 0
 Applies event old (Ok step) new = Accepts event old step new
-Applies event old (Err refused.TheVariants.NoMemory) new = new.spent ≡ true
-Applies event old (Err refused.TheVariants.Unlisted) new = Refuses event old refused.TheVariants.Unlisted new
-Applies event old (Err refused.TheVariants.UniqueUsed) new = Refuses event old refused.TheVariants.UniqueUsed new
-Applies event old (Err refused.TheVariants.AddressInUse) new = Refuses event old refused.TheVariants.AddressInUse new
-Applies event old (Err refused.TheVariants.SecondFound) new = Refuses event old refused.TheVariants.SecondFound new
-Applies event old (Err refused.TheVariants.UnknownNode) new = Refuses event old refused.TheVariants.UnknownNode new
-Applies event old (Err (refused.TheVariants.NoPacket sent)) new = Refuses event old (refused.TheVariants.NoPacket sent) new
-Applies event old (Err refused.TheVariants.TooManyStarts) new = Refuses event old refused.TheVariants.TooManyStarts new
-Applies event old (Err refused.TheVariants.NotBuilt) new = Refuses event old refused.TheVariants.NotBuilt new
+Applies event old (Err (refused.TheVariants.Invalid why)) new = Refuses event old why new
+Applies event old (Err refused.TheVariants.NoMemory) new = Spends event old new
 
 -- what is true of what a world keeps: it is the run of its events, unless it is spent
 pub record IsWorld (settings : SettingsModel) (w : WorldState) (events : List Event) (spent : Bool) : Type 0 where

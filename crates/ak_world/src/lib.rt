@@ -11,4 +11,4 @@ pub use laws::{
     equal_versions_have_equal_members, nodes_count_their_own_updates, what_is_known_is_the_fold,
 };
 pub use print::{print_step, print_summary};
-pub use world::{Refused, Step, World};
+pub use world::{Reason, Refused, Step, World};

@@ -1,4 +1,4 @@
-ghost use Rattle.std.specs.Prelude.{◌≡◌, ℕ, ◌+◌, ◌-◌, ◌<◌, ◌^◌, ◌++◌, ◌∷◌, [], true, false, length, take, slice_get, IfOk, OnOk, Option, None, Some, Result, Ok, Err};
+ghost use Rattle.std.specs.Prelude.{◌≡◌, ℕ, ◌+◌, ◌-◌, ◌<◌, ◌^◌, ◌++◌, ◌∷◌, [], true, false, length, take, slice_get, IfOk, OnOk, OnErr, Option, None, Some, Result, Ok, Err};
 ghost use Rattle.std.specs.Option.{option_copied, option_map};
 ghost use Rattle.ak_wire.specs.Wire.{sent};
 ghost use Rattle.ak_world.specs.World as rules;
@@ -19,9 +19,9 @@ use ak_wire::{Action, Actions, Envelope};
 use std::alloc::{AllocError, AllocFailed, Global};
 use std::marker::Model;
 
-/// Why a world refuses an event. The first reason that applies is the answer.
+/// Why an event may not happen in a world. The first reason that applies is the answer.
 #[derive(Clone, Copy, Debug, PartialEq, Eq)]
-pub enum Refused {
+pub enum Reason {
     /// The address of a process that starts, or through which one joins, is not listed.
     Unlisted,
     /// The process was started before.
@@ -38,6 +38,14 @@ pub enum Refused {
     TooManyStarts,
     /// The event is of a kind that is not built yet.
     NotBuilt,
+}
+
+/// Why a world did not apply an event.
+#[derive(Clone, Copy, Debug, PartialEq, Eq)]
+pub enum Refused {
+    /// The event may not happen in this world.
+    Invalid(Reason),
+    /// Memory ran out; the event may happen.
     NoMemory,
 }
 
@@ -92,16 +100,16 @@ impl Scene {
         ensures scenes { Scenes (state_of self.old) (rules.happens self.old.settings (Event.Start who.now) (state_of self.old)) result (state_of self.new) }
     {
         if !self.settings.is_listed(&who.address) {
-            return Err(Refused::Unlisted);
+            return Err(Refused::Invalid(Reason::Unlisted));
         }
         if node_of(&self.nodes, who).is_some() {
-            return Err(Refused::UniqueUsed);
+            return Err(Refused::Invalid(Reason::UniqueUsed));
         }
         if is_in_use(&self.nodes, &who.address) {
-            return Err(Refused::AddressInUse);
+            return Err(Refused::Invalid(Reason::AddressInUse));
         }
         if self.nodes.len() >= MOST_STARTS {
-            return Err(Refused::TooManyStarts);
+            return Err(Refused::Invalid(Reason::TooManyStarts));
         }
         self.start_node(alloc, who)
     }
@@ -128,7 +136,7 @@ impl Scene {
         ensures scenes { Scenes (state_of self.old) (rules.happens self.old.settings (Event.Found who.now) (state_of self.old)) result (state_of self.new) }
     {
         if self.founded {
-            return Err(Refused::SecondFound);
+            return Err(Refused::Invalid(Reason::SecondFound));
         }
         match self.act(alloc, who, NodeEvent::Found) {
             Ok(step) => {
@@ -145,10 +153,15 @@ impl Scene {
         ensures scenes { Scenes (state_of self.old) (rules.happens self.old.settings (Event.Join who.now target.now) (state_of self.old)) result (state_of self.new) }
     {
         if !self.settings.is_listed(target) {
-            return Err(Refused::Unlisted);
+            return Err(Refused::Invalid(Reason::Unlisted));
         }
-        let target = target.copy(alloc)?;
-        self.act(alloc, who, NodeEvent::Join(target))
+        let Some(index) = node_of(&self.nodes, who) else {
+            return Err(Refused::Invalid(Reason::UnknownNode));
+        };
+        let Ok(target) = target.copy(alloc) else {
+            return Err(Refused::NoMemory);
+        };
+        self.give(alloc, index, NodeEvent::Join(target))
     }
 
     fn deliver(&mut self, alloc: Global, number: u64) -> Result<Step, Refused>
@@ -158,7 +171,7 @@ impl Scene {
     {
         let Some(envelope) = packet_at(&self.packets, number) else {
             let sent = self.packets.len() as u64;
-            return Err(Refused::NoPacket { sent });
+            return Err(Refused::Invalid(Reason::NoPacket { sent }));
         };
         let Some(index) = receiver_of(&self.nodes, envelope) else {
             return Ok(Step {
@@ -179,7 +192,7 @@ impl Scene {
     {
         match node_of(&self.nodes, who) {
             Some(index) => return self.give(alloc, index, event),
-            None => return Err(Refused::UnknownNode),
+            None => return Err(Refused::Invalid(Reason::UnknownNode)),
         }
     }
 
@@ -217,7 +230,7 @@ impl Scene {
             Event::Found(who) => self.found(alloc, who),
             Event::Join(who, target) => self.join(alloc, who, target),
             Event::Deliver(number) => self.deliver(alloc, *number),
-            _ => Err(Refused::NotBuilt),
+            _ => Err(Refused::Invalid(Reason::NotBuilt)),
         }
     }
 
@@ -304,15 +317,16 @@ impl<T: Drop> From<AllocFailed<T>> for Refused {
 
 // An event is added to the accepted ones. An error leaves them as they were.
 fn keep_event(alloc: Global, event: &Event, accepted: &mut Vec<Event>) -> Result<(), AllocError>
-    ensures { OnOk result (accepted.new.items ≡ accepted.old.items ++ event.now ∷ []) }
+    ensures ok { OnOk result (accepted.new.items ≡ accepted.old.items ++ event.now ∷ []) }
+    ensures err { OnErr result (accepted.new.items ≡ accepted.old.items) }
 {
     let kept = event.copy(alloc)?;
     accepted.push(kept)?;
     Ok(())
 }
 
-/// A world: a settings' run of the events that it accepted. Once out of memory it is spent, and each later event
-/// answers that it is out of memory.
+/// A world: the run of its settings over the events that it accepted. Once out of memory it is spent: it still shows its
+/// settings and the events that it accepted, and each later event answers that it is out of memory.
 #[derive(Drop)]
 pub struct World {
     scene: Scene,
@@ -356,8 +370,9 @@ impl World {
         }
     }
 
-    /// Applies one event, or says why it is refused: the first reason of `Refused` that applies. A refusal leaves the
-    /// world as it was; once out of memory the world is spent.
+    /// Applies one event, or says why it is refused: the first reason of `Reason` that applies, whether or not memory
+    /// would be found. A refusal leaves the world as it was. Memory runs out at an accepted event alone, and then the world
+    /// is spent.
     ///
     /// What a node knows and what a packet carries is the fold of the history: its members with their statuses, its
     /// tombstones and its rows are those that its version shows. So equal versions have equal members, statuses,
@@ -386,7 +401,7 @@ impl World {
                 self.is_spent = true;
                 Err(Refused::NoMemory)
             }
-            Err(why) => Err(why),
+            Err(Refused::Invalid(why)) => Err(Refused::Invalid(why)),
         }
     }
 

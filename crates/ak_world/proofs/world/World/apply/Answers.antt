@@ -16,7 +16,7 @@ happens-requires c =
 pub invariant_of-self : goal.invariant_of-self
 invariant_of-self c =
     let kept : c.keep_event.new.accepted.items ≡ c.self.inside.accepted.items ++ c.args.event.now ∷ [] =
-    at-ok c.keep_event.result _ (sym c.is_ok.ensures.value ∙ c.if-is_ok.true) c.keep_event.ensures in
+    at-ok c.keep_event.result _ (sym c.is_ok.ensures.value ∙ c.if-is_ok.true) c.keep_event.ensures.ok in
     record {
       is_run = λ alive.
           run-went c.self.inside.scene.settings _ _ _ c.self.inside.accepted.items _ c.args.event.now _ (c.self.invariant.is_run c.if-self.false) c.happens.ensures.settings kept c.in-Ok.ensures.scenes;
@@ -25,7 +25,7 @@ invariant_of-self c =
 pub returns-then-is_ok-clause-run : goal.returns-then-is_ok-clause-run
 returns-then-is_ok-clause-run c =
     let kept : c.keep_event.new.accepted.items ≡ c.self.inside.accepted.items ++ c.args.event.now ∷ [] =
-    at-ok c.keep_event.result _ (sym c.is_ok.ensures.value ∙ c.if-is_ok.true) c.keep_event.ensures in
+    at-ok c.keep_event.result _ (sym c.is_ok.ensures.value ∙ c.if-is_ok.true) c.keep_event.ensures.ok in
     λ alive.
     run-went c.self.inside.scene.settings _ _ _ c.self.inside.accepted.items _ c.args.event.now _ (c.self.invariant.is_run c.if-self.false) c.happens.ensures.settings kept c.in-Ok.ensures.scenes
 
@@ -33,8 +33,8 @@ pub returns-then-is_ok-clause-folded : goal.returns-then-is_ok-clause-folded
 returns-then-is_ok-clause-folded c =
     λ alive g is_in. folds-of_run c.happens.new.self.settings c.keep_event.new.accepted.items (state_of c.happens.new.self) (returns-then-is_ok-clause-run c alive) g is_in
 
-pub returns-in-Err-clause-folded : goal.returns-in-Err-clause-folded
-returns-in-Err-clause-folded c =
+pub returns-in-Err-Invalid-clause-folded : goal.returns-in-Err-Invalid-clause-folded
+returns-in-Err-Invalid-clause-folded c =
     let is_run : c.self.inside.is_spent ≡ false → state_of c.happens.new.self ≡ run c.happens.new.self.settings c.self.inside.accepted.items = grind (arith, common_steps) in
     λ alive g is_in. folds-of_run c.happens.new.self.settings c.self.inside.accepted.items (state_of c.happens.new.self) (is_run alive) g is_in
 
@@ -42,6 +42,6 @@ pub returns-then-is_ok-clause-equal : goal.returns-then-is_ok-clause-equal
 returns-then-is_ok-clause-equal c =
     λ alive. views_at_times c.happens.new.self.settings c.keep_event.new.accepted.items
 
-pub returns-in-Err-clause-equal : goal.returns-in-Err-clause-equal
-returns-in-Err-clause-equal c =
+pub returns-in-Err-Invalid-clause-equal : goal.returns-in-Err-Invalid-clause-equal
+returns-in-Err-Invalid-clause-equal c =
     λ alive. views_at_times c.happens.new.self.settings c.self.inside.accepted.items
