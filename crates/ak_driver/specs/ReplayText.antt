@@ -1,16 +1,16 @@
--- What a replay of a recorded schedule prints, and its status: a relation over the schedule's lines, by the grammar of a line
--- and the rules of the world.
-use Rattle.std.specs.Prelude.{◌≡◌, ℕ, ◌+◌, ◌<◌, ◌≤◌, ◌⊎◌, List, [], ◌∷◌, ◌++◌, codes, length, slice_get, Ok, Err, IfSome}
+-- What a replay of a recorded schedule prints, and its status: by the grammar of a line and the rules of the world.
+use Rattle.std.specs.Prelude.{◌≡◌, ℕ, ◌+◌, ◌<◌, ◌≤◌, ◌⊎◌, List, [], ◌∷◌, ◌++◌, codes, length, take, Ok, Err}
+use Rattle.std.specs.List.{concat}
 use Rattle.std.specs.Fmt.{decimal}
 use Rattle.ak_schedule.specs.Line.{lines, IsPassedOver}
 use Rattle.ak_schedule.specs.Settings.{SettingsModel}
-use Rattle.ak_schedule.specs.Schedule.{headers, SetsHeader, SpellsEvent}
-use Rattle.ak_schedule.specs.Draft.{first_draft}
+use Rattle.ak_schedule.specs.Schedule.{SpellsEvent}
+use Rattle.ak_schedule.specs.Draft.{first_draft, ReadsHeader}
 use Rattle.ak_schedule.specs.declared.event.Event.{Event}
-use Rattle.ak_world.specs.declared.world.Refused.{Refused}
-use Rattle.ak_world.specs.declared.world.Refused as world
+use Rattle.ak_world.specs.declared.world.Reason.{Reason}
+use Rattle.ak_world.specs.declared.world.Reason.TheVariants.{Unlisted, UniqueUsed, AddressInUse, SecondFound, UnknownNode, NoPacket, TooManyStarts, NotBuilt}
 use Rattle.ak_driver.specs.declared.replay.Code.{Code}
-use Rattle.ak_driver.specs.declared.replay.Code.TheVariants.{Malformed, BadHeader, Unlisted, UniqueUsed, AddressInUse, SecondFound, UnknownNode, NoPacket, TooManyStarts, PastLimit, NotBuilt}
+use Rattle.ak_driver.specs.declared.replay.Code.TheVariants.{Malformed, BadHeader, PastLimit, Invalid}
 use Rattle.ak_world.specs.World.{WorldState, Done, empty_world, happens}
 use Rattle.ak_world.specs.StepText.{step_text, summary_text}
 
@@ -31,31 +31,32 @@ pub record Progress : Type 0 where
   -- how many headers were read, and what they set
   pub headers : ℕ
   pub settings : SettingsModel
+  -- the events that were accepted, and the world after them
+  pub events : List Event
   pub world : WorldState
-  pub steps : ℕ
+
+-- before the first line no header is read
+abbrev pub at_start : Progress
+at_start = record { line = 1; headers = first_draft.read; settings = first_draft.settings; events = []; world = empty_world }
+
+abbrev pub reason_text : Reason → List ℕ
+reason_text Unlisted = codes "S3"
+reason_text UniqueUsed = codes "S4"
+reason_text AddressInUse = codes "S5"
+reason_text SecondFound = codes "S6"
+reason_text UnknownNode = codes "S7"
+reason_text (NoPacket sent) = codes "S9"
+reason_text TooManyStarts = codes "S11"
+reason_text NotBuilt = codes "S13"
 
 abbrev pub code_text : Code → List ℕ
 code_text Malformed = codes "S1"
 code_text BadHeader = codes "S2"
-code_text Unlisted = codes "S3"
-code_text UniqueUsed = codes "S4"
-code_text AddressInUse = codes "S5"
-code_text SecondFound = codes "S6"
-code_text UnknownNode = codes "S7"
-code_text NoPacket = codes "S9"
-code_text TooManyStarts = codes "S11"
+code_text (Invalid why) = reason_text why
 code_text PastLimit = codes "S12"
-code_text NotBuilt = codes "S13"
 
 abbrev pub refusal_text : Code → ℕ → List ℕ
 refusal_text code line = codes "error 4 " ++ code_text code ++ codes " line " ++ decimal line ++ 10 ∷ []
-
--- what one line does
-pub data Judgement : Type 0 where
-  Passes : Judgement
-  Sets : SettingsModel → Judgement
-  Steps : Event → Done → Judgement
-  Refuses : Code → Judgement
 
 -- a header, or an event, is wanted of a line that is not passed over
 pub record WantsHeader (p : Progress) (line : List ℕ) : Type 0 where
@@ -68,91 +69,79 @@ pub record WantsEvent (p : Progress) (line : List ℕ) : Type 0 where
   pub not_passed : IsPassedOver line → ⊥
   pub running : header_count ≤ p.headers
 
--- the line sets the next header
+-- fewer events were accepted than may be
+abbrev pub HasRoom : Progress → Type 0
+HasRoom p = length p.events < most_events
+
+-- the line is the next header, and sets its setting
 abbrev pub SetsNext : Progress → List ℕ → SettingsModel → Type 0
-SetsNext p line settings = IfSome (slice_get headers p.headers) (λ which. SetsHeader which line p.settings settings)
+SetsNext p line settings = ReadsHeader line (record { read = p.headers; settings = p.settings }) (record { read = p.headers + 1; settings = settings })
 
--- the line is an event that is no longer taken, for there were as many as there may be
-abbrev pub IsPastEvents : Progress → List ℕ → Type 0
-IsPastEvents p line = WantsEvent p line × (most_events ≤ p.steps)
+-- what an accepted line is: passed over, a header, or an event that happens in the world
+pub data Judgement : Type 0 where
+  Passes : Judgement
+  Sets : SettingsModel → Judgement
+  Steps : Event → Done → Judgement
 
--- no header where one is wanted
-abbrev pub IsNoHeader : Progress → List ℕ → Type 0
-IsNoHeader p line = WantsHeader p line × ((settings : SettingsModel) → SetsNext p line settings → ⊥)
-
--- an event is wanted, and the line spells none
-abbrev pub IsNoEvent : Progress → List ℕ → Type 0
-IsNoEvent p line = WantsEvent p line × (p.steps < most_events) × ((event : Event) → SpellsEvent line event → ⊥)
-
--- the line spells an event that the world refuses for this reason
-abbrev pub IsInvalid : Progress → List ℕ → Refused → Type 0
-IsInvalid p line why =
-    WantsEvent p line × (p.steps < most_events) × (event : Event) × SpellsEvent line event × (happens p.settings event p.world ≡ Err why)
-
--- the line is refused with this code
-abbrev pub IsRefused : Progress → List ℕ → Code → Type 0
-IsRefused p line Malformed = IsNoEvent p line
-IsRefused p line BadHeader = IsNoHeader p line
-IsRefused p line Unlisted = IsInvalid p line world.TheVariants.Unlisted
-IsRefused p line UniqueUsed = IsInvalid p line world.TheVariants.UniqueUsed
-IsRefused p line AddressInUse = IsInvalid p line world.TheVariants.AddressInUse
-IsRefused p line SecondFound = IsInvalid p line world.TheVariants.SecondFound
-IsRefused p line UnknownNode = IsInvalid p line world.TheVariants.UnknownNode
-IsRefused p line NoPacket = (sent : ℕ) × IsInvalid p line (world.TheVariants.NoPacket sent)
-IsRefused p line TooManyStarts = IsInvalid p line world.TheVariants.TooManyStarts
-IsRefused p line PastLimit = (most_lines < p.line) ⊎ IsPastEvents p line
-IsRefused p line NotBuilt = IsInvalid p line world.TheVariants.NotBuilt
-
+-- a line is accepted as this
 abbrev pub Judged : Progress → List ℕ → Judgement → Type 0
 Judged p line Passes = (p.line ≤ most_lines) × IsPassedOver line
 Judged p line (Sets settings) = WantsHeader p line × SetsNext p line settings
-Judged p line (Steps event done) = WantsEvent p line × (p.steps < most_events) × SpellsEvent line event × (happens p.settings event p.world ≡ Ok done)
-Judged p line (Refuses code) = IsRefused p line code
+Judged p line (Steps event done) = WantsEvent p line × HasRoom p × SpellsEvent line event × (happens p.settings event p.world ≡ Ok done)
 
--- a replay goes on after a line, or ends there
-abbrev pub GoesOn : Progress → Judgement → (Progress → ℕ → List ℕ → Type 0) → ℕ → List ℕ → Type 0
-GoesOn p Passes Rest status text = Rest (record p { line = p.line + 1 }) status text
-GoesOn p (Sets settings) Rest status text = Rest (record p { line = p.line + 1; headers = p.headers + 1; settings = settings }) status text
-GoesOn p (Steps event done) Rest status text =
-    (rest : List ℕ)
-    × Rest (record p { line = p.line + 1; steps = p.steps + 1; world = done.world }) status rest
-    × (text ≡ step_text (length p.world.packets + 1) (p.steps + 1) event done ++ rest)
-GoesOn p (Refuses code) Rest status text = (status ≡ 4) × (text ≡ refusal_text code p.line)
+-- a line is refused with this code: it spells no event; it is not the next header; it comes after the last that may be; or it
+-- spells an event that the world refuses
+abbrev pub IsRefused : Progress → List ℕ → Code → Type 0
+IsRefused p line Malformed = WantsEvent p line × HasRoom p × ((event : Event) → SpellsEvent line event → ⊥)
+IsRefused p line BadHeader = WantsHeader p line × ((settings : SettingsModel) → SetsNext p line settings → ⊥)
+IsRefused p line PastLimit = (most_lines < p.line) ⊎ (WantsEvent p line × (most_events ≤ length p.events))
+IsRefused p line (Invalid why) = WantsEvent p line × HasRoom p × (event : Event) × SpellsEvent line event × (happens p.settings event p.world ≡ Err why)
 
--- after the last line: the summary, or a header is missing
-abbrev pub Ends : Progress → ℕ → List ℕ → Type 0
-Ends p status text =
-    ((header_count ≤ p.headers) × (status ≡ 0) × (text ≡ summary_text p.steps p.world))
-    ⊎ ((p.headers < header_count) × (status ≡ 4) × (text ≡ refusal_text BadHeader p.line))
+-- what an accepted line makes of a replay: how far it has come then, and the text of the step that it adds
+abbrev pub turn : Progress → Judgement → Progress × List (List ℕ)
+turn p Passes = (record p { line = p.line + 1 }, [])
+turn p (Sets settings) = (record p { line = p.line + 1; headers = p.headers + 1; settings = settings }, [])
+turn p (Steps event done) = (
+  record p { line = p.line + 1; events = p.events ++ event ∷ []; world = done.world },
+  step_text (length p.world.packets + 1) (length p.events + 1) event done ∷ [],
+)
 
--- what a replay of these lines prints, and its status
-abbrev pub Replays : Progress → List (List ℕ) → ℕ → List ℕ → Type 0
-Replays p [] status text = Ends p status text
-Replays p (line ∷ lines) status text = (judgement : Judgement) × Judged p line judgement × GoesOn p judgement (λ q. Replays q lines) status text
+-- how a replay ends: after its last line, or at a line that is refused
+pub data Ending : Type 0 where
+  Finished : Progress → Ending
+  Stopped : Code → ℕ → Ending
 
--- before the first line no header is read
-abbrev pub at_start : Progress
-at_start = record { line = 1; headers = first_draft.read; settings = first_draft.settings; world = empty_world; steps = 0 }
+-- after the last line a replay is finished, or a header is missing
+abbrev pub EndsAs : Progress → Ending → Type 0
+EndsAs p ending = ((header_count ≤ p.headers) × (ending ≡ Finished p)) ⊎ ((p.headers < header_count) × (ending ≡ Stopped BadHeader p.line))
 
--- the bytes of a schedule have this replay text and status
+-- From here a replay of these lines takes steps with these texts, and ends so.
+abbrev pub Replays : Progress → List (List ℕ) → List (List ℕ) → Ending → Type 0
+Replays p [] steps ending = (steps ≡ []) × EndsAs p ending
+Replays p (line ∷ lines) steps ending =
+    ((code : Code) × IsRefused p line code × (steps ≡ []) × (ending ≡ Stopped code p.line))
+    ⊎ ((judgement : Judgement) × Judged p line judgement
+      × (rest : List (List ℕ)) × Replays (turn p judgement).0 lines rest ending × (steps ≡ (turn p judgement).1 ++ rest))
+
+-- what is printed at the end, and the status
+abbrev pub ending_text : Ending → List ℕ
+ending_text (Finished p) = summary_text (length p.events) p.world
+ending_text (Stopped code line) = refusal_text code line
+
+abbrev pub ending_status : Ending → ℕ
+ending_status (Finished p) = 0
+ending_status (Stopped code line) = 4
+
+-- the bytes of a schedule have these texts of steps and this end
+abbrev pub ReplaysAs : List ℕ → List (List ℕ) → Ending → Type 0
+ReplaysAs bytes steps ending = Replays at_start (lines bytes) steps ending
+
+-- the bytes of a schedule have this replay text and status: the texts of all steps, and the end
 abbrev pub IsReplay : List ℕ → ℕ → List ℕ → Type 0
-IsReplay bytes status text = Replays at_start (lines bytes) status text
+IsReplay bytes status text =
+    (steps : List (List ℕ)) × (ending : Ending) × ReplaysAs bytes steps ending × (status ≡ ending_status ending) × (text ≡ concat steps ++ ending_text ending)
 
--- some first steps are printed, whole, and no more
-abbrev pub GoesOnPrinting : Progress → Judgement → (Progress → List ℕ → Type 0) → List ℕ → Type 0
-GoesOnPrinting p Passes Rest text = Rest (record p { line = p.line + 1 }) text
-GoesOnPrinting p (Sets settings) Rest text = Rest (record p { line = p.line + 1; headers = p.headers + 1; settings = settings }) text
-GoesOnPrinting p (Steps event done) Rest text =
-    (rest : List ℕ)
-    × Rest (record p { line = p.line + 1; steps = p.steps + 1; world = done.world }) rest
-    × (text ≡ step_text (length p.world.packets + 1) (p.steps + 1) event done ++ rest)
-GoesOnPrinting p (Refuses code) Rest text = text ≡ []
-
-abbrev pub FirstSteps : Progress → List (List ℕ) → List ℕ → Type 0
-FirstSteps p [] text = text ≡ []
-FirstSteps p (line ∷ lines) text =
-    (text ≡ []) ⊎ ((judgement : Judgement) × Judged p line judgement × GoesOnPrinting p judgement (λ q. FirstSteps q lines) text)
-
--- the texts of some first steps of a replay of these bytes
+-- the texts of some first steps of a replay of these bytes, whole
 abbrev pub IsFirstSteps : List ℕ → List ℕ → Type 0
-IsFirstSteps bytes text = FirstSteps at_start (lines bytes) text
+IsFirstSteps bytes text =
+    (steps : List (List ℕ)) × (ending : Ending) × ReplaysAs bytes steps ending × (count : ℕ) × (text ≡ concat (take count steps))
