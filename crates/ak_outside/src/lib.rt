@@ -4,18 +4,23 @@
 #![tactic(auto)]
 
 mod memory;
+mod reader;
 mod sink;
 mod source;
 mod standard;
 mod status;
 mod steady;
+mod tries;
+mod writer;
 
 pub use memory::{MemorySink, MemorySource};
+pub use reader::ReaderSource;
 pub use sink::{Sink, Wrote, write_all};
 pub use source::{Read, Source};
 pub use standard::{StdSink, StdSource};
 pub use status::Status;
 pub use steady::{SteadySink, SteadySource};
+pub use writer::WriterSink;
 
 #[cfg(test)]
 mod tests {

@@ -1,19 +1,35 @@
-// Standard input and output, the edge that is trusted: no clause says which bytes come or go.
-ghost use Rattle.std.specs.Prelude.{◌≡◌, ◌≤◌, ◌<◌, None, IfSome, length};
-ghost use Rattle.ak_outside.specs.Outside.{counted};
-ghost use Rattle.ak_outside.specs.Reads.{FitsBuffer, GivesFirst, EndsExactly, ReadCause, ReadIsCounted};
+// Standard input and output, the edge that is trusted: no clause says which bytes come or go. What is
+// trusted of it:
+// - that `rt.reader()` reads standard input, and gives the first bytes of those that are left there;
+// - that `io::writer(rt)` writes to standard output, and that what it has written needs no flush;
+// - that their errors are the system's, with `Interrupted` for a call that a signal interrupted.
+ghost use Rattle.std.specs.Prelude.{◌≡◌, ◌≤◌, None};
+ghost use Rattle.ak_outside.specs.Reads.{FitsBuffer, LeavesRest, GivesFirst, EndsExactly, ReadCause, ReadIsCounted};
 ghost use Rattle.ak_outside.specs.Writes.{FitsPiece, TakesFirst, WriteCause, WriteIsCounted};
 
+use crate::reader::ReaderSource;
 use crate::sink::{Sink, Wrote};
 use crate::source::{Read, Source};
-use std::io::{ErrorKind, Read as _};
+use crate::writer::WriterSink;
+use std::io;
+use std::io::Printer;
 use std::marker::Model;
 
 /// Standard input. Callers see its count of faults; what is left is not known.
 #[derive(Drop)]
 pub struct StdSource<'a, R> {
-    runtime: &'a R,
-    fault_count: u64,
+    source: ReaderSource<StandardReader<'a, R>>,
+}
+
+// Standard input as a reader. A new reader of the runtime's has read nothing ahead, so that its one
+// read takes no byte that it does not give.
+#[derive(Drop)]
+struct StandardReader<'a, R>(&'a R);
+
+impl<'a, R: Input> io::Read for StandardReader<'a, R> {
+    fn read(&mut self, buf: &mut [u8]) -> io::Result<usize> {
+        self.0.reader().read(buf)
+    }
 }
 
 impl<'a, R> Model for StdSource<'a, R> {
@@ -21,7 +37,7 @@ impl<'a, R> Model for StdSource<'a, R> {
 
     ghost Value = { ℕ };
 
-    ghost view = { λ s. s.fault_count };
+    ghost view = { λ s. s.source.fault_count };
 }
 
 impl<'a, R: Input> StdSource<'a, R> {
@@ -30,8 +46,7 @@ impl<'a, R: Input> StdSource<'a, R> {
         ensures { result ≡ 0 }
     {
         StdSource {
-            runtime: rt,
-            fault_count: 0,
+            source: ReaderSource::new(StandardReader(rt)),
         }
     }
 
@@ -39,7 +54,7 @@ impl<'a, R: Input> StdSource<'a, R> {
     pub fn faults(&self) -> u64
         ensures { result ≡ self.now }
     {
-        self.fault_count
+        self.source.faults()
     }
 }
 
@@ -53,25 +68,19 @@ impl<'a, R: Input> Source for StdSource<'a, R> {
         ensures count { self.old ≤ self.new }
         ensures cause { ReadCause self.old self.new result }
         ensures fits { FitsBuffer result buffer.new }
+        ensures rest { LeavesRest result buffer.old buffer.new }
         ensures bytes { GivesFirst None None result buffer.new }
         ensures end { EndsExactly None result buffer.new }
         ensures counted { ReadIsCounted self.old self.new result }
     {
-        match read_input(self.runtime, buffer) {
-            Some(count) => Read::Got(count),
-            None => {
-                self.fault_count = self.fault_count.saturating_add(1);
-                Read::Failed
-            }
-        }
+        self.source.read(buffer)
     }
 }
 
 /// Standard output. Callers see its count of faults; what was written is not known.
 #[derive(Drop)]
 pub struct StdSink<'a, R> {
-    runtime: &'a R,
-    fault_count: u64,
+    sink: WriterSink<Printer<'a, R>>,
 }
 
 impl<'a, R> Model for StdSink<'a, R> {
@@ -79,7 +88,7 @@ impl<'a, R> Model for StdSink<'a, R> {
 
     ghost Value = { ℕ };
 
-    ghost view = { λ s. s.fault_count };
+    ghost view = { λ s. s.sink.fault_count };
 }
 
 impl<'a, R: Print> StdSink<'a, R> {
@@ -88,8 +97,7 @@ impl<'a, R: Print> StdSink<'a, R> {
         ensures { result ≡ 0 }
     {
         StdSink {
-            runtime: rt,
-            fault_count: 0,
+            sink: WriterSink::new(io::writer(rt)),
         }
     }
 
@@ -97,7 +105,7 @@ impl<'a, R: Print> StdSink<'a, R> {
     pub fn faults(&self) -> u64
         ensures { result ≡ self.now }
     {
-        self.fault_count
+        self.sink.faults()
     }
 }
 
@@ -115,53 +123,6 @@ impl<'a, R: Print> Sink for StdSink<'a, R> {
         ensures bytes { TakesFirst None None result bytes.now }
         ensures counted { WriteIsCounted self.old self.new result }
     {
-        if bytes.is_empty() {
-            return Wrote::Took(0);
-        }
-        match write_output(self.runtime, bytes) {
-            Some(count) => Wrote::Took(count),
-            None => {
-                self.fault_count = self.fault_count.saturating_add(1);
-                Wrote::Failed
-            }
-        }
+        self.sink.write(bytes)
     }
-}
-
-// One read of standard input, tried again where it was interrupted. A new reader has read nothing
-// ahead, so that its one read takes no byte that it does not give.
-fn read_input<R: Input>(rt: &R, buffer: &mut [u8]) -> Option<usize>
-    ensures { IfSome result (λ n. n ≤ length buffer.new) }
-{
-    let mut reader = rt.reader();
-    for _ in 0..u64::MAX {
-        match reader.read(buffer) {
-            Ok(count) => return Some(count),
-            Err(e) => {
-                if e.kind() != ErrorKind::Interrupted {
-                    return None;
-                }
-            }
-        }
-    }
-    None
-}
-
-// One write to standard output, tried again where it was interrupted. `Print` buffers nothing, so
-// that what it has written needs no flush.
-fn write_output<R: Print>(rt: &R, bytes: &[u8]) -> Option<usize>
-    ensures { IfSome result (λ n. (0 < n) × (n ≤ length bytes.now)) }
-{
-    for _ in 0..u64::MAX {
-        match rt.write_some(bytes) {
-            Ok(0) => return None,
-            Ok(count) => return Some(count),
-            Err(e) => {
-                if e.kind() != ErrorKind::Interrupted {
-                    return None;
-                }
-            }
-        }
-    }
-    None
 }
