@@ -5,8 +5,8 @@ use Rattle.std.proofs.KnownBytes.{Keeps-refl, Keeps-trans}
 use Rattle.std.specs.Io.KnownBytes.{Keeps, Consumes, Appends}
 use Rattle.std.specs.List.{FoldsTo}
 use Rattle.std.specs.declared.io.Error.{Error}
-use Rattle.ak_outside.specs.Reads.{ReadsInto, ReadsSome}
-use Rattle.ak_outside.specs.Writes.{WritesFrom, WritesSome}
+use Rattle.ak_outside.specs.Reads.{reader_gives, ReadsSome}
+use Rattle.ak_outside.specs.Writes.{writer_gives, WritesSome}
 use Rattle.ak_outside.specs.Tries.{InterruptedCall, LastCall, Settles}
 
 interrupted_keeps : {S : Type 0} (gives : S → Result ℕ Error → S → Type 0) (known : S → Option (List ℕ))
@@ -44,10 +44,10 @@ Keeps-appends (Some x) (Some y) (Some z) bs p q = q ∙ ap (λ l. l ++ bs) p
 
 -- what a reader that is tried again gives
 pub Settles-reads : {S : Type 0} (known : S → Option (List ℕ)) (scratch : S → List ℕ) (room : ℕ) (old : S) (answer : Option ℕ) (new : S)
-    → Settles (λ s r t. ReadsInto (known s) (known t) r (take room (scratch t))) old answer new
+    → Settles (reader_gives known scratch room) old answer new
     → ReadsSome (known old) (known new) answer room (scratch new)
 Settles-reads known scratch room old (Some n) new f =
-    let h = Settles-known (λ s r t. ReadsInto (known s) (known t) r (take room (scratch t))) known (λ s e t call. call.1) old (Some n) new f in
+    let h = Settles-known (reader_gives known scratch room) known (λ s e t call. call.1) old (Some n) new f in
     let within : n ≤ min room (length (scratch new)) = omega (arith, length-take room (scratch new), h.2.0) in
     (
       within,
@@ -55,14 +55,14 @@ Settles-reads known scratch room old (Some n) new f =
       λ none rooms. h.2.1.1 none (omega (arith, length-take room (scratch new))),
     )
 Settles-reads known scratch room old None new f =
-    Settles-known (λ s r t. ReadsInto (known s) (known t) r (take room (scratch t))) known (λ s e t call. call.1) old None new f
+    Settles-known (reader_gives known scratch room) known (λ s e t call. call.1) old None new f
 
 -- what a writer that is tried again takes
 pub Settles-writes : {S : Type 0} (known : S → Option (List ℕ)) (piece : List ℕ) (old : S) (answer : Option ℕ) (new : S)
-    → Settles (λ s r t. WritesFrom (known s) (known t) r piece) old answer new
+    → Settles (writer_gives known piece) old answer new
     → WritesSome (known old) (known new) answer piece
 Settles-writes known piece old (Some n) new f =
-    let h = Settles-known (λ s r t. WritesFrom (known s) (known t) r piece) known (λ s e t call. call.1) old (Some n) new f in
-    (h.2.0, Keeps-appends (known old) (known h.0) (known new) _ h.1 h.2.1)
+    let h = Settles-known (writer_gives known piece) known (λ s e t call. call.2) old (Some n) new f in
+    (h.2.0, h.2.1, Keeps-appends (known old) (known h.0) (known new) _ h.1 h.2.2)
 Settles-writes known piece old None new f =
-    Settles-known (λ s r t. WritesFrom (known s) (known t) r piece) known (λ s e t call. call.1) old None new f
+    Settles-known (writer_gives known piece) known (λ s e t call. call.2) old None new f

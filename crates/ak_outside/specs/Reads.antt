@@ -37,9 +37,18 @@ abbrev pub ReadIsCounted : ℕ → ℕ → Read → Type 0
 ReadIsCounted old new (Got n) = new ≡ old
 ReadIsCounted old new Failed = new ≡ counted old
 
--- one call of a reader gave bytes at the start of the buffer, the first of those left, and failed only with all of them left
+-- the count that a read answers
+abbrev pub read_count : Read → Option ℕ
+read_count (Got n) = Some n
+read_count Failed = None
+
+-- a read gave bytes at the start of the buffer, the first of those left, and failed only with all of them left
 abbrev pub ReadsInto : Option (List ℕ) → Option (List ℕ) → Result ℕ Error → List ℕ → Type 0
 ReadsInto old new answer buffer = ReadsAtMost answer buffer × ReadConsumes old new answer buffer
+
+-- one call of a reader into the first `room` bytes of its buffer
+abbrev pub reader_gives : {S : Type 0} → (S → Option (List ℕ)) → (S → List ℕ) → ℕ → S → Result ℕ Error → S → Type 0
+reader_gives known buffer room old answer new = ReadsInto (known old) (known new) answer (take room (buffer new))
 
 -- reads that are settled gave at most `room` bytes at the start of the buffer, the first of those left, or failed with all of them left
 abbrev pub ReadsSome : Option (List ℕ) → Option (List ℕ) → Option ℕ → ℕ → List ℕ → Type 0

@@ -3,6 +3,7 @@ use Rattle.std.specs.Prelude.{◌≡◌, ◌≢◌, ℕ, ◌-◌, ◌^◌, List,
 use Rattle.std.specs.List.{FoldsTo}
 use Rattle.std.specs.IoError.{error_kind}
 use Rattle.std.specs.declared.io.Error.{Error}
+use Rattle.ak_outside.specs.Outside.{counted}
 use Rattle.std.specs.declared.io.ErrorKind.TheVariants.{Interrupted}
 
 -- one call that was interrupted; `gives` relates the state before a call, what the call gave, and the state after it
@@ -21,3 +22,8 @@ pub record Settles {S : Type 0} (gives : S → Result ℕ Error → S → Type 0
   pub before : S
   pub interrupted : FoldsTo (InterruptedCall gives) old errors before
   pub last : LastCall gives (length errors) before answer new
+
+-- the count of faults is one more where the answer is none, and stays at a count of bytes
+abbrev pub CountsNone : ℕ → ℕ → Option ℕ → Type 0
+CountsNone old new (Some n) = new ≡ old
+CountsNone old new None = new ≡ counted old

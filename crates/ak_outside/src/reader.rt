@@ -1,10 +1,11 @@
 // A source over any reader.
 ghost use Rattle.std.specs.Prelude.{◌≡◌, ◌≤◌, length, take};
 ghost use Rattle.ak_outside.specs.declared.reader.TheConstants.{SCRATCH};
-ghost use Rattle.ak_outside.specs.Reads.{FitsBuffer, LeavesRest, GivesFirst, EndsExactly, ReadCause, ReadIsCounted, ReadsInto, ReadsSome};
+ghost use Rattle.ak_outside.specs.Tries.{Settles, CountsNone};
+ghost use Rattle.ak_outside.specs.Reads.{FitsBuffer, LeavesRest, GivesFirst, EndsExactly, ReadCause, ReadIsCounted, ReadsInto, ReadsSome, reader_gives, read_count};
 
 use crate::source::{Read, Source};
-use crate::tries::{Attempt, settle};
+use crate::tries::{Attempt, Counted};
 use std::io;
 
 const SCRATCH: usize = 4096;
@@ -12,23 +13,22 @@ const SCRATCH: usize = 4096;
 /// A source of the bytes that a reader gives. An interrupted read is tried again; another error is a fault.
 #[derive(Drop)]
 pub struct ReaderSource<T> {
-    reading: Reading<T>,
-    fault_count: u64,
+    calls: Counted<Scratch<T>>,
 }
 
 // A reader may write past the bytes that it gives, so it reads into a buffer of its own.
 #[derive(Drop)]
-struct Reading<T> {
+struct Scratch<T> {
     reader: T,
-    scratch: [u8; SCRATCH],
-    ghost has_room: { length scratch ≡ SCRATCH },
+    buffer: [u8; SCRATCH],
+    ghost has_room: { length buffer ≡ SCRATCH },
 }
 
-impl<T: io::Read> Attempt<usize> for Reading<T> {
-    ghost gives = { λ room old answer new. ReadsInto (T.remaining old.reader) (T.remaining new.reader) answer (take room new.scratch) };
+impl<T: io::Read> Attempt<usize> for Scratch<T> {
+    ghost gives = { λ room. reader_gives (λ s. T.remaining s.reader) (λ s. s.buffer) room };
 
     fn attempt(&mut self, room: usize) -> io::Result<usize> {
-        read_into(&mut self.reader, &mut self.scratch, room)
+        read_into(&mut self.reader, &mut self.buffer, room)
     }
 }
 
@@ -40,12 +40,14 @@ fn read_into<T: io::Read>(reader: &mut T, buffer: &mut [u8], room: usize) -> io:
     reader.read(&mut buffer[..room])
 }
 
-// Reads of at most `room` bytes to the start of the scratch buffer, until one is not interrupted.
-// None is a failure.
-fn read_some<T: io::Read>(reading: &mut Reading<T>, room: usize) -> Option<usize>
-    ensures { ReadsSome (T.remaining reading.old.reader) (T.remaining reading.new.reader) result room reading.new.scratch }
+// Reads of at most `room` bytes, until one is not interrupted. None is a failure, which is counted.
+fn read_some<T: io::Read>(calls: &mut Counted<Scratch<T>>, room: usize) -> Option<usize>
+    ensures reads { ReadsSome (T.remaining calls.old.caller.reader) (T.remaining calls.new.caller.reader) result room calls.new.caller.buffer }
+    ensures settled { Settles (reader_gives (λ s. T.remaining s.reader) (λ s. s.buffer) room) calls.old.caller result calls.new.caller }
+    ensures count { calls.old.fault_count ≤ calls.new.fault_count }
+    ensures counted { CountsNone calls.old.fault_count calls.new.fault_count result }
 {
-    settle(reading, room)
+    calls.call(room)
 }
 
 impl<T: io::Read> ReaderSource<T> {
@@ -55,11 +57,10 @@ impl<T: io::Read> ReaderSource<T> {
         ensures faults { ⟦<ReaderSource<T> as Source>⟧.faults result ≡ 0 }
     {
         ReaderSource {
-            reading: Reading {
+            calls: Counted::new(Scratch {
                 reader,
-                scratch: [0; SCRATCH],
-            },
-            fault_count: 0,
+                buffer: [0; SCRATCH],
+            }),
         }
     }
 
@@ -67,35 +68,33 @@ impl<T: io::Read> ReaderSource<T> {
     pub fn faults(&self) -> u64
         ensures { result ≡ ⟦<ReaderSource<T> as Source>⟧.faults self.now }
     {
-        self.fault_count
+        self.calls.fault_count
     }
 }
 
 impl<T: io::Read> Source for ReaderSource<T> {
-    ghost remaining = { λ s. T.remaining s.reading.reader };
+    ghost remaining = { λ s. T.remaining s.calls.caller.reader };
 
-    ghost faults = { λ s. s.fault_count };
+    ghost faults = { λ s. s.calls.fault_count };
 
     /// One read of at most 4096 bytes. An interrupted one is tried again; another that fails is counted.
     fn read(&mut self, buffer: &mut [u8]) -> Read
-        ensures count { self.old.fault_count ≤ self.new.fault_count }
-        ensures cause { ReadCause self.old.fault_count self.new.fault_count result }
+        ensures count { self.old.calls.fault_count ≤ self.new.calls.fault_count }
+        ensures cause { ReadCause self.old.calls.fault_count self.new.calls.fault_count result }
         ensures fits { FitsBuffer result buffer.new }
         ensures rest { LeavesRest result buffer.old buffer.new }
-        ensures bytes { GivesFirst (T.remaining self.old.reading.reader) (T.remaining self.new.reading.reader) result buffer.new }
-        ensures end { EndsExactly (T.remaining self.old.reading.reader) result buffer.new }
-        ensures counted { ReadIsCounted self.old.fault_count self.new.fault_count result }
+        ensures bytes { GivesFirst (T.remaining self.old.calls.caller.reader) (T.remaining self.new.calls.caller.reader) result buffer.new }
+        ensures end { EndsExactly (T.remaining self.old.calls.caller.reader) result buffer.new }
+        ensures settled { Settles (reader_gives (λ s. T.remaining s.reader) (λ s. s.buffer) (length buffer.old)) self.old.calls.caller (read_count result) self.new.calls.caller }
+        ensures counted { ReadIsCounted self.old.calls.fault_count self.new.calls.fault_count result }
     {
-        match read_some(&mut self.reading, buffer.len()) {
+        match read_some(&mut self.calls, buffer.len()) {
             Some(count) => {
-                let scratch = &self.reading.scratch[..];
-                buffer[..count].copy_from_slice(&scratch[..count]);
+                let given = &self.calls.caller.buffer[..];
+                buffer[..count].copy_from_slice(&given[..count]);
                 Read::Got(count)
             }
-            None => {
-                self.fault_count = self.fault_count.saturating_add(1);
-                Read::Failed
-            }
+            None => Read::Failed,
         }
     }
 }

@@ -37,7 +37,7 @@ impl<'a, R> Model for StdSource<'a, R> {
 
     ghost Value = { ℕ };
 
-    ghost view = { λ s. s.source.fault_count };
+    ghost view = { λ s. s.source.calls.fault_count };
 }
 
 impl<'a, R: Input> StdSource<'a, R> {
@@ -88,7 +88,7 @@ impl<'a, R> Model for StdSink<'a, R> {
 
     ghost Value = { ℕ };
 
-    ghost view = { λ s. s.sink.fault_count };
+    ghost view = { λ s. s.sink.calls.fault_count };
 }
 
 impl<'a, R: Print> StdSink<'a, R> {

@@ -1,7 +1,7 @@
-// Calls to the outside that are tried again while a signal interrupts them.
-ghost use Rattle.std.specs.Prelude.{ℕ, Result};
+// Calls to the outside that are tried again while a signal interrupts them, and whose failures are counted.
+ghost use Rattle.std.specs.Prelude.{◌≡◌, ◌≤◌, ℕ, Result};
 ghost use Rattle.std.specs.declared.io.Error.{Error};
-ghost use Rattle.ak_outside.specs.Tries.{Settles};
+ghost use Rattle.ak_outside.specs.Tries.{Settles, CountsNone};
 
 use std::io;
 use std::io::ErrorKind;
@@ -16,9 +16,44 @@ pub(crate) trait Attempt<P> {
         ensures { gives with self.old result self.new };
 }
 
-/// Calls until a call is not interrupted, and says what that one gave: a count, or none for an error.
-/// After 2^64 - 1 interruptions it gives up, which is none too.
-pub(crate) fn settle<P: Copy, C: Attempt<P>>(caller: &mut C, with: P) -> Option<usize>
+/// A caller, and how many of its calls have failed.
+#[derive(Drop)]
+pub(crate) struct Counted<C> {
+    pub(crate) caller: C,
+    pub(crate) fault_count: u64,
+}
+
+impl<C> Counted<C> {
+    /// A caller that has not failed.
+    pub(crate) fn new(caller: C) -> Self
+        ensures caller { result.caller ≡ caller }
+        ensures faults { result.fault_count ≡ 0 }
+    {
+        Counted {
+            caller,
+            fault_count: 0,
+        }
+    }
+
+    /// Calls until a call is not interrupted, says how many bytes that one moved, and counts it where
+    /// it failed, which is none.
+    pub(crate) fn call<P: Copy>(&mut self, with: P) -> Option<usize>
+    where
+        C: Attempt<P>,
+        ensures settled { Settles (C.gives with) self.old.caller result self.new.caller }
+        ensures count { self.old.fault_count ≤ self.new.fault_count }
+        ensures counted { CountsNone self.old.fault_count self.new.fault_count result }
+    {
+        let answer = settle(&mut self.caller, with);
+        if answer.is_none() {
+            self.fault_count = self.fault_count.saturating_add(1);
+        }
+        answer
+    }
+}
+
+// Gives up after 2^64 - 1 interruptions, which is none too.
+fn settle<P: Copy, C: Attempt<P>>(caller: &mut C, with: P) -> Option<usize>
     ensures { Settles (C.gives with) caller.old result caller.new }
 {
     'tries: for _ in 0..u64::MAX {

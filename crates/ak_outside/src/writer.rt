@@ -1,32 +1,39 @@
 // A sink over any writer.
-ghost use Rattle.std.specs.Prelude.{◌≡◌, ◌≤◌};
-ghost use Rattle.ak_outside.specs.Writes.{FitsPiece, TakesFirst, WriteCause, WriteIsCounted, WritesFrom, WritesSome};
+ghost use Rattle.std.specs.Prelude.{◌≡◌, ◌≤◌, ◌<◌};
+ghost use Rattle.ak_outside.specs.Tries.{Settles, CountsNone};
+ghost use Rattle.ak_outside.specs.Writes.{FitsPiece, TakesFirst, WriteCause, WriteIsCounted, WritesSome, writer_gives, write_count};
 
 use crate::sink::{Sink, Wrote};
-use crate::tries::{Attempt, settle};
+use crate::tries::{Attempt, Counted};
 use std::io;
+use std::io::ErrorKind;
 
 /// A sink that gives its bytes to a writer, and flushes nothing. An interrupted write is tried again;
 /// another error is a fault, and so is a write that takes nothing of a piece that has bytes.
 #[derive(Drop)]
 pub struct WriterSink<T> {
-    writer: T,
-    fault_count: u64,
+    calls: Counted<T>,
 }
 
 impl<'b, T: io::Write> Attempt<&'b [u8]> for T {
-    ghost gives = { λ piece old answer new. WritesFrom (T.contents old) (T.contents new) answer piece.now };
+    ghost gives = { λ piece. writer_gives T.contents piece.now };
 
     fn attempt(&mut self, piece: &'b [u8]) -> io::Result<usize> {
-        self.write(piece)
+        match self.write(piece) {
+            Ok(0) if !piece.is_empty() => Err(ErrorKind::WriteZero.into()),
+            answer => answer,
+        }
     }
 }
 
-// Writes of some first bytes of the piece, until one is not interrupted. None is a failure.
-fn write_some<T: io::Write>(writer: &mut T, piece: &[u8]) -> Option<usize>
-    ensures { WritesSome (T.contents writer.old) (T.contents writer.new) result piece.now }
+// Writes of some first bytes of the piece, until one is not interrupted. None is a failure, which is counted.
+fn write_some<T: io::Write>(calls: &mut Counted<T>, piece: &[u8]) -> Option<usize>
+    ensures writes { WritesSome (T.contents calls.old.caller) (T.contents calls.new.caller) result piece.now }
+    ensures settled { Settles (writer_gives T.contents piece.now) calls.old.caller result calls.new.caller }
+    ensures count { calls.old.fault_count ≤ calls.new.fault_count }
+    ensures counted { CountsNone calls.old.fault_count calls.new.fault_count result }
 {
-    settle(writer, piece)
+    calls.call(piece)
 }
 
 impl<T: io::Write> WriterSink<T> {
@@ -36,8 +43,7 @@ impl<T: io::Write> WriterSink<T> {
         ensures faults { ⟦<WriterSink<T> as Sink>⟧.faults result ≡ 0 }
     {
         WriterSink {
-            writer,
-            fault_count: 0,
+            calls: Counted::new(writer),
         }
     }
 
@@ -45,33 +51,28 @@ impl<T: io::Write> WriterSink<T> {
     pub fn faults(&self) -> u64
         ensures { result ≡ ⟦<WriterSink<T> as Sink>⟧.faults self.now }
     {
-        self.fault_count
+        self.calls.fault_count
     }
 }
 
 impl<T: io::Write> Sink for WriterSink<T> {
-    ghost written = { λ s. T.contents s.writer };
+    ghost written = { λ s. T.contents s.calls.caller };
 
-    ghost faults = { λ s. s.fault_count };
+    ghost faults = { λ s. s.calls.fault_count };
 
     /// One write. An interrupted one is tried again; one that fails, or takes nothing of a piece that
-    /// has bytes, is counted. Nothing is asked of the writer for a piece that has none.
+    /// has bytes, is counted.
     fn write(&mut self, bytes: &[u8]) -> Wrote
-        ensures count { self.old.fault_count ≤ self.new.fault_count }
-        ensures cause { WriteCause self.old.fault_count self.new.fault_count result }
+        ensures count { self.old.calls.fault_count ≤ self.new.calls.fault_count }
+        ensures cause { WriteCause self.old.calls.fault_count self.new.calls.fault_count result }
         ensures fits { FitsPiece result bytes.now }
-        ensures bytes { TakesFirst (T.contents self.old.writer) (T.contents self.new.writer) result bytes.now }
-        ensures counted { WriteIsCounted self.old.fault_count self.new.fault_count result }
+        ensures bytes { TakesFirst (T.contents self.old.calls.caller) (T.contents self.new.calls.caller) result bytes.now }
+        ensures settled { Settles (writer_gives T.contents bytes.now) self.old.calls.caller (write_count result) self.new.calls.caller }
+        ensures counted { WriteIsCounted self.old.calls.fault_count self.new.calls.fault_count result }
     {
-        if bytes.is_empty() {
-            return Wrote::Took(0);
-        }
-        match write_some(&mut self.writer, bytes) {
-            Some(count) if count > 0 => Wrote::Took(count),
-            _ => {
-                self.fault_count = self.fault_count.saturating_add(1);
-                Wrote::Failed
-            }
+        match write_some(&mut self.calls, bytes) {
+            Some(count) => Wrote::Took(count),
+            None => Wrote::Failed,
         }
     }
 }
