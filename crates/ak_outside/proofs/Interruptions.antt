@@ -1,5 +1,5 @@
 -- What tries that were interrupted leave of the known bytes, where an error leaves them.
-use Rattle.std.proofs.Common.{ℕ, ◌≡◌, ◌≤◌, ◌<◌, min, List, [], ◌++◌, length, take, Option, Some, None, Result, Ok, Err, MatchOption, arith, length-take, take-take, subst, sym, ap, ◌∙◌, inl, inr}
+use Rattle.std.proofs.Common.{ℕ, ◌≤◌, min, List, ◌++◌, length, Option, Some, None, Result, Ok, Err, MatchOption, arith, length-take, take-take, subst, sym, ap, ◌∙◌, inl, inr}
 use Rattle.std.proofs.lemmas.Fn.{chained_keeps}
 use Rattle.std.proofs.KnownBytes.{Keeps-refl, Keeps-trans}
 use Rattle.std.specs.Io.KnownBytes.{Keeps, Consumes, Appends}
@@ -7,7 +7,7 @@ use Rattle.std.specs.List.{FoldsTo}
 use Rattle.std.specs.declared.io.Error.{Error}
 use Rattle.ak_outside.specs.Reads.{reader_gives, ReadsSome}
 use Rattle.ak_outside.specs.Writes.{writer_gives, WritesSome}
-use Rattle.ak_outside.specs.Tries.{InterruptedCall, LastCall, Settles}
+use Rattle.ak_outside.specs.Tries.{InterruptedCall, Settles}
 
 interrupted_keeps : {S : Type 0} (gives : S → Result ℕ Error → S → Type 0) (known : S → Option (List ℕ))
     → ((s : S) (e : Error) (t : S) → gives s (Err e) t → Keeps (known s) (known t))
@@ -26,8 +26,8 @@ Settles-known gives known keeps old (Some n) new f =
 Settles-known gives known keeps old None new f =
     let before = interrupted_keeps gives known keeps f.errors old f.before f.interrupted in
     elim f.last [
-      inl failed ↦ Keeps-trans (known old) (known f.before) (known new) before (keeps f.before failed.0 new failed.1)
-    | inr spent ↦ subst (λ s. Keeps (known old) (known s)) (sym spent.1) before
+      | inl failed ↦ Keeps-trans (known old) (known f.before) (known new) before (keeps f.before failed.0 new failed.1)
+      | inr spent ↦ subst (λ s. Keeps (known old) (known s)) (sym spent.1) before
     ]
 
 Keeps-consumes : (a b c : Option (List ℕ)) (bs : List ℕ) → Keeps a b → Consumes b c bs → Consumes a c bs
@@ -48,8 +48,7 @@ pub Settles-reads : {S : Type 0} (known : S → Option (List ℕ)) (scratch : S 
     → ReadsSome (known old) (known new) answer room (scratch new)
 Settles-reads known scratch room old (Some n) new f =
     let h = Settles-known (reader_gives known scratch room) known (λ s e t call. call.1) old (Some n) new f in
-    let within : n ≤ min room (length (scratch new)) = omega (arith, length-take room (scratch new), h.2.0) in
-    (
+    let within : n ≤ min room (length (scratch new)) = omega (arith, length-take room (scratch new), h.2.0) in (
       within,
       subst (Consumes (known old) (known new)) (take-take n room (scratch new) (omega (arith, within))) (Keeps-consumes (known old) (known h.0) (known new) _ h.1 h.2.1.0),
       λ none rooms. h.2.1.1 none (omega (arith, length-take room (scratch new))),

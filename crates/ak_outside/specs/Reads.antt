@@ -5,7 +5,12 @@ use Rattle.std.specs.Io.KnownBytes.{Consumes, IsAtEnd, Keeps, ReadConsumes}
 use Rattle.std.specs.declared.io.Error.{Error}
 use Rattle.ak_outside.specs.declared.source.Read.{Read}
 use Rattle.ak_outside.specs.declared.source.Read.TheVariants.{Got, Failed}
-use Rattle.ak_outside.specs.Outside.{Rose, counted}
+use Rattle.ak_outside.specs.Outside.{Rose}
+
+-- standard input as its callers see it: the bytes left, where the runtime's reader says, and the count of faults
+pub record StandardInput : Type 0 where
+  pub left : Option (List ℕ)
+  pub faults : ℕ
 
 -- what was got lies in the buffer
 abbrev pub FitsBuffer : Read → List ℕ → Type 0
@@ -31,11 +36,6 @@ EndsExactly old Failed buffer = ⊤
 abbrev pub ReadCause : ℕ → ℕ → Read → Type 0
 ReadCause old new (Got n) = new ≡ old
 ReadCause old new Failed = Rose old new
-
--- the count is one more for a failed read, and stays at another
-abbrev pub ReadIsCounted : ℕ → ℕ → Read → Type 0
-ReadIsCounted old new (Got n) = new ≡ old
-ReadIsCounted old new Failed = new ≡ counted old
 
 -- the count that a read answers
 abbrev pub read_count : Read → Option ℕ

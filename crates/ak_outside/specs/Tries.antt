@@ -3,8 +3,8 @@ use Rattle.std.specs.Prelude.{◌≡◌, ◌≢◌, ℕ, ◌-◌, ◌^◌, List,
 use Rattle.std.specs.List.{FoldsTo}
 use Rattle.std.specs.IoError.{error_kind}
 use Rattle.std.specs.declared.io.Error.{Error}
-use Rattle.ak_outside.specs.Outside.{counted}
 use Rattle.std.specs.declared.io.ErrorKind.TheVariants.{Interrupted}
+use Rattle.ak_outside.specs.Outside.{counted}
 
 -- one call that was interrupted; `gives` relates the state before a call, what the call gave, and the state after it
 abbrev pub InterruptedCall : {S : Type 0} → (S → Result ℕ Error → S → Type 0) → S → Error → S → Type 0
@@ -23,7 +23,7 @@ pub record Settles {S : Type 0} (gives : S → Result ℕ Error → S → Type 0
   pub interrupted : FoldsTo (InterruptedCall gives) old errors before
   pub last : LastCall gives (length errors) before answer new
 
--- the count of faults is one more where the answer is none, and stays at a count of bytes
-abbrev pub CountsNone : ℕ → ℕ → Option ℕ → Type 0
-CountsNone old new (Some n) = new ≡ old
-CountsNone old new None = new ≡ counted old
+-- the count of faults is one more where the answer is none, a failure, and stays at a count of bytes
+abbrev pub CountsFailure : ℕ → ℕ → Option ℕ → Type 0
+CountsFailure old new (Some n) = new ≡ old
+CountsFailure old new None = new ≡ counted old

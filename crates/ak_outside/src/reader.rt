@@ -1,14 +1,15 @@
 // A source over any reader.
 ghost use Rattle.std.specs.Prelude.{◌≡◌, ◌≤◌, length, take};
 ghost use Rattle.ak_outside.specs.declared.reader.TheConstants.{SCRATCH};
-ghost use Rattle.ak_outside.specs.Tries.{Settles, CountsNone};
-ghost use Rattle.ak_outside.specs.Reads.{FitsBuffer, LeavesRest, GivesFirst, EndsExactly, ReadCause, ReadIsCounted, ReadsInto, ReadsSome, reader_gives, read_count};
+ghost use Rattle.ak_outside.specs.Tries.{Settles, CountsFailure};
+ghost use Rattle.ak_outside.specs.Reads.{FitsBuffer, LeavesRest, GivesFirst, EndsExactly, ReadCause, ReadsInto, ReadsSome, reader_gives, read_count};
 
 use crate::source::{Read, Source};
 use crate::tries::{Attempt, Counted};
 use std::io;
 
-const SCRATCH: usize = 4096;
+// The most bytes of one read.
+const SCRATCH: usize = 8192;
 
 /// A source of the bytes that a reader gives. An interrupted read is tried again; another error is a fault.
 #[derive(Drop)]
@@ -45,7 +46,7 @@ fn read_some<T: io::Read>(calls: &mut Counted<Scratch<T>>, room: usize) -> Optio
     ensures reads { ReadsSome (T.remaining calls.old.caller.reader) (T.remaining calls.new.caller.reader) result room calls.new.caller.buffer }
     ensures settled { Settles (reader_gives (λ s. T.remaining s.reader) (λ s. s.buffer) room) calls.old.caller result calls.new.caller }
     ensures count { calls.old.fault_count ≤ calls.new.fault_count }
-    ensures counted { CountsNone calls.old.fault_count calls.new.fault_count result }
+    ensures counted { CountsFailure calls.old.fault_count calls.new.fault_count result }
 {
     calls.call(room)
 }
@@ -77,7 +78,7 @@ impl<T: io::Read> Source for ReaderSource<T> {
 
     ghost faults = { λ s. s.calls.fault_count };
 
-    /// One read of at most 4096 bytes. An interrupted one is tried again; another that fails is counted.
+    /// One read of at most 8192 bytes. An interrupted one is tried again; another that fails is counted.
     fn read(&mut self, buffer: &mut [u8]) -> Read
         ensures count { self.old.calls.fault_count ≤ self.new.calls.fault_count }
         ensures cause { ReadCause self.old.calls.fault_count self.new.calls.fault_count result }
@@ -86,7 +87,7 @@ impl<T: io::Read> Source for ReaderSource<T> {
         ensures bytes { GivesFirst (T.remaining self.old.calls.caller.reader) (T.remaining self.new.calls.caller.reader) result buffer.new }
         ensures end { EndsExactly (T.remaining self.old.calls.caller.reader) result buffer.new }
         ensures settled { Settles (reader_gives (λ s. T.remaining s.reader) (λ s. s.buffer) (length buffer.old)) self.old.calls.caller (read_count result) self.new.calls.caller }
-        ensures counted { ReadIsCounted self.old.calls.fault_count self.new.calls.fault_count result }
+        ensures counted { CountsFailure self.old.calls.fault_count self.new.calls.fault_count (read_count result) }
     {
         match read_some(&mut self.calls, buffer.len()) {
             Some(count) => {

@@ -1,11 +1,13 @@
-// Standard input and output, the edge that is trusted: no clause says which bytes come or go. What is
-// trusted of it:
-// - that `rt.reader()` reads standard input, and gives the first bytes of those that are left there;
-// - that `io::writer(rt)` writes to standard output, and that what it has written needs no flush;
-// - that their errors are the system's, with `Interrupted` for a call that a signal interrupted.
+// Standard input and output, at the edge. What is done with the answers of their calls is proved over any
+// reader and any writer. What is trusted:
+// - that the runtime's reader gives the bytes of standard input that are left, in their order;
+// - that the runtime's writer writes to standard output, and that what it has written needs no flush;
+// - that both answer an error exactly where the system does, of the kind `Interrupted` for a signal;
+// - the one line of each read and write below, which hands the call on to that reader or writer.
 ghost use Rattle.std.specs.Prelude.{◌≡◌, ◌≤◌, None};
-ghost use Rattle.ak_outside.specs.Reads.{FitsBuffer, LeavesRest, GivesFirst, EndsExactly, ReadCause, ReadIsCounted};
-ghost use Rattle.ak_outside.specs.Writes.{FitsPiece, TakesFirst, WriteCause, WriteIsCounted};
+ghost use Rattle.ak_outside.specs.Tries.{CountsFailure};
+ghost use Rattle.ak_outside.specs.Reads.{FitsBuffer, LeavesRest, GivesFirst, EndsExactly, ReadCause, read_count};
+ghost use Rattle.ak_outside.specs.Writes.{FitsPiece, TakesFirst, WriteCause, write_count};
 
 use crate::reader::ReaderSource;
 use crate::sink::{Sink, Wrote};
@@ -13,65 +15,57 @@ use crate::source::{Read, Source};
 use crate::writer::WriterSink;
 use std::io;
 use std::io::Printer;
-use std::marker::Model;
+use std::marker::{Model, PhantomData};
 
-/// Standard input. Callers see its count of faults; what is left is not known.
+/// Standard input. Callers see what is left, where the runtime's reader says, and the count of faults.
+/// Its reader is asked for no bytes but those that a read gives, so that it has none read ahead.
 #[derive(Drop)]
-pub struct StdSource<'a, R> {
-    source: ReaderSource<StandardReader<'a, R>>,
+pub struct StdSource<'a, R: Input> {
+    source: ReaderSource<R::Reader>,
+    runtime: PhantomData<&'a R>,
 }
 
-// Standard input as a reader. A new reader of the runtime's has read nothing ahead, so that its one
-// read takes no byte that it does not give.
-#[derive(Drop)]
-struct StandardReader<'a, R>(&'a R);
+impl<'a, R: Input> Model for StdSource<'a, R> {
+    ghost use Rattle.ak_outside.specs.Reads.{StandardInput};
 
-impl<'a, R: Input> io::Read for StandardReader<'a, R> {
-    fn read(&mut self, buf: &mut [u8]) -> io::Result<usize> {
-        self.0.reader().read(buf)
-    }
-}
+    ghost Value = { StandardInput };
 
-impl<'a, R> Model for StdSource<'a, R> {
-    ghost use Rattle.std.specs.Prelude.{ℕ};
-
-    ghost Value = { ℕ };
-
-    ghost view = { λ s. s.source.calls.fault_count };
+    ghost view = { λ s. record { left = R.Reader.remaining s.source.calls.caller.reader; faults = s.source.calls.fault_count } };
 }
 
 impl<'a, R: Input> StdSource<'a, R> {
     /// Standard input as the runtime has it. It has not failed.
     pub fn new(rt: &'a R) -> Self
-        ensures { result ≡ 0 }
+        ensures { result.faults ≡ 0 }
     {
         StdSource {
-            source: ReaderSource::new(StandardReader(rt)),
+            source: ReaderSource::new(rt.reader()),
+            runtime: PhantomData,
         }
     }
 
     /// How many reads have failed, at most 2^64 - 1.
     pub fn faults(&self) -> u64
-        ensures { result ≡ self.now }
+        ensures { result ≡ self.now.faults }
     {
         self.source.faults()
     }
 }
 
 impl<'a, R: Input> Source for StdSource<'a, R> {
-    ghost remaining = { λ _. None };
+    ghost remaining = { λ s. s.left };
 
-    ghost faults = { λ s. s };
+    ghost faults = { λ s. s.faults };
 
-    /// One read of what is there. An interrupted one is tried again; another that fails is counted.
+    /// One read of at most 8192 bytes. An interrupted one is tried again; another that fails is counted.
     fn read(&mut self, buffer: &mut [u8]) -> Read
-        ensures count { self.old ≤ self.new }
-        ensures cause { ReadCause self.old self.new result }
+        ensures count { self.old.faults ≤ self.new.faults }
+        ensures cause { ReadCause self.old.faults self.new.faults result }
         ensures fits { FitsBuffer result buffer.new }
         ensures rest { LeavesRest result buffer.old buffer.new }
-        ensures bytes { GivesFirst None None result buffer.new }
-        ensures end { EndsExactly None result buffer.new }
-        ensures counted { ReadIsCounted self.old self.new result }
+        ensures bytes { GivesFirst self.old.left self.new.left result buffer.new }
+        ensures end { EndsExactly self.old.left result buffer.new }
+        ensures counted { CountsFailure self.old.faults self.new.faults (read_count result) }
     {
         self.source.read(buffer)
     }
@@ -121,7 +115,7 @@ impl<'a, R: Print> Sink for StdSink<'a, R> {
         ensures cause { WriteCause self.old self.new result }
         ensures fits { FitsPiece result bytes.now }
         ensures bytes { TakesFirst None None result bytes.now }
-        ensures counted { WriteIsCounted self.old self.new result }
+        ensures counted { CountsFailure self.old self.new (write_count result) }
     {
         self.sink.write(bytes)
     }

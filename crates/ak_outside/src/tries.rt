@@ -1,7 +1,7 @@
 // Calls to the outside that are tried again while a signal interrupts them, and whose failures are counted.
 ghost use Rattle.std.specs.Prelude.{◌≡◌, ◌≤◌, ℕ, Result};
 ghost use Rattle.std.specs.declared.io.Error.{Error};
-ghost use Rattle.ak_outside.specs.Tries.{Settles, CountsNone};
+ghost use Rattle.ak_outside.specs.Tries.{Settles, CountsFailure};
 
 use std::io;
 use std::io::ErrorKind;
@@ -42,7 +42,7 @@ impl<C> Counted<C> {
         C: Attempt<P>,
         ensures settled { Settles (C.gives with) self.old.caller result self.new.caller }
         ensures count { self.old.fault_count ≤ self.new.fault_count }
-        ensures counted { CountsNone self.old.fault_count self.new.fault_count result }
+        ensures counted { CountsFailure self.old.fault_count self.new.fault_count result }
     {
         let answer = settle(&mut self.caller, with);
         if answer.is_none() {

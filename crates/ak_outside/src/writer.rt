@@ -1,7 +1,7 @@
 // A sink over any writer.
 ghost use Rattle.std.specs.Prelude.{◌≡◌, ◌≤◌, ◌<◌};
-ghost use Rattle.ak_outside.specs.Tries.{Settles, CountsNone};
-ghost use Rattle.ak_outside.specs.Writes.{FitsPiece, TakesFirst, WriteCause, WriteIsCounted, WritesSome, writer_gives, write_count};
+ghost use Rattle.ak_outside.specs.Tries.{Settles, CountsFailure};
+ghost use Rattle.ak_outside.specs.Writes.{FitsPiece, TakesFirst, WriteCause, WritesSome, writer_gives, write_count};
 
 use crate::sink::{Sink, Wrote};
 use crate::tries::{Attempt, Counted};
@@ -31,7 +31,7 @@ fn write_some<T: io::Write>(calls: &mut Counted<T>, piece: &[u8]) -> Option<usiz
     ensures writes { WritesSome (T.contents calls.old.caller) (T.contents calls.new.caller) result piece.now }
     ensures settled { Settles (writer_gives T.contents piece.now) calls.old.caller result calls.new.caller }
     ensures count { calls.old.fault_count ≤ calls.new.fault_count }
-    ensures counted { CountsNone calls.old.fault_count calls.new.fault_count result }
+    ensures counted { CountsFailure calls.old.fault_count calls.new.fault_count result }
 {
     calls.call(piece)
 }
@@ -68,7 +68,7 @@ impl<T: io::Write> Sink for WriterSink<T> {
         ensures fits { FitsPiece result bytes.now }
         ensures bytes { TakesFirst (T.contents self.old.calls.caller) (T.contents self.new.calls.caller) result bytes.now }
         ensures settled { Settles (writer_gives T.contents bytes.now) self.old.calls.caller (write_count result) self.new.calls.caller }
-        ensures counted { WriteIsCounted self.old.calls.fault_count self.new.calls.fault_count result }
+        ensures counted { CountsFailure self.old.calls.fault_count self.new.calls.fault_count (write_count result) }
     {
         match write_some(&mut self.calls, bytes) {
             Some(count) => Wrote::Took(count),

@@ -7,10 +7,8 @@ use Rattle.ak_outside.proofs.tries.settle.Goals as goal
 
 pub tries-preserved : goal.tries-preserved
 tries-preserved g c =
-    let errors = c.tries.invariant.0 in
-    let kind : error_kind c.in-Err.e ≡ Interrupted = search rules in
-    (
-      errors ++ (c.in-Err.e ∷ []),
+    let kind : error_kind c.in-Err.e ≡ Interrupted = search rules in (
+      c.tries.invariant.0 ++ (c.in-Err.e ∷ []),
       grind (arith, length-append),
-      FoldsTo-push (InterruptedCall (g.C.Attempt.gives c.args.with)) _ c.tries.invariant.0 _ c.in-Err.e _ c.tries.invariant.2 (c.in-Err.ensures, kind),
+      FoldsTo-push (InterruptedCall (g.C.Attempt.gives c.args.with)) c.args.caller.now c.tries.invariant.0 c.tries.caller c.in-Err.e c.attempt.new.self c.tries.invariant.2 (c.in-Err.ensures, kind),
     )
