@@ -19,9 +19,12 @@ impl<'b, T: io::Write> Attempt<&'b [u8]> for T {
     ghost gives = { λ piece. writer_gives T.contents piece.now };
 
     fn attempt(&mut self, piece: &'b [u8]) -> io::Result<usize> {
-        match self.write(piece) {
-            Ok(0) if !piece.is_empty() => Err(ErrorKind::WriteZero.into()),
-            answer => answer,
+        if piece.is_empty() {
+            return Ok(0);
+        }
+        match self.write(piece)? {
+            0 => Err(ErrorKind::WriteZero.into()),
+            count => Ok(count),
         }
     }
 }
@@ -61,7 +64,7 @@ impl<T: io::Write> Sink for WriterSink<T> {
     ghost faults = { λ s. s.calls.fault_count };
 
     /// One write. An interrupted one is tried again; one that fails, or takes nothing of a piece that
-    /// has bytes, is counted.
+    /// has bytes, is counted. A piece that has none is not given to the writer.
     fn write(&mut self, bytes: &[u8]) -> Wrote
         ensures count { self.old.calls.fault_count ≤ self.new.calls.fault_count }
         ensures cause { WriteCause self.old.calls.fault_count self.new.calls.fault_count result }
