@@ -1,21 +1,29 @@
 //! The edge to the outside: where bytes come from and go to, with a count of the faults, and the
-//! exit status of a run. A program is proved over the traits; in memory and at the real edge they have
-//! the implementations below, of which `StdSource` and `StdSink` tell no bytes and are trusted.
+//! exit status of a run. A program is proved over the traits. They have the implementations below: in
+//! memory, over any reader or writer, and at the real edge, where no bytes are known: there the calls
+//! that `StdSource` and `StdSink` make of the runtime are trusted.
 #![tactic(auto)]
 
 mod memory;
+mod reader;
 mod sink;
 mod source;
 mod standard;
 mod status;
 mod steady;
+#[cfg(test)]
+mod stream_tests;
+mod tries;
+mod writer;
 
 pub use memory::{MemorySink, MemorySource};
+pub use reader::ReaderSource;
 pub use sink::{Sink, Wrote, write_all};
 pub use source::{Read, Source};
 pub use standard::{StdSink, StdSource};
 pub use status::Status;
 pub use steady::{SteadySink, SteadySource};
+pub use writer::WriterSink;
 
 #[cfg(test)]
 mod tests {

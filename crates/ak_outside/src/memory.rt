@@ -2,7 +2,7 @@
 ghost use Rattle.std.specs.Prelude.{◌≡◌, ◌≤◌, ◌<◌, ◌+◌, ◌++◌, ◌↔◌, [], Some, IfOk, length, take, drop, min};
 ghost use Rattle.std.specs.Bool.{OnTrue, OnFalse};
 ghost use Rattle.ak_outside.specs.Outside.{counted};
-ghost use Rattle.ak_outside.specs.Reads.{FitsBuffer, GivesFirst, EndsExactly, ReadCause};
+ghost use Rattle.ak_outside.specs.Reads.{FitsBuffer, LeavesRest, GivesFirst, EndsExactly, ReadCause};
 ghost use Rattle.ak_outside.specs.Writes.{FitsPiece, TakesFirst, WriteCause};
 ghost use Rattle.ak_outside.specs.Memory.{is_listed, ReadGave, ReadFailed, WriteTook, WriteFailed};
 
@@ -73,6 +73,7 @@ impl Source for MemorySource {
         ensures count { self.old.faults ≤ self.new.faults }
         ensures cause { ReadCause self.old.faults self.new.faults result }
         ensures fits { FitsBuffer result buffer.new }
+        ensures rest { LeavesRest result buffer.old buffer.new }
         ensures bytes { GivesFirst (Some self.old.left) (Some self.new.left) result buffer.new }
         ensures end { EndsExactly (Some self.old.left) result buffer.new }
         ensures listed { OnTrue (is_listed self.old.failing (counted self.old.calls)) (ReadFailed self.old self.new result) }
@@ -179,11 +180,13 @@ fn stands_in(listed: &[u64], call: u64) -> bool
     listed.contains(&call)
 }
 
-// Copies first bytes to the start of the buffer, at most `most`, and says how many.
+// Copies first bytes to the start of the buffer, at most `most`, leaves the rest of the buffer, and
+// says how many.
 pub(crate) fn give(bytes: &[u8], most: usize, buffer: &mut [u8]) -> usize
     requires { 1 ≤ most }
     ensures count { result ≡ min most (min (length buffer.old) (length bytes.now)) }
     ensures bytes { bytes.now ≡ take result buffer.new ++ drop result bytes.now }
+    ensures rest { drop result buffer.new ≡ drop result buffer.old }
     ensures end { 0 < length buffer.new → (result ≡ 0) ↔ (bytes.now ≡ []) }
 {
     let count = most.min(buffer.len().min(bytes.len()));

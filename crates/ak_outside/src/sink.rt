@@ -1,5 +1,5 @@
 // Where bytes go.
-ghost use Rattle.std.specs.Prelude.{ℕ, ◌≤◌, List, Option};
+ghost use Rattle.std.specs.Prelude.{ℕ, ◌≡◌, ◌≤◌, List, Option};
 ghost use Rattle.std.specs.Bool.{OnTrue, OnFalse};
 ghost use Rattle.std.specs.Io.KnownBytes.{Appends};
 ghost use Rattle.ak_outside.specs.Outside.{Rose, AppendsPrefix};
@@ -22,8 +22,9 @@ pub trait Sink {
     /// How often the sink has failed. It never falls; kept as a `u64` it stays at 2^64 - 1 once there.
     ghost faults: { Self → ℕ };
 
-    /// Takes some first bytes of the piece, at least one where it has any. `Failed` comes only
-    /// where the count rose in this call, or stands at 2^64 - 1 after it, and leaves what was written.
+    /// Takes some first bytes of the piece, at least one where it has any. `Took` leaves the count of
+    /// faults. `Failed` comes only where the count rose in this call, or stands at 2^64 - 1 after it,
+    /// and leaves what was written.
     fn write(&mut self, bytes: &[u8]) -> Wrote
         ensures count { faults self.old ≤ faults self.new }
         ensures cause { WriteCause (faults self.old) (faults self.new) result }
@@ -31,11 +32,13 @@ pub trait Sink {
         ensures bytes { TakesFirst (written self.old) (written self.new) result bytes.now };
 }
 
-/// Writes all the bytes, in as many pieces as the sink wants. False comes only where the sink's
-/// count rose in this call, or stands at 2^64 - 1 after it, and then some first bytes were written.
+/// Writes all the bytes, in as many pieces as the sink wants. True leaves the sink's count of faults.
+/// False comes only where the count rose in this call, or stands at 2^64 - 1 after it, and then some
+/// first bytes were written.
 pub fn write_all<W: Sink>(sink: &mut W, bytes: &[u8]) -> bool
     ensures count { W.faults sink.old ≤ W.faults sink.new }
     ensures whole { OnTrue result (Appends (W.written sink.old) (W.written sink.new) bytes.now) }
+    ensures kept { OnTrue result (W.faults sink.new ≡ W.faults sink.old) }
     ensures cause { OnFalse result (Rose (W.faults sink.old) (W.faults sink.new)) }
     ensures prefix { OnFalse result (AppendsPrefix (W.written sink.old) (W.written sink.new) bytes.now) }
 {

@@ -1,6 +1,6 @@
 // Where bytes come from.
 ghost use Rattle.std.specs.Prelude.{ℕ, ◌≤◌, List, Option};
-ghost use Rattle.ak_outside.specs.Reads.{FitsBuffer, GivesFirst, EndsExactly, ReadCause};
+ghost use Rattle.ak_outside.specs.Reads.{FitsBuffer, LeavesRest, GivesFirst, EndsExactly, ReadCause};
 
 /// The answer of a read.
 #[derive(Clone, Copy, Debug, PartialEq, Eq)]
@@ -19,13 +19,15 @@ pub trait Source {
     /// How often the source has failed. It never falls; kept as a `u64` it stays at 2^64 - 1 once there.
     ghost faults: { Self → ℕ };
 
-    /// Gives some first bytes of those left, at most the buffer's length, at the start of the buffer.
-    /// `Got(0)` for a buffer that has room comes exactly where none is left. `Failed` comes only
-    /// where the count rose in this call, or stands at 2^64 - 1 after it, and leaves what was left.
+    /// Gives some first bytes of those left, at most the buffer's length, at the start of the buffer,
+    /// and leaves the rest of the buffer. `Got(0)` for a buffer that has room comes exactly where none
+    /// is left. `Got` leaves the count of faults. `Failed` comes only where the count rose in this
+    /// call, or stands at 2^64 - 1 after it, and leaves what was left and the whole buffer.
     fn read(&mut self, buffer: &mut [u8]) -> Read
         ensures count { faults self.old ≤ faults self.new }
         ensures cause { ReadCause (faults self.old) (faults self.new) result }
         ensures fits { FitsBuffer result buffer.new }
+        ensures rest { LeavesRest result buffer.old buffer.new }
         ensures bytes { GivesFirst (remaining self.old) (remaining self.new) result buffer.new }
         ensures end { EndsExactly (remaining self.old) result buffer.new };
 }

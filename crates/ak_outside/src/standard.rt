@@ -1,77 +1,80 @@
-// Standard input and output, the edge that is trusted: no clause says which bytes come or go.
-ghost use Rattle.std.specs.Prelude.{◌≡◌, ◌≤◌, ◌<◌, None, IfSome, length};
-ghost use Rattle.ak_outside.specs.Outside.{counted};
-ghost use Rattle.ak_outside.specs.Reads.{FitsBuffer, GivesFirst, EndsExactly, ReadCause, ReadIsCounted};
-ghost use Rattle.ak_outside.specs.Writes.{FitsPiece, TakesFirst, WriteCause, WriteIsCounted};
+// Standard input and output, at the edge. What is done with the answers of their calls is proved over any
+// reader and any writer. What is trusted:
+// - that the runtime's reader gives the bytes of standard input that are left, in their order;
+// - that the runtime's writer writes to standard output, and that what it has written needs no flush;
+// - that both answer an error exactly where the system does, of the kind `Interrupted` for a signal;
+// - the one line of each read and write below, which hands the call on to that reader or writer.
+ghost use Rattle.std.specs.Prelude.{◌≡◌, ◌≤◌, None};
+ghost use Rattle.ak_outside.specs.Tries.{CountsFailure};
+ghost use Rattle.ak_outside.specs.Reads.{FitsBuffer, LeavesRest, GivesFirst, EndsExactly, ReadCause, read_count};
+ghost use Rattle.ak_outside.specs.Writes.{FitsPiece, TakesFirst, WriteCause, write_count};
 
+use crate::reader::ReaderSource;
 use crate::sink::{Sink, Wrote};
 use crate::source::{Read, Source};
-use std::io::{ErrorKind, Read as _};
-use std::marker::Model;
+use crate::writer::WriterSink;
+use std::io;
+use std::io::Printer;
+use std::marker::{Model, PhantomData};
 
-/// Standard input. Callers see its count of faults; what is left is not known.
+/// Standard input. Callers see what is left, where the runtime's reader says, and the count of faults.
+/// Its reader is asked for no bytes but those that a read gives, so that it has none read ahead.
 #[derive(Drop)]
-pub struct StdSource<'a, R> {
-    runtime: &'a R,
-    fault_count: u64,
+pub struct StdSource<'a, R: Input> {
+    source: ReaderSource<R::Reader>,
+    runtime: PhantomData<&'a R>,
 }
 
-impl<'a, R> Model for StdSource<'a, R> {
-    ghost use Rattle.std.specs.Prelude.{ℕ};
+impl<'a, R: Input> Model for StdSource<'a, R> {
+    ghost use Rattle.ak_outside.specs.Reads.{StandardInput};
 
-    ghost Value = { ℕ };
+    ghost Value = { StandardInput };
 
-    ghost view = { λ s. s.fault_count };
+    ghost view = { λ s. record { left = R.Reader.remaining s.source.calls.caller.reader; faults = s.source.calls.fault_count } };
 }
 
 impl<'a, R: Input> StdSource<'a, R> {
     /// Standard input as the runtime has it. It has not failed.
     pub fn new(rt: &'a R) -> Self
-        ensures { result ≡ 0 }
+        ensures { result.faults ≡ 0 }
     {
         StdSource {
-            runtime: rt,
-            fault_count: 0,
+            source: ReaderSource::new(rt.reader()),
+            runtime: PhantomData,
         }
     }
 
     /// How many reads have failed, at most 2^64 - 1.
     pub fn faults(&self) -> u64
-        ensures { result ≡ self.now }
+        ensures { result ≡ self.now.faults }
     {
-        self.fault_count
+        self.source.faults()
     }
 }
 
 impl<'a, R: Input> Source for StdSource<'a, R> {
-    ghost remaining = { λ _. None };
+    ghost remaining = { λ s. s.left };
 
-    ghost faults = { λ s. s };
+    ghost faults = { λ s. s.faults };
 
-    /// One read of what is there. An interrupted one is tried again; another that fails is counted.
+    /// One read of at most 8192 bytes. An interrupted one is tried again; another that fails is counted.
     fn read(&mut self, buffer: &mut [u8]) -> Read
-        ensures count { self.old ≤ self.new }
-        ensures cause { ReadCause self.old self.new result }
+        ensures count { self.old.faults ≤ self.new.faults }
+        ensures cause { ReadCause self.old.faults self.new.faults result }
         ensures fits { FitsBuffer result buffer.new }
-        ensures bytes { GivesFirst None None result buffer.new }
-        ensures end { EndsExactly None result buffer.new }
-        ensures counted { ReadIsCounted self.old self.new result }
+        ensures rest { LeavesRest result buffer.old buffer.new }
+        ensures bytes { GivesFirst self.old.left self.new.left result buffer.new }
+        ensures end { EndsExactly self.old.left result buffer.new }
+        ensures counted { CountsFailure self.old.faults self.new.faults (read_count result) }
     {
-        match read_input(self.runtime, buffer) {
-            Some(count) => Read::Got(count),
-            None => {
-                self.fault_count = self.fault_count.saturating_add(1);
-                Read::Failed
-            }
-        }
+        self.source.read(buffer)
     }
 }
 
 /// Standard output. Callers see its count of faults; what was written is not known.
 #[derive(Drop)]
 pub struct StdSink<'a, R> {
-    runtime: &'a R,
-    fault_count: u64,
+    sink: WriterSink<Printer<'a, R>>,
 }
 
 impl<'a, R> Model for StdSink<'a, R> {
@@ -79,7 +82,7 @@ impl<'a, R> Model for StdSink<'a, R> {
 
     ghost Value = { ℕ };
 
-    ghost view = { λ s. s.fault_count };
+    ghost view = { λ s. s.sink.calls.fault_count };
 }
 
 impl<'a, R: Print> StdSink<'a, R> {
@@ -88,8 +91,7 @@ impl<'a, R: Print> StdSink<'a, R> {
         ensures { result ≡ 0 }
     {
         StdSink {
-            runtime: rt,
-            fault_count: 0,
+            sink: WriterSink::new(io::writer(rt)),
         }
     }
 
@@ -97,7 +99,7 @@ impl<'a, R: Print> StdSink<'a, R> {
     pub fn faults(&self) -> u64
         ensures { result ≡ self.now }
     {
-        self.fault_count
+        self.sink.faults()
     }
 }
 
@@ -113,55 +115,8 @@ impl<'a, R: Print> Sink for StdSink<'a, R> {
         ensures cause { WriteCause self.old self.new result }
         ensures fits { FitsPiece result bytes.now }
         ensures bytes { TakesFirst None None result bytes.now }
-        ensures counted { WriteIsCounted self.old self.new result }
+        ensures counted { CountsFailure self.old self.new (write_count result) }
     {
-        if bytes.is_empty() {
-            return Wrote::Took(0);
-        }
-        match write_output(self.runtime, bytes) {
-            Some(count) => Wrote::Took(count),
-            None => {
-                self.fault_count = self.fault_count.saturating_add(1);
-                Wrote::Failed
-            }
-        }
+        self.sink.write(bytes)
     }
-}
-
-// One read of standard input, tried again where it was interrupted. A new reader has read nothing
-// ahead, so that its one read takes no byte that it does not give.
-fn read_input<R: Input>(rt: &R, buffer: &mut [u8]) -> Option<usize>
-    ensures { IfSome result (λ n. n ≤ length buffer.new) }
-{
-    let mut reader = rt.reader();
-    for _ in 0..u64::MAX {
-        match reader.read(buffer) {
-            Ok(count) => return Some(count),
-            Err(e) => {
-                if e.kind() != ErrorKind::Interrupted {
-                    return None;
-                }
-            }
-        }
-    }
-    None
-}
-
-// One write to standard output, tried again where it was interrupted. `Print` buffers nothing, so
-// that what it has written needs no flush.
-fn write_output<R: Print>(rt: &R, bytes: &[u8]) -> Option<usize>
-    ensures { IfSome result (λ n. (0 < n) × (n ≤ length bytes.now)) }
-{
-    for _ in 0..u64::MAX {
-        match rt.write_some(bytes) {
-            Ok(0) => return None,
-            Ok(count) => return Some(count),
-            Err(e) => {
-                if e.kind() != ErrorKind::Interrupted {
-                    return None;
-                }
-            }
-        }
-    }
-    None
 }

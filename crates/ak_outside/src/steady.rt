@@ -1,6 +1,6 @@
 // A source and a sink that never fail.
 ghost use Rattle.std.specs.Prelude.{◌≡◌, ◌≤◌, Some, None, IfOk, length, drop, min};
-ghost use Rattle.ak_outside.specs.Reads.{FitsBuffer, GivesFirst, EndsExactly};
+ghost use Rattle.ak_outside.specs.Reads.{FitsBuffer, LeavesRest, GivesFirst, EndsExactly};
 
 use crate::memory::give;
 use crate::sink::{Sink, Wrote};
@@ -45,6 +45,7 @@ impl Source for SteadySource {
     /// Gives as much as is left and fits.
     fn read(&mut self, buffer: &mut [u8]) -> Read
         ensures fits { FitsBuffer result buffer.new }
+        ensures rest { LeavesRest result buffer.old buffer.new }
         ensures bytes { GivesFirst (Some self.old) (Some self.new) result buffer.new }
         ensures end { EndsExactly (Some self.old) result buffer.new }
         ensures steady { result ≡ Read.Got (min (length buffer.old) (length self.old)) }
