@@ -1,6 +1,7 @@
 -- A replay that says what it printed has printed the one replay text of its schedule, or there was no memory for it.
 use Rattle.std.proofs.Common.{◌≡◌, ℕ, List, Option, Some, refl, subst, inl, inr}
 use Rattle.std.specs.Io.KnownBytes.{Appends}
+use Rattle.ak_outside.specs.Outside.{Rose}
 use Rattle.ak_outside.specs.declared.status.Status.{Status}
 use Rattle.ak_outside.specs.declared.status.Status.TheVariants.{Done, Double, Usage, Configuration, Schedule, Read, Write, Memory, Link, Turns}
 use Rattle.ak_driver.specs.ReplayPromise.{Prints, Promises, IsCompleted}
@@ -14,26 +15,26 @@ whole_text : (bytes text : List ℕ) (status : ℕ) (old new : Option (List ℕ)
 whole_text bytes text status old new is written other whole replay =
     let same = one_replay bytes status other text whole is replay in (same.0, subst (λ (t : List ℕ). Appends old new t) same.1 written)
 
-completes : (bytes : List ℕ) (answer : Status) (read write : Type 0) (old new : Option (List ℕ)) → (read → ⊥) → (write → ⊥) → ReplayCause answer read write
+completes : (bytes : List ℕ) (answer : Status) (r0 r1 w0 w1 : ℕ) (old new : Option (List ℕ)) → (Rose r0 r1 → ⊥) → (Rose w0 w1 → ⊥) → ReplayCause answer r0 r1 w0 w1
     → Prints bytes answer old new → IsCompleted bytes answer old new
-completes bytes Done read write old new reads writes cause p = λ status text replay. inl (whole_text bytes p.0 0 old new p.1 p.2 status text replay)
-completes bytes Schedule read write old new reads writes cause p = λ status text replay. inl (whole_text bytes p.0 4 old new p.1 p.2 status text replay)
-completes bytes Memory read write old new reads writes cause p = λ status text replay. inr refl
-completes bytes Read read write old new reads writes cause p = absurd (reads cause)
-completes bytes Write read write old new reads writes cause p = absurd (writes cause)
-completes bytes Double read write old new reads writes cause p = absurd cause
-completes bytes Usage read write old new reads writes cause p = absurd cause
-completes bytes Configuration read write old new reads writes cause p = absurd cause
-completes bytes Link read write old new reads writes cause p = absurd cause
-completes bytes Turns read write old new reads writes cause p = absurd cause
+completes bytes Done r0 r1 w0 w1 old new reads writes cause p = λ status text replay. inl (whole_text bytes p.0 0 old new p.1 p.2 status text replay)
+completes bytes Schedule r0 r1 w0 w1 old new reads writes cause p = λ status text replay. inl (whole_text bytes p.0 4 old new p.1 p.2 status text replay)
+completes bytes Memory r0 r1 w0 w1 old new reads writes cause p = λ status text replay. inr refl
+completes bytes Read r0 r1 w0 w1 old new reads writes cause p = absurd (reads cause.0)
+completes bytes Write r0 r1 w0 w1 old new reads writes cause p = absurd (writes cause)
+completes bytes Double r0 r1 w0 w1 old new reads writes cause p = absurd cause
+completes bytes Usage r0 r1 w0 w1 old new reads writes cause p = absurd cause
+completes bytes Configuration r0 r1 w0 w1 old new reads writes cause p = absurd cause
+completes bytes Link r0 r1 w0 w1 old new reads writes cause p = absurd cause
+completes bytes Turns r0 r1 w0 w1 old new reads writes cause p = absurd cause
 
-pub completed : (known : Option (List ℕ)) (answer : Status) (read write : Type 0) (old new : Option (List ℕ)) → ReplayCause answer read write → Promises known answer old new
-    → (bytes : List ℕ) → known ≡ Some bytes → (read → ⊥) → (write → ⊥) → IsCompleted bytes answer old new
-completed known answer read write old new cause p bytes is reads writes =
-    completes bytes answer read write old new reads writes cause (subst (λ (o : Option (List ℕ)). Promises o answer old new) is p)
+pub completed : (known : Option (List ℕ)) (answer : Status) (r0 r1 w0 w1 : ℕ) (old new : Option (List ℕ)) → ReplayCause answer r0 r1 w0 w1 → Promises known answer old new
+    → (bytes : List ℕ) → known ≡ Some bytes → (Rose r0 r1 → ⊥) → (Rose w0 w1 → ⊥) → IsCompleted bytes answer old new
+completed known answer r0 r1 w0 w1 old new cause p bytes is reads writes =
+    completes bytes answer r0 r1 w0 w1 old new reads writes cause (subst (λ (o : Option (List ℕ)). Promises o answer old new) is p)
 
 -- there was no memory for the bytes themselves
-pub starved : (answer : Status) (write : Type 0) (text : List ℕ) (old new : Option (List ℕ)) → Written Memory text answer write old new
-    → (bytes : List ℕ) → (write → ⊥) → IsCompleted bytes answer old new
-starved answer write text old new (inl done) bytes writes = λ status whole replay. inr done.0
-starved answer write text old new (inr failed) bytes writes = absurd (writes failed.1)
+pub starved : (answer : Status) (w0 w1 : ℕ) (text : List ℕ) (old new : Option (List ℕ)) → Written Memory text answer w0 w1 old new
+    → (bytes : List ℕ) → (Rose w0 w1 → ⊥) → IsCompleted bytes answer old new
+starved answer w0 w1 text old new (inl done) bytes writes = λ status whole replay. inr done.0
+starved answer w0 w1 text old new (inr failed) bytes writes = absurd (writes failed.1)

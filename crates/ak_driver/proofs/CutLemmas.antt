@@ -1,20 +1,15 @@
 -- A schedule that passes a limit is refused at the same line with the same text, whatever more it has.
-use Rattle.std.proofs.Common.{◌≡◌, ◌⊎◌, inl, inr, ℕ, zero, suc, ◌+◌, ◌<◌, ◌≤◌, ◌==◌, Bool, true, false, List, [], ◌∷◌, ◌++◌, length, get_or, Option, None, Some, arith, refl, sym, ap, ◌∙◌, subst, append-nil, length-append}
-use Rattle.std.specs.Prelude.{map, slice_get, IfSome}
+use Rattle.std.proofs.Common.{◌≡◌, ◌⊎◌, inl, inr, ℕ, zero, suc, ◌+◌, ◌<◌, ◌≤◌, ◌==◌, Bool, true, false, List, [], ◌∷◌, ◌++◌, length, get_or, arith, refl, sym, ap, ◌∙◌, subst, append-nil, length-append}
+use Rattle.std.specs.Prelude.{map}
 use Rattle.std.specs.List.{slice_split, onto_first, Contains}
 use Rattle.std.proofs.lemmas.List.Splits.{length-slice_split, slice_split-cons_yes, slice_split-cons_no}
 use Rattle.ak_schedule.specs.Line.{lines, begun, without_cr, most_bytes}
 use Rattle.ak_schedule.specs.Settings.{SettingsModel}
-use Rattle.ak_schedule.specs.Schedule.{headers, SetsHeader}
-use Rattle.ak_schedule.specs.declared.settings.Header as header
 use Rattle.ak_schedule.proofs.Cutting.{begun_more}
 use Rattle.ak_driver.specs.InputContracts.{IsPast}
 use Rattle.ak_driver.specs.declared.replay.Code.{Code}
-use Rattle.ak_driver.specs.declared.replay.Code.TheVariants.{Malformed, BadHeader, Unlisted, UniqueUsed, AddressInUse, SecondFound, UnknownNode, NoPacket, TooManyStarts, PastLimit, NotBuilt}
-use Rattle.ak_world.specs.declared.world.Refused.{Refused}
-use Rattle.ak_driver.specs.ReplayText.{Progress, Judgement, Judged, GoesOn, Replays, GoesOnPrinting, FirstSteps, IsReplay, IsFirstSteps, WantsHeader, WantsEvent, SetsNext, IsInvalid, most_lines, header_count, at_start}
-use Rattle.ak_driver.specs.ReplayText.Judgement.{Passes, Sets, Steps, Refuses}
-use Rattle.ak_node.proofs.NodeLemmas.{not_none}
+use Rattle.ak_driver.specs.declared.replay.Code.TheVariants.{Malformed, BadHeader, PastLimit, Invalid}
+use Rattle.ak_driver.specs.ReplayText.{Progress, Judgement, Passes, Sets, Steps, Ending, Stopped, Judged, IsRefused, Replays, ReplaysAs, IsReplay, IsFirstSteps, WantsHeader, WantsEvent, turn, ending_status, most_lines, header_count, at_start}
 
 -- ---- the parts of two texts, one after the other
 abbrev pub parts_of : List ℕ → List (List ℕ)
@@ -163,7 +158,7 @@ past_more bytes more (inl long) =
     inl (long_in (lines (bytes ++ more)) (extends_long (lines bytes) (lines (bytes ++ more)) (lines_extend bytes more) (has_long (lines bytes) long.0 long.1.0 long.1.1 long.1.2 long.2)))
 past_more bytes more (inr many) = inr (omega (arith, many, extends_length (lines bytes) (lines (bytes ++ more)) (lines_extend bytes more)))
 
--- ---- the judgement of a line at which a replay stops
+-- ---- a line at which a replay stops
 -- a line that is too long, or after the last that may be
 abbrev Stops : Progress → List ℕ → Type 0
 Stops p line = (most_bytes < length line) ⊎ (most_lines < p.line)
@@ -172,45 +167,42 @@ never : (p : Progress) (line : List ℕ) → Stops p line → p.line ≤ most_li
 never p line (inl long) within short = omega arith
 never p line (inr over) within short = omega arith
 
-header_short : (line : List ℕ) (old new : SettingsModel) (o : Option header.Header) → (o ≡ None → ⊥) → IfSome o (λ which. SetsHeader which line old new) → length line ≤ most_bytes
-header_short line old new None some sets = absurd (some refl)
-header_short line old new (Some which) some sets = sets.short
-
-sets_short : (p : Progress) (line : List ℕ) (settings : SettingsModel) → p.headers < header_count → SetsNext p line settings → length line ≤ most_bytes
-sets_short p line settings heading sets = header_short line p.settings settings (slice_get headers p.headers) (not_none headers p.headers heading) sets
-
 wants_event : (p : Progress) (line other : List ℕ) → Stops p other → WantsEvent p line → WantsEvent p other
 wants_event p line other stops w = record { in_limit = w.in_limit; not_passed = λ passed. never p other stops w.in_limit passed.short; running = w.running }
 
 wants_header : (p : Progress) (line other : List ℕ) → Stops p other → WantsHeader p line → WantsHeader p other
 wants_header p line other stops w = record { in_limit = w.in_limit; not_passed = λ passed. never p other stops w.in_limit passed.short; heading = w.heading }
 
--- such a line spells no event that the world could refuse
-no_event : (p : Progress) (line : List ℕ) (why : Refused) → Stops p line → IsInvalid p line why → ⊥
-no_event p line why stops invalid = never p line stops invalid.0.in_limit invalid.3.short
-
 -- such a line is refused alike, whatever it holds
-refused_alike : (p : Progress) (line other : List ℕ) (code : Code) → Stops p line → Stops p other → Judged p line (Refuses code) → Judged p other (Refuses code)
+refused_alike : (p : Progress) (line other : List ℕ) (code : Code) → Stops p line → Stops p other → IsRefused p line code → IsRefused p other code
 refused_alike p line other Malformed stops stopped j = (wants_event p line other stopped j.0, j.1, λ event spells. never p other stopped j.0.in_limit spells.short)
-refused_alike p line other BadHeader stops stopped j =
-    (wants_header p line other stopped j.0, λ settings sets. never p other stopped j.0.in_limit (sets_short p other settings j.0.heading sets))
+refused_alike p line other BadHeader stops stopped j = (wants_header p line other stopped j.0, λ settings sets. never p other stopped j.0.in_limit sets.sets.short)
 refused_alike p line other PastLimit stops stopped (inl over) = inl over
 refused_alike p line other PastLimit stops stopped (inr many) = inr (wants_event p line other stopped many.0, many.1)
-refused_alike p line other Unlisted stops stopped j = absurd (no_event p line _ stops j)
-refused_alike p line other UniqueUsed stops stopped j = absurd (no_event p line _ stops j)
-refused_alike p line other AddressInUse stops stopped j = absurd (no_event p line _ stops j)
-refused_alike p line other SecondFound stops stopped j = absurd (no_event p line _ stops j)
-refused_alike p line other UnknownNode stops stopped j = absurd (no_event p line _ stops j)
-refused_alike p line other NoPacket stops stopped j = absurd (no_event p line _ stops j.1)
-refused_alike p line other TooManyStarts stops stopped j = absurd (no_event p line _ stops j)
-refused_alike p line other NotBuilt stops stopped j = absurd (no_event p line _ stops j)
+refused_alike p line other (Invalid why) stops stopped j = absurd (never p line stops j.0.in_limit j.3.short)
 
-at_stop : (p : Progress) (line other : List ℕ) (judgement : Judgement) (Rest Then : Progress → ℕ → List ℕ → Type 0) (status : ℕ) (text : List ℕ) → Stops p line → Stops p other
-    → Judged p line judgement → GoesOn p judgement Rest status text → ((j : Judgement) × Judged p other j × GoesOn p j Then status text) × (status ≡ 4)
-at_stop p line other Passes Rest Then status text stops stopped j g = absurd (never p line stops j.0 j.1.short)
-at_stop p line other (Sets settings) Rest Then status text stops stopped j g = absurd (never p line stops j.0.in_limit (sets_short p line settings j.0.heading j.1))
-at_stop p line other (Steps event done) Rest Then status text stops stopped j g = absurd (never p line stops j.0.in_limit j.2.short)
-at_stop p line other (Refuses code) Rest Then status text stops stopped j g = ((Refuses code, refused_alike p line other code stops stopped j, g), g.0)
+-- and never accepted
+not_accepted : (p : Progress) (line : List ℕ) (judgement : Judgement) → Stops p line → Judged p line judgement → ⊥
+not_accepted p line Passes stops j = never p line stops j.0 j.1.short
+not_accepted p line (Sets settings) stops j = never p line stops j.0.in_limit j.1.sets.short
+not_accepted p line (Steps event done) stops j = never p line stops j.0.in_limit j.2.short
+
+-- an accepted line is within the limit, and counts as one line
+accepted_within : (p : Progress) (line : List ℕ) (judgement : Judgement) → Judged p line judgement → p.line ≤ most_lines
+accepted_within p line Passes j = j.0
+accepted_within p line (Sets settings) j = j.0.in_limit
+accepted_within p line (Steps event done) j = j.0.in_limit
+
+next_line : (p : Progress) (judgement : Judgement) → (turn p judgement).0.line ≡ p.line + 1
+next_line p Passes = refl
+next_line p (Sets settings) = refl
+next_line p (Steps event done) = refl
+
+at_stop : (p : Progress) (line other : List ℕ) (others longer : List (List ℕ)) (steps : List (List ℕ)) (ending : Ending) → Stops p line → Stops p other
+    → Replays p (line ∷ others) steps ending → Replays p (other ∷ longer) steps ending × (ending_status ending ≡ 4)
+at_stop p line other others longer steps ending stops stopped (inl r) =
+    (inl (r.0, refused_alike p line other r.0 stops stopped r.1, r.2, r.3), ap ending_status r.3)
+at_stop p line other others longer steps ending stops stopped (inr r) = absurd (not_accepted p line r.0 stops r.1)
 
 -- ---- a whole replay
 -- from this line on a line is too long, or the last is after the last that may be
@@ -231,82 +223,49 @@ stops_longer : (p : Progress) (line other : List ℕ) → length line ≤ length
 stops_longer p line other le (inl long) = inl (omega arith)
 stops_longer p line other le (inr over) = inr over
 
-goes_on : (p : Progress) (line : List ℕ) (judgement : Judgement) (Rest Then : Progress → ℕ → List ℕ → Type 0) (status : ℕ) (text : List ℕ)
-    → ((q : Progress) (s : ℕ) (t : List ℕ) → q.line ≡ p.line + 1 → p.line ≤ most_lines → Rest q s t → Then q s t × (s ≡ 4))
-    → Judged p line judgement → GoesOn p judgement Rest status text → GoesOn p judgement Then status text × (status ≡ 4)
-goes_on p line Passes Rest Then status text next j g = next _ status text refl j.0 g
-goes_on p line (Sets settings) Rest Then status text next j g = next _ status text refl j.0.in_limit g
-goes_on p line (Steps event done) Rest Then status text next j g = let r = next _ status g.0 refl j.0.in_limit g.1 in ((g.0, r.0, g.2), r.1)
-goes_on p line (Refuses code) Rest Then status text next j g = (g, g.0)
-
-replays_longer : (p : Progress) (lines longer : List (List ℕ)) (status : ℕ) (text : List ℕ) → p.line ≤ most_lines + 1 → StopsWithin p.line lines → Extends lines longer
-    → Replays p lines status text → Replays p longer status text × (status ≡ 4)
-replays_longer p [] longer status text within (inl h) e r = absurd h
-replays_longer p [] longer status text within (inr many) e r = absurd (omega arith)
-replays_longer p (line ∷ lines) [] status text within stops e r = absurd e
-replays_longer p (line ∷ []) (other ∷ longer) status text within stops e r =
+replays_longer : (p : Progress) (lines longer steps : List (List ℕ)) (ending : Ending) → p.line ≤ most_lines + 1 → StopsWithin p.line lines → Extends lines longer
+    → Replays p lines steps ending → Replays p longer steps ending × (ending_status ending ≡ 4)
+replays_longer p [] longer steps ending within (inl h) e r = absurd h
+replays_longer p [] longer steps ending within (inr many) e r = absurd (omega arith)
+replays_longer p (line ∷ lines) [] steps ending within stops e r = absurd e
+replays_longer p (line ∷ []) (other ∷ longer) steps ending within stops e r =
     let here = stops_here p line stops in
-    at_stop p line other r.0 (λ q. Replays q []) (λ q. Replays q longer) status text here (stops_longer p line other e here) r.1 r.2
-replays_longer p (line ∷ next ∷ lines) (other ∷ longer) status text within stops e r =
+    at_stop p line other [] longer steps ending here (stops_longer p line other e here) r
+replays_longer p (line ∷ next ∷ lines) (other ∷ longer) steps ending within stops e r =
     elim (stops_next p.line line (next ∷ lines) stops) [
-      | inl long ↦
-          at_stop p line other r.0 (λ q. Replays q (next ∷ lines)) (λ q. Replays q longer) status text (inl long) (stops_longer p line other (omega (arith, ap length e.0)) (inl long)) r.1 r.2
-      | inr later ↦
-          let g = goes_on p line r.0 (λ q. Replays q (next ∷ lines)) (λ q. Replays q longer) status text
-          (λ q s t is le rest. replays_longer q (next ∷ lines) longer s t (omega arith) (subst (λ (n : ℕ). StopsWithin n (next ∷ lines)) (sym is) later) e.1 rest)
-          r.1 r.2 in
-          ((r.0, subst (λ (l : List ℕ). Judged p l r.0) e.0 r.1, g.0), g.1)
+      | inl long ↦ at_stop p line other (next ∷ lines) longer steps ending (inl long) (stops_longer p line other (omega (arith, ap length e.0)) (inl long)) r
+      | inr later ↦ on_later p line other next lines longer steps ending later e r
     ]
-
--- ---- the first steps of a replay
-pub first_none : (p : Progress) (lines : List (List ℕ)) (text : List ℕ) → text ≡ [] → FirstSteps p lines text
-first_none p [] text e = e
-first_none p (line ∷ lines) text e = inl e
-
-first_at_stop : (p : Progress) (line : List ℕ) (judgement : Judgement) (Rest : Progress → List ℕ → Type 0) (text : List ℕ) → Stops p line → Judged p line judgement
-    → GoesOnPrinting p judgement Rest text → text ≡ []
-first_at_stop p line Passes Rest text stops j g = absurd (never p line stops j.0 j.1.short)
-first_at_stop p line (Sets settings) Rest text stops j g = absurd (never p line stops j.0.in_limit (sets_short p line settings j.0.heading j.1))
-first_at_stop p line (Steps event done) Rest text stops j g = absurd (never p line stops j.0.in_limit j.2.short)
-first_at_stop p line (Refuses code) Rest text stops j g = g
-
-goes_on_printing : (p : Progress) (line : List ℕ) (judgement : Judgement) (Rest Then : Progress → List ℕ → Type 0) (text : List ℕ)
-    → ((q : Progress) (t : List ℕ) → q.line ≡ p.line + 1 → p.line ≤ most_lines → Rest q t → Then q t)
-    → Judged p line judgement → GoesOnPrinting p judgement Rest text → GoesOnPrinting p judgement Then text
-goes_on_printing p line Passes Rest Then text next j g = next _ text refl j.0 g
-goes_on_printing p line (Sets settings) Rest Then text next j g = next _ text refl j.0.in_limit g
-goes_on_printing p line (Steps event done) Rest Then text next j g = (g.0, next _ g.0 refl j.0.in_limit g.1, g.2)
-goes_on_printing p line (Refuses code) Rest Then text next j g = g
-
-first_longer : (p : Progress) (lines longer : List (List ℕ)) (text : List ℕ) → StopsWithin p.line lines → Extends lines longer → FirstSteps p lines text → FirstSteps p longer text
-first_longer p [] longer text stops e r = first_none p longer text r
-first_longer p (line ∷ lines) [] text stops e r = absurd e
-first_longer p (line ∷ lines) (other ∷ longer) text stops e (inl none) = inl none
-first_longer p (line ∷ []) (other ∷ longer) text stops e (inr r) = inl (first_at_stop p line r.0 (λ q. FirstSteps q []) text (stops_here p line stops) r.1 r.2)
-first_longer p (line ∷ next ∷ lines) (other ∷ longer) text stops e (inr r) =
-    elim (stops_next p.line line (next ∷ lines) stops) [
-      | inl long ↦ inl (first_at_stop p line r.0 (λ q. FirstSteps q (next ∷ lines)) text (inl long) r.1 r.2)
-      | inr later ↦ inr (
-        r.0,
-        subst (λ (l : List ℕ). Judged p l r.0) e.0 r.1,
-        goes_on_printing p line r.0 (λ q. FirstSteps q (next ∷ lines)) (λ q. FirstSteps q longer) text
-            (λ q t is le rest. first_longer q (next ∷ lines) longer t (subst (λ (n : ℕ). StopsWithin n (next ∷ lines)) (sym is) later) e.1 rest)
-            r.1 r.2,
-      )
-    ]
+  where
+    on_later : (p : Progress) (line other next : List ℕ) (lines longer steps : List (List ℕ)) (ending : Ending) → StopsWithin (p.line + 1) (next ∷ lines)
+        → Extends (line ∷ next ∷ lines) (other ∷ longer)
+        → Replays p (line ∷ next ∷ lines) steps ending → Replays p (other ∷ longer) steps ending × (ending_status ending ≡ 4)
+    on_later p line other next lines longer steps ending later e (inl r) =
+        (inl (r.0, subst (λ (l : List ℕ). IsRefused p l r.0) e.0 r.1, r.2, r.3), ap ending_status r.3)
+    on_later p line other next lines longer steps ending later e (inr r) =
+        let q : Progress = (turn p r.0).0 in
+        let is = next_line p r.0 in
+        let within = accepted_within p line r.0 r.1 in
+        let rest = replays_longer q (next ∷ lines) longer r.2 ending (omega (arith, is, within)) (subst (λ (n : ℕ). StopsWithin n (next ∷ lines)) (sym is) later) e.1 r.3 in
+        (inr (r.0, subst (λ (l : List ℕ). Judged p l r.0) e.0 r.1, r.2, rest.0, r.4), rest.1)
 
 -- ---- bytes that pass a limit
 past_stops : (bytes : List ℕ) → IsPast bytes → StopsWithin 1 (lines bytes)
 past_stops bytes (inl long) = inl (has_long (lines bytes) long.0 long.1.0 long.1.1 long.1.2 long.2)
 past_stops bytes (inr many) = inr (omega arith)
 
--- more bytes change nothing of what a replay of them prints, and it refuses a line
+-- more bytes change nothing of a replay, and it refuses a line
+past_replays : (bytes more : List ℕ) (steps : List (List ℕ)) (ending : Ending) → IsPast bytes → ReplaysAs bytes steps ending → ReplaysAs (bytes ++ more) steps ending × (ending_status ending ≡ 4)
+past_replays bytes more steps ending past r =
+    replays_longer at_start (lines bytes) (lines (bytes ++ more)) steps ending (omega arith) (past_stops bytes past) (lines_extend bytes more) r
+
 pub past_replay : (bytes more : List ℕ) (status : ℕ) (text : List ℕ) → IsPast bytes → IsReplay bytes status text → IsReplay (bytes ++ more) status text × (status ≡ 4)
 past_replay bytes more status text past r =
-    replays_longer at_start (lines bytes) (lines (bytes ++ more)) status text (omega arith) (past_stops bytes past) (lines_extend bytes more) r
+    let on = past_replays bytes more r.0 r.1 past r.2 in
+    ((r.0, r.1, on.0, r.3, r.4), r.3 ∙ on.1)
 
 pub past_not_done : (bytes text : List ℕ) → IsPast bytes → IsReplay bytes 0 text → ⊥
 past_not_done bytes text past r = let e : ◌≡◌ {A = ℕ} 0 4 = (past_replay bytes [] 0 text past r).1 in omega arith
 
 pub past_first : (bytes more text : List ℕ) → IsPast bytes → IsFirstSteps bytes text → IsFirstSteps (bytes ++ more) text
-past_first bytes more text past r = first_longer at_start (lines bytes) (lines (bytes ++ more)) text (past_stops bytes past) (lines_extend bytes more) r
+past_first bytes more text past r = (r.0, r.1, (past_replays bytes more r.0 r.1 past r.2).0, r.3, r.4)

@@ -5,10 +5,11 @@ use Rattle.std.specs.Io.KnownBytes.{IsAtEnd}
 use Rattle.ak_outside.specs.declared.status.Status.{Status}
 use Rattle.ak_outside.specs.declared.status.Status.TheVariants.{Done, Double, Usage, Configuration, Schedule, Read, Write, Memory, Link, Turns}
 use Rattle.ak_driver.specs.InputContracts.{IsPast, Reads}
-use Rattle.ak_driver.specs.ReplayText.{at_start}
+use Rattle.ak_driver.specs.ReplayText.{IsFirstSteps, at_start}
 use Rattle.ak_driver.specs.ReplayPromise.{MayPrint, Prints, Promises, EndsSource, read_line_text}
 use Rattle.ak_driver.specs.StatusContracts.{Written, memory_line}
-use Rattle.ak_driver.proofs.CutLemmas.{past_replay, past_not_done, past_first, first_none}
+use Rattle.ak_driver.proofs.CutLemmas.{past_replay, past_not_done, past_first}
+use Rattle.ak_driver.proofs.SomeReplay.{some_from}
 use Rattle.ak_schedule.specs.Line.{lines}
 
 may_print_more : (bytes more text : List ℕ) → IsPast bytes → MayPrint bytes text → MayPrint (bytes ++ more) text
@@ -58,16 +59,19 @@ promises_all : (known : Option (List ℕ)) (status : Status) (old new : Option (
 promises_all None status old new p = tt
 promises_all (Some bytes) status old new p = p bytes
 
-memory_may_print : (bytes : List ℕ) → MayPrint bytes memory_line
-memory_may_print bytes = inr ([], first_none at_start (lines bytes) [] refl, refl)
+no_steps : (bytes : List ℕ) → IsFirstSteps bytes []
+no_steps bytes = let on = some_from (lines bytes) at_start in (on.0, on.1, on.2, 0, refl)
 
-pub no_memory : (known : Option (List ℕ)) (result : Status) (rose : Type 0) (old new : Option (List ℕ)) → Written Memory memory_line result rose old new → Promises known result old new
-no_memory known result rose old new (inl done) =
-    subst (λ (s : Status). Promises known s old new) (sym done.0) (promises_all known Memory old new (λ bytes. ([], first_none at_start (lines bytes) [] refl, done.1)))
-no_memory known result rose old new (inr failed) =
+memory_may_print : (bytes : List ℕ) → MayPrint bytes memory_line
+memory_may_print bytes = inr ([], no_steps bytes, refl)
+
+pub no_memory : (known : Option (List ℕ)) (result : Status) (w0 w1 : ℕ) (old new : Option (List ℕ)) → Written Memory memory_line result w0 w1 old new → Promises known result old new
+no_memory known result w0 w1 old new (inl done) =
+    subst (λ (s : Status). Promises known s old new) (sym done.0) (promises_all known Memory old new (λ bytes. ([], no_steps bytes, done.2)))
+no_memory known result w0 w1 old new (inr failed) =
     subst (λ (s : Status). Promises known s old new) (sym failed.0) (promises_all known Write old new (λ bytes. (memory_line, inl (memory_may_print bytes), failed.2)))
 
-pub no_input : (known : Option (List ℕ)) (result : Status) (rose : Type 0) (old new : Option (List ℕ)) → Written Read read_line_text result rose old new → Promises known result old new
-no_input known result rose old new (inl done) = subst (λ (s : Status). Promises known s old new) (sym done.0) (promises_all known Read old new (λ bytes. done.1))
-no_input known result rose old new (inr failed) =
+pub no_input : (known : Option (List ℕ)) (result : Status) (w0 w1 : ℕ) (old new : Option (List ℕ)) → Written Read read_line_text result w0 w1 old new → Promises known result old new
+no_input known result w0 w1 old new (inl done) = subst (λ (s : Status). Promises known s old new) (sym done.0) (promises_all known Read old new (λ bytes. done.2))
+no_input known result w0 w1 old new (inr failed) =
     subst (λ (s : Status). Promises known s old new) (sym failed.0) (promises_all known Write old new (λ bytes. (read_line_text, inr refl, failed.2)))

@@ -1,5 +1,5 @@
 -- Words of the reading of a whole input.
-use Rattle.std.specs.Prelude.{◌≡◌, ◌⊎◌, ℕ, Bool, ◌+◌, ◌*◌, ◌<◌, ◌==◌, List, [], ◌∷◌, ◌++◌, length, Option, ⊤}
+use Rattle.std.specs.Prelude.{◌≡◌, ◌⊎◌, ℕ, Bool, ◌+◌, ◌*◌, ◌<◌, ◌==◌, List, [], ◌∷◌, ◌++◌, length, Option}
 use Rattle.std.specs.Bool.{MatchBool}
 use Rattle.std.specs.List.{Contains, slice_split}
 use Rattle.std.specs.Io.KnownBytes.{IsAtEnd}
@@ -13,10 +13,10 @@ use Rattle.ak_driver.specs.ReplayText.{most_lines}
 abbrev pub reach : ℕ → ℕ → ℕ
 reach lines bytes = 4098 * lines + bytes
 
--- a failed read has its cause
+-- by the source's count of faults before and after: it rose where a read failed, and not where memory ran out
 abbrev pub UnreadCause : ℕ → ℕ → Unread → Type 0
 UnreadCause old new Failed = Rose old new
-UnreadCause old new NoMemory = ⊤
+UnreadCause old new NoMemory = new ≡ old
 
 -- some line of these bytes is too long, also one that has no end yet
 abbrev pub HasLongLine : List ℕ → Type 0

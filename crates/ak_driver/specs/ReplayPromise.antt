@@ -1,4 +1,4 @@
--- What a replay promises of the bytes that it read and of those that its sink took, by the status that it answers.
+-- What a replay promises of the bytes that it read and of those that its sink has written, by the status that it answers.
 use Rattle.std.specs.Prelude.{◌≡◌, ◌⊎◌, ℕ, List, [], ◌∷◌, ◌++◌, Option, None, Some, codes, ⊤}
 use Rattle.std.specs.Io.KnownBytes.{Appends, IsAtEnd}
 use Rattle.ak_outside.specs.Codes.{exit_code}

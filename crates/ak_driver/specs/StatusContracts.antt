@@ -1,22 +1,24 @@
 -- Words of how a run ends.
-use Rattle.std.specs.Prelude.{◌≡◌, ◌⊎◌, List, ℕ, [], ◌∷◌, ◌++◌, Option, codes, ⊤}
+use Rattle.std.specs.Prelude.{◌≡◌, ◌⊎◌, List, ℕ, [], ◌∷◌, ◌++◌, Option, codes}
 use Rattle.std.specs.Io.KnownBytes.{Appends}
-use Rattle.ak_outside.specs.Outside.{AppendsPrefix}
+use Rattle.ak_outside.specs.Outside.{Rose, AppendsPrefix}
 use Rattle.ak_outside.specs.declared.status.Status.{Status}
 use Rattle.ak_outside.specs.declared.status.Status.TheVariants.{Done, Double, Usage, Configuration, Schedule, Read, Write, Memory, Link, Turns}
 
--- a replay ends in one of five ways, two of which have their cause
-abbrev pub ReplayCause : Status → Type 0 → Type 0 → Type 0
-ReplayCause Done read write = ⊤
-ReplayCause Double read write = ⊥
-ReplayCause Usage read write = ⊥
-ReplayCause Configuration read write = ⊥
-ReplayCause Schedule read write = ⊤
-ReplayCause Read read write = read
-ReplayCause Write read write = write
-ReplayCause Memory read write = ⊤
-ReplayCause Link read write = ⊥
-ReplayCause Turns read write = ⊥
+-- A replay ends in one of five ways, by the counts of faults of its source and of its sink before and after: where it is
+-- done, at a refused line and out of memory neither count rose; a failed read is the source's and the sink's did not rise;
+-- a failed write is the sink's.
+abbrev pub ReplayCause : Status → ℕ → ℕ → ℕ → ℕ → Type 0
+ReplayCause Done r0 r1 w0 w1 = (r1 ≡ r0) × (w1 ≡ w0)
+ReplayCause Double r0 r1 w0 w1 = ⊥
+ReplayCause Usage r0 r1 w0 w1 = ⊥
+ReplayCause Configuration r0 r1 w0 w1 = ⊥
+ReplayCause Schedule r0 r1 w0 w1 = (r1 ≡ r0) × (w1 ≡ w0)
+ReplayCause Read r0 r1 w0 w1 = Rose r0 r1 × (w1 ≡ w0)
+ReplayCause Write r0 r1 w0 w1 = Rose w0 w1
+ReplayCause Memory r0 r1 w0 w1 = (r1 ≡ r0) × (w1 ≡ w0)
+ReplayCause Link r0 r1 w0 w1 = ⊥
+ReplayCause Turns r0 r1 w0 w1 = ⊥
 
 -- the words ask for a replay
 abbrev pub AsksReplay : List (List ℕ) → Type 0
@@ -28,7 +30,8 @@ memory_line = codes "error 7 memory" ++ 10 ∷ []
 abbrev pub usage_line : List ℕ
 usage_line = codes "error 2 usage" ++ 10 ∷ []
 
--- the whole text was written, and the status is the given one; or the sink failed after a prefix of it
-abbrev pub Written : Status → List ℕ → Status → Type 0 → Option (List ℕ) → Option (List ℕ) → Type 0
-Written status text answer rose old new =
-    ((answer ≡ status) × Appends old new text) ⊎ ((answer ≡ Write) × rose × AppendsPrefix old new text)
+-- By the sink's count of faults before and after: the whole text was written, the status is the given one and the count did
+-- not rise; or the sink failed after a prefix of the text, and its count rose.
+abbrev pub Written : Status → List ℕ → Status → ℕ → ℕ → Option (List ℕ) → Option (List ℕ) → Type 0
+Written status text answer w0 w1 old new =
+    ((answer ≡ status) × (w1 ≡ w0) × Appends old new text) ⊎ ((answer ≡ Write) × Rose w0 w1 × AppendsPrefix old new text)

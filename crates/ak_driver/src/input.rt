@@ -1,6 +1,6 @@
 //! The reading of a schedule, as far as its limits on lines let it go.
 
-ghost use Rattle.std.specs.Prelude.{◌≡◌, ℕ, ◌+◌, ◌≤◌, ◌++◌, ◌∷◌, List, [], false, length, IfErr, IfOk, IfSome};
+ghost use Rattle.std.specs.Prelude.{◌≡◌, ℕ, ◌+◌, ◌≤◌, ◌++◌, ◌∷◌, List, [], false, length, MatchResult, IfOk, IfSome};
 ghost use Rattle.std.specs.Bool.{OnFalse};
 ghost use Rattle.ak_driver.specs.InputContracts.{reach, UnreadCause, IsExtent, Reads};
 
@@ -78,10 +78,10 @@ impl Extent {
 }
 
 /// Reads the input to its end, or until a line is longer than may be or there are more lines than may be: so an
-/// endless input ends too. After the first failed read no other is asked.
+/// endless input ends too. After the first failed read no other is asked. The source's count of faults rises exactly
+/// where a read failed.
 pub fn read_all<S: Source>(alloc: Global, input: &mut S) -> Result<Vec<u8>, Unread>
-    ensures count { S.faults input.old ≤ S.faults input.new }
-    ensures cause { IfErr result (λ why. UnreadCause (S.faults input.old) (S.faults input.new) why) }
+    ensures cause { MatchResult result (λ bytes. S.faults input.new ≡ S.faults input.old) (UnreadCause (S.faults input.old) (S.faults input.new)) }
     ensures reads { IfOk result (λ bytes. IfSome (S.remaining input.old) (λ all. Reads all bytes.items (S.remaining input.new))) }
 {
     let mut bytes = Vec::new(alloc);

@@ -47,12 +47,12 @@ pub fn run<S: Source, W: Sink>(
 ) -> Status
     ensures read { S.faults input.old ≤ S.faults input.new }
     ensures written { W.faults output.old ≤ W.faults output.new }
-    ensures replay { AsksReplay words.now → ReplayCause result (Rose (S.faults input.old) (S.faults input.new)) (Rose (W.faults output.old) (W.faults output.new)) }
+    ensures replay { AsksReplay words.now → ReplayCause result (S.faults input.old) (S.faults input.new) (W.faults output.old) (W.faults output.new) }
     ensures promise { AsksReplay words.now → Promises (S.remaining input.old) result (W.written output.old) (W.written output.new) }
     ensures end { AsksReplay words.now → IfSome (S.remaining input.old) (λ all. EndsSource result (S.remaining input.new)) }
     ensures complete { AsksReplay words.now → (bytes : List ℕ) → S.remaining input.old ≡ Some bytes → (Rose (S.faults input.old) (S.faults input.new) → ⊥) → (Rose (W.faults output.old) (W.faults output.new) → ⊥)
         → IsCompleted bytes result (W.written output.old) (W.written output.new) }
-    ensures usage { (AsksReplay words.now → ⊥) → Written Status.Usage usage_line result (Rose (W.faults output.old) (W.faults output.new)) (W.written output.old) (W.written output.new) }
+    ensures usage { (AsksReplay words.now → ⊥) → Written Status.Usage usage_line result (W.faults output.old) (W.faults output.new) (W.written output.old) (W.written output.new) }
     ensures unread { (AsksReplay words.now → ⊥) → input.new ≡ input.old }
 {
     if is_replay(words) {
@@ -65,7 +65,7 @@ pub fn run<S: Source, W: Sink>(
 /// the sink failed.
 pub fn run_without_words<W: Sink>(output: &mut W) -> Status
     ensures count { W.faults output.old ≤ W.faults output.new }
-    ensures written { Written Status.Memory memory_line result (Rose (W.faults output.old) (W.faults output.new)) (W.written output.old) (W.written output.new) }
+    ensures written { Written Status.Memory memory_line result (W.faults output.old) (W.faults output.new) (W.written output.old) (W.written output.new) }
 {
     written(output, b"error 7 memory\n", Status::Memory)
 }

@@ -5,7 +5,7 @@ ghost use Rattle.ak_outside.specs.Outside.{Rose};
 ghost use Rattle.ak_schedule.specs.Draft.{first_draft};
 ghost use Rattle.ak_schedule.specs.Line.{IsPassedOver};
 ghost use Rattle.ak_driver.specs.ReplayPromise.{Prints, Promises, EndsSource, IsCompleted};
-ghost use Rattle.ak_driver.specs.ReplayText.{refusal_text, code_text};
+ghost use Rattle.ak_driver.specs.ReplayText.{refusal_text, code_text, reason_text};
 ghost use Rattle.ak_driver.specs.ReplayContracts.{stop_of, IsReady, IsWhole, opened, progress, progress_of, HeadingAnswers, RunningAnswers, TurnAnswers, FinishAnswers, Ended};
 ghost use Rattle.ak_driver.specs.StatusContracts.{ReplayCause, Written, memory_line};
 ghost use Rattle.ak_outside.specs.declared.status.Status.TheVariants.{Schedule, Memory};
@@ -15,7 +15,7 @@ use ak_address::print_number;
 use ak_outside::{Sink, Source, Status, write_all};
 use ak_report::print_bytes;
 use ak_schedule::{Draft, Event, LineFault, is_passed_over, next_line, read_line};
-use ak_world::{Refused, World, print_step, print_summary};
+use ak_world::{Reason, Refused, World, print_step, print_summary};
 use std::alloc::{AllocError, Global};
 use std::mem;
 
@@ -32,18 +32,10 @@ enum Code {
     Malformed,
     // It is not the next header, or there is none.
     BadHeader,
-    // The world refuses its event: the reasons of `Refused`.
-    Unlisted,
-    UniqueUsed,
-    AddressInUse,
-    SecondFound,
-    UnknownNode,
-    NoPacket,
-    TooManyStarts,
     // It is past a limit on lines or events.
     PastLimit,
-    // Its event is not built yet.
-    NotBuilt,
+    // The world refuses its event.
+    Invalid(Reason),
 }
 
 impl Code {
@@ -53,16 +45,25 @@ impl Code {
         match self {
             Code::Malformed => b"S1",
             Code::BadHeader => b"S2",
-            Code::Unlisted => b"S3",
-            Code::UniqueUsed => b"S4",
-            Code::AddressInUse => b"S5",
-            Code::SecondFound => b"S6",
-            Code::UnknownNode => b"S7",
-            Code::NoPacket => b"S9",
-            Code::TooManyStarts => b"S11",
             Code::PastLimit => b"S12",
-            Code::NotBuilt => b"S13",
+            Code::Invalid(why) => reason_text(*why),
         }
+    }
+}
+
+// The code of a reason of the world.
+fn reason_text(why: Reason) -> &'static [u8]
+    ensures { result.now ≡ reason_text why }
+{
+    match why {
+        Reason::Unlisted => b"S3",
+        Reason::UniqueUsed => b"S4",
+        Reason::AddressInUse => b"S5",
+        Reason::SecondFound => b"S6",
+        Reason::UnknownNode => b"S7",
+        Reason::NoPacket { sent: _ } => b"S9",
+        Reason::TooManyStarts => b"S11",
+        Reason::NotBuilt => b"S13",
     }
 }
 
@@ -83,19 +84,12 @@ impl From<AllocError> for Stop {
     }
 }
 
-// Why the world takes no event ends a replay so.
+// Why the world did not apply an event ends a replay so.
 fn stop_of(why: Refused) -> Stop
     ensures { result ≡ stop_of why }
 {
     match why {
-        Refused::Unlisted => Stop::Refused(Code::Unlisted),
-        Refused::UniqueUsed => Stop::Refused(Code::UniqueUsed),
-        Refused::AddressInUse => Stop::Refused(Code::AddressInUse),
-        Refused::SecondFound => Stop::Refused(Code::SecondFound),
-        Refused::UnknownNode => Stop::Refused(Code::UnknownNode),
-        Refused::NoPacket { sent: _ } => Stop::Refused(Code::NoPacket),
-        Refused::TooManyStarts => Stop::Refused(Code::TooManyStarts),
-        Refused::NotBuilt => Stop::Refused(Code::NotBuilt),
+        Refused::Invalid(why) => Stop::Refused(Code::Invalid(why)),
         Refused::NoMemory => Stop::NoMemory,
     }
 }
@@ -149,7 +143,7 @@ impl Replay {
         requires open { IsPassedOver line.now → ⊥ }
         ensures ready { OnOk result (IsReady self.new.stage self.new.steps) }
         ensures line { self.new.line ≡ self.old.line }
-        ensures turn { TurnAnswers result line.now (progress_of self.old) (progress self.new.stage (self.old.line + 1) self.new.steps) out.old.items out.new.items }
+        ensures turn { TurnAnswers result line.now (progress_of self.old) (progress self.new.stage (self.old.line + 1)) out.old.items out.new.items }
     {
         match &mut self.stage {
             Stage::Heading(draft) => {
@@ -253,7 +247,7 @@ fn print_refusal(alloc: Global, code: Code, line: u64, out: &mut Vec<u8>) -> Res
 // Writes what was printed, and answers the status unless the sink fails.
 pub(crate) fn written<W: Sink>(output: &mut W, text: &[u8], status: Status) -> Status
     ensures count { W.faults output.old ≤ W.faults output.new }
-    ensures written { Written status text.now result (Rose (W.faults output.old) (W.faults output.new)) (W.written output.old) (W.written output.new) }
+    ensures written { Written status text.now result (W.faults output.old) (W.faults output.new) (W.written output.old) (W.written output.new) }
 {
     if write_all(output, text) {
         status
@@ -265,8 +259,8 @@ pub(crate) fn written<W: Sink>(output: &mut W, text: &[u8], status: Status) -> S
 // Whole steps stand in the output, and then the line on memory.
 fn out_of_memory<W: Sink>(output: &mut W, text: &[u8]) -> Status
     ensures count { W.faults output.old ≤ W.faults output.new }
-    ensures cause { ReplayCause result ⊥ (Rose (W.faults output.old) (W.faults output.new)) }
-    ensures written { Written Memory (text.now ++ memory_line) result (Rose (W.faults output.old) (W.faults output.new)) (W.written output.old) (W.written output.new) }
+    ensures cause { ReplayCause result 0 0 (W.faults output.old) (W.faults output.new) }
+    ensures written { Written Memory (text.now ++ memory_line) result (W.faults output.old) (W.faults output.new) (W.written output.old) (W.written output.new) }
 {
     if !write_all(output, text) {
         return Status::Write;
@@ -283,9 +277,9 @@ fn refused<W: Sink>(
     output: &mut W,
 ) -> Status
     ensures count { W.faults output.old ≤ W.faults output.new }
-    ensures cause { ReplayCause result ⊥ (Rose (W.faults output.old) (W.faults output.new)) }
-    ensures refused { Written Schedule (out.old.items ++ refusal_text code line) result (Rose (W.faults output.old) (W.faults output.new)) (W.written output.old) (W.written output.new)
-        ⊎ Written Memory (out.old.items ++ memory_line) result (Rose (W.faults output.old) (W.faults output.new)) (W.written output.old) (W.written output.new) }
+    ensures cause { ReplayCause result 0 0 (W.faults output.old) (W.faults output.new) }
+    ensures refused { Written Schedule (out.old.items ++ refusal_text code line) result (W.faults output.old) (W.faults output.new) (W.written output.old) (W.written output.new)
+        ⊎ Written Memory (out.old.items ++ memory_line) result (W.faults output.old) (W.faults output.new) (W.written output.old) (W.written output.new) }
 {
     match print_refusal(alloc, code, line, out) {
         Ok(()) => written(output, out, Status::Schedule),
@@ -302,8 +296,8 @@ fn ended<W: Sink>(
     output: &mut W,
 ) -> Status
     ensures count { W.faults output.old ≤ W.faults output.new }
-    ensures cause { ReplayCause result ⊥ (Rose (W.faults output.old) (W.faults output.new)) }
-    ensures ended { Ended end line out.old.items result (Rose (W.faults output.old) (W.faults output.new)) (W.written output.old) (W.written output.new) }
+    ensures cause { ReplayCause result 0 0 (W.faults output.old) (W.faults output.new) }
+    ensures ended { Ended end line out.old.items result (W.faults output.old) (W.faults output.new) (W.written output.old) (W.written output.new) }
 {
     match end {
         Ok(()) => written(output, out, Status::Done),
@@ -315,7 +309,7 @@ fn ended<W: Sink>(
 // Replays these bytes.
 fn replay_bytes<W: Sink>(alloc: Global, bytes: &[u8], output: &mut W) -> Status
     ensures count { W.faults output.old ≤ W.faults output.new }
-    ensures cause { ReplayCause result ⊥ (Rose (W.faults output.old) (W.faults output.new)) }
+    ensures cause { ReplayCause result 0 0 (W.faults output.old) (W.faults output.new) }
     ensures prints { Prints bytes.now result (W.written output.old) (W.written output.new) }
 {
     let mut replay = Replay::new(alloc);
@@ -341,7 +335,8 @@ fn replay_bytes<W: Sink>(alloc: Global, bytes: &[u8], output: &mut W) -> Status
 ///
 /// Answers `Done` where every line is accepted; `Schedule` where a line is refused, after the steps before it and a
 /// line that says which and why; `Read` where the source failed, and nothing else is read then; `Write` where the sink
-/// failed, and nothing else is written then; and `Memory`, after whole steps.
+/// failed, and nothing else is written then; and `Memory`, after whole steps. `Read` and `Write` come exactly where a
+/// fault came first: at each other status no count of faults rose.
 ///
 /// Where the bytes of the source are known, the sink took what the rules say of all of them, also where reading stopped at a
 /// limit before their end. After `Done` the source is at its end.
@@ -351,7 +346,7 @@ fn replay_bytes<W: Sink>(alloc: Global, bytes: &[u8], output: &mut W) -> Status
 pub fn run_replay<S: Source, W: Sink>(alloc: Global, input: &mut S, output: &mut W) -> Status
     ensures read { S.faults input.old ≤ S.faults input.new }
     ensures written { W.faults output.old ≤ W.faults output.new }
-    ensures cause { ReplayCause result (Rose (S.faults input.old) (S.faults input.new)) (Rose (W.faults output.old) (W.faults output.new)) }
+    ensures cause { ReplayCause result (S.faults input.old) (S.faults input.new) (W.faults output.old) (W.faults output.new) }
     ensures promise { Promises (S.remaining input.old) result (W.written output.old) (W.written output.new) }
     ensures end { IfSome (S.remaining input.old) (λ all. EndsSource result (S.remaining input.new)) }
     ensures complete { (bytes : List ℕ) → S.remaining input.old ≡ Some bytes → (Rose (S.faults input.old) (S.faults input.new) → ⊥) → (Rose (W.faults output.old) (W.faults output.new) → ⊥)
