@@ -1,5 +1,6 @@
 -- The elements of a list: of a first one and the rest, of those that pass a test, and of what becomes of each.
-use Rattle.std.proofs.Common.{◌≡◌, zero, suc, Bool, true, false, ◌||◌, cond, ◌⊎◌, inl, inr, List, [], ◌∷◌, map, Contains, refl, sym, ap, ◌∙◌, subst, arith, true≢false}
+use Rattle.std.proofs.Common.{◌≡◌, ℕ, zero, suc, Bool, true, false, ◌||◌, cond, ◌⊎◌, inl, inr, List, [], ◌∷◌, map, slice_get, Option, Some, Contains, refl, sym, ap, ◌∙◌, subst, arith, true≢false}
+use Rattle.std.proofs.lemmas.Option.{same_Some}
 use Rattle.std.specs.List.{list_any, filter}
 
 module _ {X : Type 0} where
@@ -63,6 +64,19 @@ module _ {X : Type 0} where
         further : (b : Bool) → Contains (filter p xs) x → Contains (cond b (y ∷ filter p xs) (filter p xs)) x
         further true h = contains_rest y x (filter p xs) h
         further false h = h
+
+  -- an element at an index
+  pub contains_at : (xs : List X) (index : ℕ) (x : X) → slice_get xs index ≡ Some x → Contains xs x
+  contains_at [] index x at = absurd cc
+  contains_at (y ∷ xs) zero x at = subst (Contains (y ∷ xs)) (same_Some y x at) (contains_first y xs)
+  contains_at (y ∷ xs) (suc index) x at = contains_rest y x xs (contains_at xs index x at)
+
+  pub index_of : (xs : List X) (x : X) → Contains xs x → (index : ℕ) × (slice_get xs index ≡ Some x)
+  index_of [] x there = absurd (contains_nothing x there)
+  index_of (y ∷ xs) x there = elim (first_or_rest y x xs there) [
+    | inl same ↦ (zero, ap Some (sym same))
+    | inr later ↦ let h = index_of xs x later in (suc h.0, h.1)
+  ]
 
 -- what becomes of each
 module _ {X Y : Type 0} (f : X → Y) where
