@@ -6,3 +6,4 @@ pub mod StandingLaws
 pub mod ViewLaws
 pub mod MemberLemmas
 pub mod MembersLaws
+pub mod SetLaws
