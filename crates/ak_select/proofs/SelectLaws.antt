@@ -1,20 +1,20 @@
 -- Who is chosen, and when nobody is.
-use Rattle.std.proofs.Common.{◌≡◌, ◌≢◌, ◌↔◌, ℕ, ◌+◌, ◌<◌, ◌≤◌, ◌==◌, Bool, true, false, not, ◌&&◌, List, [], ◌∷◌, map, length, Contains, Option, Some, None, is_some, IsTrue, ◌⊎◌, inl, inr, if◌then◌else◌, refl, sym, ap, ◌∙◌, subst, arith, true≢false}
+use Rattle.std.proofs.Common.{◌≡◌, ◌↔◌, ℕ, Bool, true, false, not, ◌&&◌, List, [], ◌∷◌, map, length, Contains, Option, Some, None, is_some, ◌⊎◌, inl, inr, refl, sym, ap, ◌∙◌, arith, true≢false}
 use Rattle.std.specs.FinMap as finmap
 use Rattle.std.specs.List.{filter}
-use Rattle.std.specs.Ordering.{is_eq, eq_by_cmp}
+use Rattle.std.specs.Ordering.{is_eq}
 use Rattle.ak_address.specs.Unique.{UniqueModel, unique_cmp}
 use Rattle.ak_address.specs.Uniques.{UniqueSet, has}
 use Rattle.ak_address.proofs.Elements.{contains_nothing, in_filter, filter_in, in_map, map_in, contains_at}
 use Rattle.ak_address.proofs.TableLaws.{key_itself, other_key}
 use Rattle.ak_member.specs.declared.status.Status.{Status}
-use Rattle.ak_member.specs.Standing.{Standings, is_member, member_of, members_of}
+use Rattle.ak_member.specs.Standing.{Standings, member_of, members_of}
 use Rattle.ak_member.specs.View.{View}
 use Rattle.ak_member.proofs.MembersLaws.{members_have, have_members}
-use Rattle.ak_reach.specs.Unreachable.{unreachable_members, IsUnreachable}
+use Rattle.ak_reach.specs.Unreachable.{unreachable_members}
 use Rattle.ak_reach.proofs.UnreachableLaws.{unreachable_means}
 use Rattle.ak_select.specs.Select.{is_reachable_other, reachable_others, unless_empty, candidates, chosen, peer, IsReachableOther}
-use Rattle.ak_select.proofs.SelectLemmas.{nobody_chosen, somebody_chosen}
+use Rattle.ak_select.proofs.SelectLemmas.{somebody_chosen}
 
 abbrev process : UniqueModel × (Status × ℕ) → UniqueModel
 process pair = pair.0

@@ -1,6 +1,5 @@
 use Rattle.std.proofs.Common.{length, option_copied, arith}
 use Rattle.std.specs.FinMap as map
-use Rattle.ak_address.specs.Uniques.{UniqueSet}
 use Rattle.ak_member.specs.View.{View}
 use Rattle.ak_member.proofs.MemberLemmas.{counted_more, all_counted, one_there, none_there}
 use Rattle.ak_select.specs.Walk.{candidates_among}
