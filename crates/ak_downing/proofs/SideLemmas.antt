@@ -1,6 +1,6 @@
 -- The counted members that pass a test, along the pairs of a table: how many they are, which is the first, and which
 -- members go down.
-use Rattle.std.proofs.Common.{◌≡◌, ℕ, zero, suc, ◌+◌, ◌≤◌, Bool, true, false, cond, ◌&&◌, not, List, [], ◌∷◌, ◌++◌, map, length, drop, slice_get, Option, Some, None, option_map, option_to_list, refl, sym, ap, ◌∙◌, append_assoc, append-nil, subst, arith, true≢false}
+use Rattle.std.proofs.Common.{◌≡◌, ℕ, ◌+◌, ◌≤◌, Bool, true, false, cond, ◌&&◌, not, List, [], ◌∷◌, ◌++◌, length, drop, slice_get, Option, Some, None, option_map, option_to_list, refl, sym, ap, ◌∙◌, append_assoc, append-nil, arith}
 use Rattle.std.specs.List.{filter}
 use Rattle.ak_address.specs.Unique.{UniqueModel}
 use Rattle.ak_member.specs.declared.effect.Effect.{Effect}

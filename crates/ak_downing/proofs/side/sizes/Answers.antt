@@ -1,8 +1,6 @@
 use Rattle.std.specs.FinMap as map
-use Rattle.std.proofs.Common.{◌≡◌, ℕ, ◌+◌, Bool, true, false, not, length, drop, sym, ap, ◌∙◌, arith}
-use Rattle.std.specs.List.{filter}
+use Rattle.std.proofs.Common.{◌≡◌, ℕ, Bool, true, false, not, length, sym, ap, ◌∙◌, arith}
 use Rattle.ak_address.specs.Unique.{UniqueModel}
-use Rattle.ak_member.proofs.OldestLaws.{counted_among}
 use Rattle.ak_downing.specs.Downing.{counted_beside, counted_apart}
 use Rattle.ak_downing.specs.Sides.{seen_with}
 use Rattle.ak_downing.proofs.SideLemmas.{beside_pair, passes, fails, nobody_there, all_there}
