@@ -1,5 +1,5 @@
 -- How many addresses some of the counted members have, along the pairs.
-use Rattle.std.proofs.Common.{◌≡◌, ℕ, ◌+◌, ◌≤◌, Bool, true, false, cond, T, List, [], ◌∷◌, ◌++◌, map, length, drop, slice_get, Option, Some, None, option_to_list, ◌⊎◌, inl, inr, refl, sym, ap, ◌∙◌, subst}
+use Rattle.std.proofs.Common.{◌≡◌, ℕ, ◌+◌, ◌≤◌, Bool, true, false, cond, T, List, [], ◌∷◌, map, length, drop, slice_get, Option, Some, None, option_to_list, ◌⊎◌, inl, inr, refl, ap, subst}
 use Rattle.std.specs.FinMap.{is_sorted}
 use Rattle.std.specs.List.{filter}
 use Rattle.ak_address.specs.Unique.{UniqueModel, unique_cmp}
