@@ -11,6 +11,6 @@ mod tests;
 
 pub use decision::Decision;
 pub use downed::downs;
-pub use laws::one_side_at_most_goes_on;
+pub use laws::{decisions_down_members, one_side_at_most_goes_on};
 pub use resolve::decide;
 pub use side::reachable_addresses;
