@@ -22,7 +22,7 @@ pub second : (a b : Bool) → T (a && b) → T b
 second true b p = p
 second false b p = absurd p
 
-less : (o : Ordering) → T (is_lt o) → o ≡ Less
+pub less : (o : Ordering) → T (is_lt o) → o ≡ Less
 less Less p = refl
 less Equal p = absurd p
 less Greater p = absurd p
@@ -147,7 +147,7 @@ module _ {K X : Type 0} (R : K → K → Ordering) where
             | Greater ↦ λ above. indexed_later q e es _ above (indexed q es (second _ _ h))
           ] refl
 
-      -- what a search says of a key
+      -- what a search told of a key
       pub known : (q : K) (es : List (K × X)) → T (is_sorted R es) → (r : Result ℕ ℕ) → r ≡ index R q es → MatchResult r (Stands q es) (Goes q es)
       known q es h r is = subst (λ r. MatchResult r (Stands q es) (Goes q es)) (sym is) (indexed q es h)
 

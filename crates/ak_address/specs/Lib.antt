@@ -1,3 +1,4 @@
+pub mod Distinct
 pub mod Pairs
 pub mod Spelling
 pub mod Table

@@ -1,7 +1,6 @@
-ghost use Rattle.std.specs.Prelude.{◌≡◌, ◌++◌, IfOk, OnOk, OnErr};
-ghost use Rattle.std.specs.Cmp.{IsTotalOrder};
-ghost use Rattle.std.specs.FinMap.{IsAntisymmetric};
+ghost use Rattle.std.specs.Prelude.{◌≡◌, ◌++◌, IfOk, OnOk, OnErr, option_copied};
 ghost use Rattle.ak_address.specs.Unique.{address_cmp, unique_cmp};
+ghost use Rattle.ak_address.specs.Distinct.{is_at_address};
 ghost use Rattle.ak_address.specs.Spelling.{address_text, unique_text};
 
 use crate::print::{print_address, print_unique};
@@ -108,5 +107,15 @@ impl Unique {
         ensures err { OnErr result (out.new.items ≡ out.old.items) }
     {
         print_unique(self.address.host.bytes(), self.address.port, self.uid, out)
+    }
+}
+
+/// Whether the first process, where there is one, is at the address of the second. Takes no memory.
+pub fn shares_address(first: Option<&Unique>, second: &Unique) -> bool
+    ensures { result ≡ is_at_address (option_copied first.entry) second.now }
+{
+    match first {
+        Some(first) => first.address.compare(&second.address).is_eq(),
+        None => false,
     }
 }

@@ -1,8 +1,9 @@
-ghost use Rattle.std.specs.Prelude.{◌≡◌, ℕ, ◌<◌, ◌≤◌, ◌^◌, List, All, decimal};
+ghost use Rattle.std.specs.Prelude.{◌≡◌, ℕ, ◌*◌, ◌<◌, ◌≤◌, ◌^◌, List, All, Contains, decimal};
 ghost use Rattle.std.specs.Cmp.{IsTotalOrder};
 ghost use Rattle.std.specs.FinMap.{IsAntisymmetric};
 ghost use Rattle.std.specs.FinMap as map;
 ghost use Rattle.ak_address.specs.Unique.{AddressModel, UniqueModel, IsAddress, IsUnique, address_cmp, unique_cmp};
+ghost use Rattle.ak_address.specs.Distinct.{distinct};
 ghost use Rattle.ak_address.specs.Spelling.{IsNumber, IsWord, SpellsAddress, SpellsUnique, address_text, unique_text};
 ghost use Rattle.ak_address.specs.Table.{merged_tables, merged_at};
 
@@ -41,4 +42,10 @@ pub fn texts_are_spellings()
 /// each process are equal, so this is all of it.
 pub fn merges_are_pointwise<V: Merge>()
     ensures { (m n : map.FinMap unique_cmp V) (q : UniqueModel) → map.get (merged_tables V.merged m n) q ≡ merged_at V.merged (map.get m q) (map.get n q) }
+{}
+
+/// Two quorums share an address: out of fewer than twice a quorum of different addresses, two choices that each have a
+/// quorum of different ones have one in common (that a quorum is counted in addresses is this project's choice).
+pub fn quorums_share_an_address()
+    ensures { (listed one other : List AddressModel) (quorum : ℕ) → ((a : AddressModel) → Contains one a → Contains listed a) → ((a : AddressModel) → Contains other a → Contains listed a) → distinct listed < 2 * quorum → quorum ≤ distinct one → quorum ≤ distinct other → (shared : AddressModel) × Contains one shared × Contains other shared }
 {}

@@ -13,10 +13,10 @@ mod text;
 mod uniques;
 mod values;
 
-pub use address::{Address, Unique};
+pub use address::{Address, Unique, shares_address};
 pub use laws::{
-    merges_are_pointwise, orders_are_total, spellings_are_words, spellings_have_one_value,
-    texts_are_spellings,
+    merges_are_pointwise, orders_are_total, quorums_share_an_address, spellings_are_words,
+    spellings_have_one_value, texts_are_spellings,
 };
 pub use parse::{
     AddressFault, is_address, is_unique, parse_address, parse_number, parse_unique};

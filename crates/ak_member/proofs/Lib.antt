@@ -5,3 +5,5 @@ pub mod OldestLaws
 pub mod StandingLaws
 pub mod ViewLaws
 pub mod MemberLemmas
+pub mod MembersLaws
+pub mod SetLaws

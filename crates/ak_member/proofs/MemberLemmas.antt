@@ -1,8 +1,13 @@
 -- Walks along the pairs of a table that count, or look for, the pairs of one kind: `rows_of` gives those of a list. And
 -- a walk that keeps the last that it finds.
-use Rattle.std.proofs.Common.{◌≡◌, ℕ, zero, suc, ◌+◌, ◌-◌, ◌≤◌, List, [], ◌∷◌, ◌++◌, length, drop, slice_get, Option, Some, None, ◌≢◌, is_some, option_map, option_to_list, true, false, refl, sym, ap, ◌∙◌, arith, true≢false}
+use Rattle.std.proofs.Common.{◌≡◌, ℕ, zero, suc, ◌+◌, ◌-◌, ◌≤◌, List, [], ◌∷◌, ◌++◌, map, length, drop, T, slice_get, Option, Some, None, ◌≢◌, Bool, cond, is_some, option_map, option_to_list, ◌⊎◌, inl, inr, true, false, refl, sym, ap, ◌∙◌, subst, arith, true≢false}
 use Rattle.std.proofs.lemmas.List.{drop_all}
-use Rattle.ak_address.specs.Unique.{UniqueModel}
+use Rattle.std.specs.List.{filter}
+use Rattle.std.specs.FinMap.{is_sorted}
+use Rattle.std.specs.FinMap.Entries.{below_all}
+use Rattle.ak_address.specs.Unique.{UniqueModel, unique_cmp}
+use Rattle.ak_address.proofs.Pairs.{first, second, less}
+use Rattle.ak_address.proofs.DistinctLaws.{IsBelow, AreRising}
 use Rattle.ak_member.specs.declared.standing.Standing.{Standing}
 use Rattle.ak_member.specs.declared.standing.Standing.TheVariants.{Member, Buried}
 use Rattle.ak_member.specs.Standing.{member_pairs, tombstone_pairs}
@@ -101,3 +106,39 @@ keeps_tombstones = record { none = refl; more = tombstones_more }
     tombstones_more : (x : UniqueModel × Standing) (xs : List (UniqueModel × Standing)) → tombstone_pairs (x ∷ xs) ≡ tombstone_pairs (x ∷ []) ++ tombstone_pairs xs
     tombstones_more (who, Member status number) xs = refl
     tombstones_more (who, Buried confirmed) xs = refl
+
+-- what becomes of each that is kept
+pub keeps_mapped : {X Y Z : Type 0} (kept : List X → List Y) → KeepsPairs kept → (f : Y → Z) → KeepsPairs (λ xs. map f (kept xs))
+keeps_mapped kept k f = record { none = ap (map f) k.none; more = λ x xs. ap (map f) (k.more x xs) ∙ mapped_append f (kept (x ∷ [])) (kept xs) }
+  where
+    mapped_append : {Y Z : Type 0} (f : Y → Z) (xs ys : List Y) → map f (xs ++ ys) ≡ map f xs ++ map f ys
+    mapped_append f [] ys = refl
+    mapped_append f (x ∷ xs) ys = ap (λ l. f x ∷ l) (mapped_append f xs ys)
+
+-- and those of them that pass a test
+pub keeps_filtered : {X Y : Type 0} (kept : List X → List Y) → KeepsPairs kept → (p : Y → Bool) → KeepsPairs (λ xs. filter p (kept xs))
+keeps_filtered kept k p = record { none = ap (filter p) k.none; more = λ x xs. ap (filter p) (k.more x xs) ∙ filtered_append p (kept (x ∷ [])) (kept xs) }
+  where
+    filtered_append : {Y : Type 0} (p : Y → Bool) (xs ys : List Y) → filter p (xs ++ ys) ≡ filter p xs ++ filter p ys
+    filtered_append p [] ys = refl
+    filtered_append p (x ∷ xs) ys = next (p x) (filtered_append p xs ys)
+      where
+        next : (b : Bool) → filter p (xs ++ ys) ≡ filter p xs ++ filter p ys → cond b (x ∷ filter p (xs ++ ys)) (filter p (xs ++ ys)) ≡ cond b (x ∷ filter p xs) (filter p xs) ++ filter p ys
+        next true h = ap (λ l. x ∷ l) h
+        next false h = h
+
+-- the processes of some pairs in order are in order
+module _ {X : Type 0} (kept : List (UniqueModel × X) → List UniqueModel) (k : KeepsPairs kept) (own : (pair : UniqueModel × X) → (kept (pair ∷ []) ≡ []) ⊎ (kept (pair ∷ []) ≡ pair.0 ∷ [])) where
+  kept_below : (u : UniqueModel) (es : List (UniqueModel × X)) → T (below_all unique_cmp u es) → IsBelow u (kept es)
+  kept_below u [] h = subst (IsBelow u) (sym k.none) tt
+  kept_below u (e ∷ es) h = elim (own e) [
+    | inl none ↦ subst (IsBelow u) (sym (k.more e es ∙ ap (λ l. l ++ kept es) none)) (kept_below u es (second _ _ h))
+    | inr one ↦ subst (IsBelow u) (sym (k.more e es ∙ ap (λ l. l ++ kept es) one)) (less _ (first _ _ h), kept_below u es (second _ _ h))
+  ]
+
+  pub kept_rising : (es : List (UniqueModel × X)) → T (is_sorted unique_cmp es) → AreRising (kept es)
+  kept_rising [] h = subst AreRising (sym k.none) tt
+  kept_rising (e ∷ es) h = elim (own e) [
+    | inl none ↦ subst AreRising (sym (k.more e es ∙ ap (λ l. l ++ kept es) none)) (kept_rising es (second _ _ h))
+    | inr one ↦ subst AreRising (sym (k.more e es ∙ ap (λ l. l ++ kept es) one)) (kept_below e.0 es (first _ _ h), kept_rising es (second _ _ h))
+  ]

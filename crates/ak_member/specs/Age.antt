@@ -1,12 +1,10 @@
 -- The age of members: Up and Leaving members count, and the one that became Up first is the oldest (Akka's Cluster
 -- Singleton: the singleton runs on the oldest member).
-use Rattle.std.specs.Prelude.{◌≡◌, ◌↔◌, ℕ, ◌+◌, ◌≤◌, ◌<◌, nat_lt, ◌||◌, ◌==◌, Bool, true, false, IsTrue, List, [], ◌∷◌, Option, None, Some, option_map, slice_get, Contains, ◌⊎◌, if◌then◌else◌}
+use Rattle.std.specs.Prelude.{◌≡◌, ◌↔◌, ℕ, ◌≤◌, ◌<◌, nat_lt, ◌==◌, Bool, true, false, IsTrue, List, [], ◌∷◌, Option, None, Some, option_map, slice_get, Contains, ◌⊎◌, if◌then◌else◌}
 use Rattle.std.specs.Prelude as list
 use Rattle.std.specs.FinMap as map
-use Rattle.std.specs.List.{list_any}
 use Rattle.std.specs.declared.cmp.Ordering.TheVariants.{Less}
-use Rattle.std.specs.Ordering.{is_eq}
-use Rattle.ak_address.specs.Unique.{AddressModel, UniqueModel, address_cmp, unique_cmp}
+use Rattle.ak_address.specs.Unique.{AddressModel, UniqueModel, unique_cmp}
 use Rattle.ak_member.specs.declared.status.Status.{Status}
 use Rattle.ak_member.specs.declared.status.Status.TheVariants.{Joining, Up, Leaving, Exiting, Down}
 use Rattle.ak_member.specs.Standing.{Standings, member_of, members_of}
@@ -47,11 +45,6 @@ IsOldest s None = (who : UniqueModel) (number : ℕ) → IsCounted s who number 
 IsOldest s (Some who) =
     (number : ℕ) × IsCounted s who number
     × ((other : UniqueModel) (later : ℕ) → IsCounted s other later → (number < later) ⊎ ((number ≡ later) × ((other ≡ who) ⊎ (unique_cmp who other ≡ Less))))
-
--- how many different addresses there are
-abbrev pub distinct : List AddressModel → ℕ
-distinct [] = 0
-distinct (a ∷ rest) = if list_any (λ b. is_eq (address_cmp a b)) rest then distinct rest else distinct rest + 1
 
 -- the addresses of the counted members
 abbrev pub counted_addresses : Standings → List AddressModel

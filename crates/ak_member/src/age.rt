@@ -1,15 +1,13 @@
 ghost use Rattle.std.specs.Prelude.{◌≡◌, ◌<◌, ◌^◌, [], ◌∷◌, ◌++◌, IfOk, OnOk, slice_get, option_map, option_to_list, option_copied};
 ghost use Rattle.std.specs.Prelude as list;
-ghost use Rattle.std.specs.List.{list_any};
-ghost use Rattle.std.specs.Ordering.{is_eq};
 ghost use Rattle.std.specs.FinMap as map;
-ghost use Rattle.ak_address.specs.Unique.{address_cmp};
+ghost use Rattle.ak_address.specs.Distinct.{distinct};
 ghost use Rattle.ak_member.specs.Standing.{member_pairs, members_of};
-ghost use Rattle.ak_member.specs.Age.{counted_pairs, least_pair, oldest, IsOldest, distinct, counted_addresses, IsByAge};
+ghost use Rattle.ak_member.specs.Age.{counted_pairs, least_pair, oldest, IsOldest, counted_addresses, IsByAge};
 ghost use Rattle.ak_member.specs.Indices.{indexed_from};
 
 use crate::members::{Member, Members};
-use ak_address::Unique;
+use ak_address::{Unique, shares_address};
 use std::alloc::{AllocError, Global};
 
 impl Members {
@@ -37,6 +35,17 @@ impl Members {
         indices_of(alloc, &counted)
     }
 
+    /// The process and the up number of the member at a pair, where there is one and it is Up or Leaving: a pair is an
+    /// index among all that are known, from 0 on in the order of processes. Takes no memory.
+    pub fn counted_at_pair(&self, pair: usize) -> Option<(&Unique, u64)>
+        ensures { option_to_list (option_map (λ r. (r.0.now, r.1)) result) ≡ counted_pairs (member_pairs (option_to_list (slice_get (map.entries self.now) pair))) }
+    {
+        match self.member_at_pair(pair) {
+            Some(member) => counted_one(&member),
+            None => None,
+        }
+    }
+
     /// How many different addresses the Up and Leaving members have: what the resolver counts against a quorum (Akka's
     /// "Split Brain Resolver", "Static Quorum"; that addresses are counted and not processes is this project's choice).
     /// Takes no memory.
@@ -47,7 +56,7 @@ impl Members {
         let mut count = 0;
         let mut last = None;
         'pairs: for pair in 0..self.uniques() {
-            if let Some((unique, _)) = counted_at(self, pair) {
+            if let Some((unique, _)) = self.counted_at_pair(pair) {
                 if !shares_address(last, unique) {
                     count += 1;
                 }
@@ -55,16 +64,6 @@ impl Members {
             }
         }
         count
-    }
-}
-
-// The process and the up number of the member at a row, where there is one that counts.
-fn counted_at(members: &Members, pair: usize) -> Option<(&Unique, u64)>
-    ensures { option_to_list (option_map (λ r. (r.0.now, r.1)) result) ≡ counted_pairs (member_pairs (option_to_list (slice_get (map.entries members.now) pair))) }
-{
-    match members.member_at_pair(pair) {
-        Some(member) => counted_one(&member),
-        None => None,
     }
 }
 
@@ -83,7 +82,7 @@ fn oldest_pair(members: &Members) -> Option<(&Unique, u64)>
 {
     let mut oldest = None;
     'pairs: for pair in 0..members.uniques() {
-        oldest = older(oldest, counted_at(members, pair));
+        oldest = older(oldest, members.counted_at_pair(pair));
     }
     oldest
 }
@@ -104,16 +103,6 @@ fn older<'a>(
         }
         (Some(first), None) => Some(first),
         (None, second) => second,
-    }
-}
-
-// Whether the last process has the address of this one.
-fn shares_address(last: Option<&Unique>, unique: &Unique) -> bool
-    ensures { result ≡ list_any (λ u. is_eq (address_cmp u.address unique.now.address)) (option_to_list (option_copied last.entry)) }
-{
-    match last {
-        Some(last) => last.address.compare(&unique.address).is_eq(),
-        None => false,
     }
 }
 

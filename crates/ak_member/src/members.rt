@@ -131,8 +131,9 @@ impl Members {
         member_in(&self.table, index)
     }
 
-    // The member at an index among all that are known, where there is one.
-    pub(crate) fn member_at_pair(&self, pair: usize) -> Option<Member<'_>>
+    /// The member at a pair, where there is one: a pair is an index among all that are known, from 0 on in the order of
+    /// processes. It reads one pair alone, so whoever walks all members takes it. Takes no memory.
+    pub fn member_at_pair(&self, pair: usize) -> Option<Member<'_>>
         ensures { option_to_list (option_map (λ m. (m.unique.now, (m.status, m.up_number))) result) ≡ member_pairs (option_to_list (slice_get (map.entries self.now) pair)) }
     {
         member_at(&self.table, pair)
@@ -246,7 +247,7 @@ impl Members {
     }
 }
 
-// The member at an index of the table, where there is one.
+// The member at a pair of the table, where there is one.
 fn member_at(table: &Table<Standing>, pair: usize) -> Option<Member<'_>>
     ensures { option_to_list (option_map (λ m. (m.unique.now, (m.status, m.up_number))) result) ≡ member_pairs (option_to_list (slice_get (map.entries table.now) pair)) }
 {
@@ -261,7 +262,7 @@ fn member_at(table: &Table<Standing>, pair: usize) -> Option<Member<'_>>
     }
 }
 
-// The tombstone at an index of the table, where there is one.
+// The tombstone at a pair of the table, where there is one.
 fn tombstone_at(table: &Table<Standing>, pair: usize) -> Option<Tombstone<'_>>
     ensures { option_to_list (option_map (λ t. (t.unique.now, t.confirmed)) result) ≡ tombstone_pairs (option_to_list (slice_get (map.entries table.now) pair)) }
 {

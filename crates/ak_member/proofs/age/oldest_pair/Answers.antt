@@ -5,7 +5,7 @@ use Rattle.ak_member.proofs.age.oldest_pair.Goals as goal
 
 pub pairs-preserved : goal.pairs-preserved
 pairs-preserved c =
-    least_more (λ r. (r.0.now, r.1)) c.pairs.oldest c.counted_at.result (λ r. (r.0.now, r.1)) c.older-oldest.result (map.entries c.args.members.now) c.pairs.pair _ c.counted_at.ensures c.older-oldest.ensures c.pairs.invariant
+    least_more (λ r. (r.0.now, r.1)) c.pairs.oldest c.counted_at_pair.result (λ r. (r.0.now, r.1)) c.older-oldest.result (map.entries c.args.members.now) c.pairs.pair _ c.counted_at_pair.ensures c.older-oldest.ensures c.pairs.invariant
 
 pub returns : goal.returns
 returns c =

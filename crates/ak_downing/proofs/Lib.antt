@@ -1,0 +1,3 @@
+pub mod DownedLaws
+pub mod SideLemmas
+pub mod SidesLaws

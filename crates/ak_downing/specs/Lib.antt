@@ -1,0 +1,2 @@
+pub mod Downing
+pub mod Sides

@@ -1,0 +1,57 @@
+-- Candidates along the pairs of a table, and the one of a list that a word chooses.
+use Rattle.std.proofs.Common.{◌≡◌, ℕ, ◌<◌, ◌%◌, not, List, [], ◌∷◌, map, length, Option, Some, None, is_some, inl, inr, slice_get, refl, sym, ap, ◌∙◌, arith, true≢false}
+use Rattle.std.proofs.Math.Nat.{mod-lt}
+use Rattle.std.proofs.lemmas.Option.{slice_get_cases, slice_get_past}
+use Rattle.std.specs.FinMap as finmap
+use Rattle.std.specs.List.{filter}
+use Rattle.ak_address.specs.Unique.{UniqueModel}
+use Rattle.ak_address.specs.Uniques.{UniqueSet, has}
+use Rattle.ak_member.specs.declared.status.Status.{Status}
+use Rattle.ak_member.specs.Standing.{member_pairs}
+use Rattle.ak_member.specs.View.{View}
+use Rattle.ak_member.proofs.MemberLemmas.{KeepsPairs, keeps_members, keeps_mapped, keeps_filtered}
+use Rattle.ak_select.specs.Select.{is_reachable_other, reachable_others, unless_empty, chosen, peer}
+use Rattle.ak_select.specs.Walk.{is_passed_over, others_among, candidates_among}
+
+pub keeps_candidates : (v : View) (me : UniqueModel) (seen : Option UniqueSet) → KeepsPairs (candidates_among v me seen)
+keeps_candidates v me seen =
+    keeps_filtered (others_among v me)
+    (keeps_filtered (λ pairs. map (λ (pair : UniqueModel × (Status × ℕ)). pair.0) (member_pairs pairs)) (keeps_mapped member_pairs keeps_members (λ (pair : UniqueModel × (Status × ℕ)). pair.0)) (is_reachable_other v me))
+    (λ who. not (is_passed_over seen who))
+
+-- ---- the chosen one
+pub nobody_chosen : (word : ℕ) (xs : List UniqueModel) → length xs ≡ 0 → None ≡ chosen word xs
+nobody_chosen word xs none = sym (slice_get_past xs (word % length xs) (omega arith))
+
+pub somebody_chosen : (word : ℕ) (xs : List UniqueModel) → 0 < length xs → (x : UniqueModel) × (chosen word xs ≡ Some x)
+somebody_chosen word xs some = elim (slice_get_cases xs (word % length xs)).1 [
+  | inl there ↦ (there.0, there.2)
+  | inr past ↦ let lt = mod-lt word {m = length xs} some in let le = past.0 in absurd (omega arith)
+]
+
+pub chosen_at : (word count : ℕ) (xs : List UniqueModel) → count ≡ length xs → slice_get xs (word % count) ≡ chosen word xs
+chosen_at word count xs is = ap (λ n. slice_get xs (word % n)) is
+
+-- ---- some first, else all
+first_chosen : (word : ℕ) (unseen others : List UniqueModel) (who : UniqueModel) → Some who ≡ chosen word unseen → Some who ≡ chosen word (unless_empty unseen others)
+first_chosen word [] others who is = absurd (true≢false (ap is_some (is ∙ sym (nobody_chosen word [] refl))))
+first_chosen word (x ∷ unseen) others who is = is
+
+second_chosen : (word : ℕ) (unseen others : List UniqueModel) → None ≡ chosen word unseen → chosen word others ≡ chosen word (unless_empty unseen others)
+second_chosen word [] others none = refl
+second_chosen word (x ∷ unseen) others none =
+    let some = somebody_chosen word (x ∷ unseen) (omega arith) in
+    absurd (true≢false (sym (ap is_some (none ∙ some.1))))
+
+all_pass : (xs : List UniqueModel) → filter (λ who. not (is_passed_over None who)) xs ≡ xs
+all_pass [] = refl
+all_pass (x ∷ xs) = ap (λ l. x ∷ l) (all_pass xs)
+
+pub peer_unseen : (word : ℕ) (v : View) (seen : UniqueSet) (me who : UniqueModel) → Some who ≡ chosen word (candidates_among v me (Some seen) (finmap.entries v.standings)) → Some who ≡ peer word v seen me
+peer_unseen word v seen me who is = first_chosen word (filter (λ who. not (has seen who)) (reachable_others v me)) (reachable_others v me) who is
+
+pub peer_seen : (word : ℕ) (v : View) (seen : UniqueSet) (me : UniqueModel) → None ≡ chosen word (candidates_among v me (Some seen) (finmap.entries v.standings))
+    → chosen word (candidates_among v me None (finmap.entries v.standings)) ≡ peer word v seen me
+peer_seen word v seen me none =
+    ap (chosen word) (all_pass (reachable_others v me))
+    ∙ second_chosen word (filter (λ who. not (has seen who)) (reachable_others v me)) (reachable_others v me) none

@@ -1,0 +1,10 @@
+//! To whom a node gossips.
+#![tactic(auto)]
+
+mod laws;
+mod select;
+#[cfg(test)]
+mod tests;
+
+pub use laws::the_peer_is_another_reachable_member;
+pub use select::peer;
