@@ -1,7 +1,7 @@
 //! The edge to the outside: where bytes come from and go to, with a count of the faults, and the
 //! exit status of a run. A program is proved over the traits. They have the implementations below: in
-//! memory, over any reader or writer, and at the real edge, where no bytes are known: there the calls
-//! that `StdSource` and `StdSink` make of the runtime are trusted.
+//! memory, over any reader or writer, and at the real edge, where the runtime's own reader and writer are
+//! trusted and no bytes are known.
 #![tactic(auto)]
 
 mod memory;

@@ -53,7 +53,7 @@ fn read_some<T: io::Read>(calls: &mut Counted<Scratch<T>>, room: usize) -> Optio
 
 impl<T: io::Read> ReaderSource<T> {
     /// A source over the reader. It has not failed.
-    pub fn new(reader: T) -> Self
+    pub fn over(reader: T) -> Self
         ensures left { ⟦<ReaderSource<T> as Source>⟧.remaining result ≡ T.remaining reader }
         ensures faults { ⟦<ReaderSource<T> as Source>⟧.faults result ≡ 0 }
     {

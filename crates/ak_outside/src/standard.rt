@@ -1,16 +1,14 @@
-// Standard input and output, at the edge. What is done with the answers of their calls is proved over any
-// reader and any writer. What is trusted:
+// Standard input and output, at the edge: a source over the runtime's reader and a sink over its writer.
+// What is done with their answers is proved over any reader and any writer. What is trusted:
 // - that the runtime's reader gives the bytes of standard input that are left, in their order;
 // - that the runtime's writer writes to standard output, and that what it has written needs no flush;
-// - that both answer an error exactly where the system does, of the kind `Interrupted` for a signal;
-// - the one line of each read and write below, which hands the call on to that reader or writer.
-ghost use Rattle.std.specs.Prelude.{◌≡◌, ◌≤◌, None};
+// - that both answer an error exactly where the system does, of the kind `Interrupted` for a signal.
+ghost use Rattle.std.specs.Prelude.{◌≡◌, ◌≤◌};
 ghost use Rattle.ak_outside.specs.Tries.{CountsFailure};
 ghost use Rattle.ak_outside.specs.Reads.{FitsBuffer, LeavesRest, GivesFirst, EndsExactly, ReadCause, read_count};
-ghost use Rattle.ak_outside.specs.Writes.{FitsPiece, TakesFirst, WriteCause, write_count};
 
 use crate::reader::ReaderSource;
-use crate::sink::{Sink, Wrote};
+use crate::sink::Sink;
 use crate::source::{Read, Source};
 use crate::writer::WriterSink;
 use std::io;
@@ -39,7 +37,7 @@ impl<'a, R: Input> StdSource<'a, R> {
         ensures { result.faults ≡ 0 }
     {
         StdSource {
-            source: ReaderSource::new(rt.reader()),
+            source: ReaderSource::over(rt.reader()),
             runtime: PhantomData,
         }
     }
@@ -71,52 +69,15 @@ impl<'a, R: Input> Source for StdSource<'a, R> {
     }
 }
 
-/// Standard output. Callers see its count of faults; what was written is not known.
-#[derive(Drop)]
-pub struct StdSink<'a, R> {
-    sink: WriterSink<Printer<'a, R>>,
-}
+/// Standard output: a sink over the runtime's writer, of which no bytes are known. A write has left the
+/// process when it returns.
+pub type StdSink<'a, R> = WriterSink<Printer<'a, R>>;
 
-impl<'a, R> Model for StdSink<'a, R> {
-    ghost use Rattle.std.specs.Prelude.{ℕ};
-
-    ghost Value = { ℕ };
-
-    ghost view = { λ s. s.sink.calls.fault_count };
-}
-
-impl<'a, R: Print> StdSink<'a, R> {
+impl<'a, R: Print> WriterSink<Printer<'a, R>> {
     /// Standard output as the runtime has it. It has not failed.
     pub fn new(rt: &'a R) -> Self
-        ensures { result ≡ 0 }
+        ensures { ⟦<WriterSink<Printer<'a, R>> as Sink>⟧.faults result ≡ 0 }
     {
-        StdSink {
-            sink: WriterSink::new(io::writer(rt)),
-        }
-    }
-
-    /// How many writes have failed, at most 2^64 - 1.
-    pub fn faults(&self) -> u64
-        ensures { result ≡ self.now }
-    {
-        self.sink.faults()
-    }
-}
-
-impl<'a, R: Print> Sink for StdSink<'a, R> {
-    ghost written = { λ _. None };
-
-    ghost faults = { λ s. s };
-
-    /// One write, which has left the process when it returns. An interrupted one is tried again;
-    /// one that fails, or takes nothing of a piece that has bytes, is counted.
-    fn write(&mut self, bytes: &[u8]) -> Wrote
-        ensures count { self.old ≤ self.new }
-        ensures cause { WriteCause self.old self.new result }
-        ensures fits { FitsPiece result bytes.now }
-        ensures bytes { TakesFirst None None result bytes.now }
-        ensures counted { CountsFailure self.old self.new (write_count result) }
-    {
-        self.sink.write(bytes)
+        WriterSink::over(io::writer(rt))
     }
 }

@@ -78,7 +78,7 @@ fn a_reader_fails_in_turn(rt: HostRuntime) {
         Moves(9),
         Failed,
     ];
-    let mut source = ReaderSource::new(ListedReader {
+    let mut source = ReaderSource::over(ListedReader {
         bytes: b"abc",
         turns: &turns,
     });
@@ -117,7 +117,7 @@ fn a_writer_fails_in_turn(rt: HostRuntime) -> Result<(), Fail> {
         written: Vec::new(rt.alloc()),
         turns: &turns,
     };
-    let mut sink = WriterSink::new(&mut writer);
+    let mut sink = WriterSink::over(&mut writer);
     let writes = [
         (b"ab", false, 1),
         (b"cd", true, 1),

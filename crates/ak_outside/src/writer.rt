@@ -41,7 +41,7 @@ fn write_some<T: io::Write>(calls: &mut Counted<T>, piece: &[u8]) -> Option<usiz
 
 impl<T: io::Write> WriterSink<T> {
     /// A sink over the writer. It has not failed.
-    pub fn new(writer: T) -> Self
+    pub fn over(writer: T) -> Self
         ensures bytes { ⟦<WriterSink<T> as Sink>⟧.written result ≡ T.contents writer }
         ensures faults { ⟦<WriterSink<T> as Sink>⟧.faults result ≡ 0 }
     {
