@@ -1,3 +1,5 @@
+pub mod Changed
+pub mod Counters
 pub mod Distinct
 pub mod Pairs
 pub mod Spelling

@@ -3,7 +3,6 @@
 #![tactic(auto)]
 
 mod address;
-mod laws;
 mod parse;
 mod print;
 mod table;
@@ -21,6 +20,6 @@ pub use laws::{
 pub use parse::{
     AddressFault, is_address, is_unique, parse_address, parse_number, parse_unique};
 pub use print::{print_number, print_wide_number};
-pub use table::{Duplicate, Merge, Table};
+pub use table::{Duplicate, Merge, Raise, Table};
 pub use text::Text;
 pub use uniques::Uniques;

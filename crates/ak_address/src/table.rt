@@ -1,8 +1,10 @@
-ghost use Rattle.std.specs.Prelude.{◌≡◌, IfOk, OnOk, OnErr, IsOk, IsSome, IsTrue, [], ◌∷◌, ◌++◌, slice_get, option_map, option_copied, if◌then◌else◌};
+ghost use Rattle.std.specs.Prelude.{◌≡◌, ℕ, IfOk, OnOk, OnErr, IsOk, IsSome, IsTrue, [], ◌∷◌, ◌++◌, slice_get, option_map, option_copied, if◌then◌else◌};
+ghost use Rattle.std.specs.Prelude as list;
 ghost use Rattle.std.specs.FinMap as map;
 ghost use Rattle.ak_address.specs.Unique.{UniqueModel, unique_cmp};
 ghost use Rattle.ak_address.specs.Pairs.{index, woven};
 ghost use Rattle.ak_address.specs.Table.{merged_tables, merged_at};
+ghost use Rattle.ak_address.specs.Changed.{changed};
 
 use crate::address::Unique;
 use std::alloc::{AllocError, Global};
@@ -20,13 +22,23 @@ pub trait Merge: Duplicate {
     /// What the two come to.
     ghost merged: { Self → Self → Self };
 
-    /// The merge of the two values, which stay as they are. Only memory can fail.
+    /// The join of the two values, which stay as they are. Only memory can fail.
     fn merged(&self, alloc: Global, other: &Self) -> Result<Self, AllocError>
         ensures { IfOk result (λ both. both ≡ merged self.now other.now) };
 }
 
+/// A value that can be raised up to a most, as a counter of ticks.
+pub trait Raise {
+    /// What the value is raised to.
+    ghost raised: { ℕ → Self → Self };
+
+    /// Raises the value, up to the most. Takes no memory.
+    fn raise(&mut self, most: u32)
+        ensures { self.new ≡ raised most self.old };
+}
+
 /// A finite map from processes to values, in the order of processes. All that is kept by process
-/// stands on it: counts, members, rows of observers.
+/// stands on it: counts, members, pairs of observers.
 #[derive(Drop)]
 pub struct Table<V> {
     entries: Vec<(Unique, V)>,
@@ -81,6 +93,15 @@ impl<V> Table<V> {
         ensures { option_map (λ pair. (pair.0.now, pair.1.now)) result ≡ slice_get (map.entries self.now) index }
     {
         pair_at(&self.entries, index)
+    }
+}
+
+impl<V: Raise> Table<V> {
+    /// Raises each value, up to the most. Takes no memory.
+    pub fn raise_all(&mut self, most: u32)
+        ensures { self.new ≡ changed (V.raised most) self.old }
+    {
+        raise_each(&mut self.entries, most);
     }
 }
 
@@ -152,6 +173,12 @@ impl<V: Merge + Drop> Table<V> {
     }
 }
 
+/// What a merge of tables is, at each process: what the two say of it together. Two tables that answer alike at
+/// each process are equal, so this is all of it.
+pub fn merges_are_pointwise<V: Merge>()
+    ensures { (m n : map.FinMap unique_cmp V) (q : UniqueModel) → map.get (merged_tables V.merged m n) q ≡ merged_at V.merged (map.get m q) (map.get n q) }
+{}
+
 // Where the process stands, or as an error where it would go: a search by halves.
 fn index_of<V>(entries: &[(Unique, V)], who: &Unique) -> Result<usize, usize>
     requires { IsTrue (map.is_sorted unique_cmp entries.now) }
@@ -199,6 +226,15 @@ fn pair_of<'a, V>(entries: &'a [(Unique, V)], who: &Unique) -> Option<(&'a Uniqu
     }
 }
 
+// Raises the value of each pair.
+fn raise_each<V: Raise>(entries: &mut [(Unique, V)], most: u32)
+    ensures { entries.new ≡ list.map (λ e. (e.0, V.raised most e.1)) entries.old }
+{
+    'entries: for entry in entries.iter_mut() {
+        entry.1.raise(most);
+    }
+}
+
 fn pair_at<V>(entries: &[(Unique, V)], index: usize) -> Option<(&Unique, &V)>
     ensures { option_map (λ pair. (pair.0.now, pair.1.now)) result ≡ slice_get entries.now index }
 {
@@ -237,7 +273,7 @@ fn push_copies<V: Duplicate + Drop>(
     Ok(())
 }
 
-// The pairs of both lists in order, two of one process merged: one walk along both.
+// The pairs of both lists in order, two of one process joined: one walk along both.
 fn weave<V: Merge + Drop>(
     alloc: Global,
     left: &[(Unique, V)],

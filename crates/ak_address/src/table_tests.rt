@@ -90,3 +90,17 @@ fn sets_stand_in_order(rt: HostRuntime) -> Result<(), Fail> {
     assert!(rt; !set.contains(&first));
     Ok(())
 }
+
+#[test]
+fn counters_are_raised_up_to_a_most(rt: HostRuntime) -> Result<(), Fail> {
+    let mut counters: Table<u32> = Table::empty(rt.alloc());
+    for (uid, count) in [(1, 0), (2, 4), (3, 5), (4, 9)] {
+        counters.insert(process(rt.alloc(), uid)?, count)?;
+    }
+    counters.raise_all(5);
+    for (uid, wanted) in [(1, 1), (2, 5), (3, 5), (4, 5)] {
+        let who = process(rt.alloc(), uid)?;
+        assert_eq!(rt; counters.get(&who).copied(), Some(wanted));
+    }
+    Ok(())
+}

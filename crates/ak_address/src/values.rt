@@ -1,7 +1,7 @@
-ghost use Rattle.std.specs.Prelude.{max};
+ghost use Rattle.std.specs.Prelude.{◌+◌, max, min};
 
 use crate::address::Unique;
-use crate::table::{Duplicate, Merge};
+use crate::table::{Duplicate, Merge, Raise};
 use std::alloc::{AllocError, Global};
 
 impl Duplicate for () {
@@ -45,5 +45,18 @@ impl Merge for u64 {
 
     fn merged(&self, _alloc: Global, other: &u64) -> Result<u64, AllocError> {
         Ok((*self).max(*other))
+    }
+}
+
+/// A counter rises by one, and stands still at the most.
+impl Raise for u32 {
+    ghost raised = { λ most n. min (n + 1) most };
+
+    fn raise(&mut self, most: u32) {
+        if *self < most {
+            *self += 1;
+        } else {
+            *self = most;
+        }
     }
 }

@@ -1,5 +1,6 @@
 pub mod ByAgeLaws
 pub mod CountedLaws
+pub mod Folds
 pub mod Merges
 pub mod OldestLaws
 pub mod StandingLaws

@@ -1,0 +1,2 @@
+pub mod DetectorLaws
+pub mod DetectorLemmas

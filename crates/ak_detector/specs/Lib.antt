@@ -1,0 +1,2 @@
+pub mod Detector
+pub mod Sides

@@ -1,0 +1,21 @@
+-- The members on one side of a node in the order of processes, as the ring is walked.
+use Rattle.std.specs.Prelude.{ℕ, Bool, true, false, List, map, nat_lt}
+use Rattle.std.specs.List.{filter}
+use Rattle.std.specs.Ordering.{is_lt}
+use Rattle.ak_address.specs.Unique.{UniqueModel, unique_cmp}
+use Rattle.ak_member.specs.declared.status.Status.{Status}
+use Rattle.ak_member.specs.declared.standing.Standing.{Standing}
+use Rattle.ak_member.specs.Standing.{member_pairs}
+
+-- a process comes after the node, or else before it
+abbrev pub is_on_side : Bool → UniqueModel → UniqueModel → Bool
+is_on_side true me who = is_lt (unique_cmp me who)
+is_on_side false me who = is_lt (unique_cmp who me)
+
+-- the members on that side among these rows
+abbrev pub side_rows : Bool → UniqueModel → List (UniqueModel × Standing) → List UniqueModel
+side_rows is_after me rows = filter (is_on_side is_after me) (map (λ (row : UniqueModel × (Status × ℕ)). row.0) (member_pairs rows))
+
+-- the processes of these rows whose counter is above a limit
+abbrev pub above_rows : ℕ → List (UniqueModel × ℕ) → List UniqueModel
+above_rows limit rows = map (λ (e : UniqueModel × ℕ). e.0) (filter (λ (e : UniqueModel × ℕ). nat_lt limit e.1) rows)

@@ -1,0 +1,121 @@
+use crate::detector::Detector;
+use crate::ring::watch_ring;
+use ak_address::{Unique, Uniques, parse_unique};
+use ak_member::{Members, Status};
+use std::alloc::Global;
+use std::test::Fail;
+
+const DEADLINE: u32 = 2;
+
+// What happens to the detector of b.
+#[derive(Clone, Copy)]
+enum Turn {
+    Ticks(u32),
+    Heard(u8),
+    // It watches by a view with these members.
+    Watch(&'static [u8]),
+}
+
+// The process whose host is this letter.
+fn process(alloc: Global, letter: u8) -> Result<Unique, Fail> {
+    Ok(parse_unique(alloc, &[letter, b':', b'1', b'#', b'1'])?)
+}
+
+// Up members of these letters.
+fn members_of(alloc: Global, letters: &[u8]) -> Result<Members, Fail> {
+    let mut members = Members::empty(alloc);
+    for &letter in letters {
+        let who = process(alloc, letter)?;
+        members.raise(alloc, &who, Status::Up, 1)?;
+    }
+    Ok(members)
+}
+
+// The first letter of a process.
+fn letter(who: Option<&Unique>) -> u8 {
+    match who {
+        Some(who) => who.address.host.bytes().first().copied().unwrap_or(0),
+        None => 0,
+    }
+}
+
+// Whether a set is of these letters.
+fn is_of(set: &Uniques, letters: &[u8]) -> bool {
+    for (index, &wanted) in letters.iter().enumerate() {
+        if letter(set.at(index)) != wanted {
+            return false;
+        }
+    }
+    set.len() == letters.len()
+}
+
+fn has_ring(alloc: Global, me: u8, members: &[u8], ring: &[u8]) -> Result<bool, Fail> {
+    let me = process(alloc, me)?;
+    let members = members_of(alloc, members)?;
+    Ok(is_of(&watch_ring(alloc, &me, &members)?, ring))
+}
+
+fn watch(alloc: Global, detector: &mut Detector, members: &[u8]) -> Result<(), Fail> {
+    let me = process(alloc, b'b')?;
+    let members = members_of(alloc, members)?;
+    Ok(detector.watch(alloc, &me, &members, DEADLINE)?)
+}
+
+fn take(alloc: Global, detector: &mut Detector, turn: Turn) -> Result<(), Fail> {
+    match turn {
+        Turn::Ticks(count) => {
+            for _ in 0..count {
+                detector.tick(DEADLINE);
+            }
+            Ok(())
+        }
+        Turn::Heard(letter) => {
+            let who = process(alloc, letter)?;
+            detector.heard(&who);
+            Ok(())
+        }
+        Turn::Watch(members) => watch(alloc, detector, members),
+    }
+}
+
+// Whether these are watched, and those silent.
+fn sees(alloc: Global, detector: &Detector, watched: &[u8], silent: &[u8]) -> Result<bool, Fail> {
+    let them = detector.silent(alloc, DEADLINE)?;
+    Ok(is_of(detector.watched(), watched) && is_of(&them, silent))
+}
+
+#[test]
+fn the_next_five_are_watched(rt: HostRuntime) -> Result<(), Fail> {
+    for (me, members, ring) in [
+        (b'b', b"abcdefg".as_slice(), b"cdefg".as_slice()),
+        (b'f', b"abcdefg".as_slice(), b"abcdg".as_slice()),
+        (b'b', b"abc".as_slice(), b"ac".as_slice()),
+        (b'h', b"abc".as_slice(), b"abc".as_slice()),
+    ] {
+        assert!(rt; has_ring(rt.alloc(), me, members, ring)?);
+    }
+    Ok(())
+}
+
+#[test]
+fn silent_members_stay_watched(rt: HostRuntime) -> Result<(), Fail> {
+    let mut detector = Detector::new(rt.alloc());
+    for (turn, watched, silent) in [
+        (Turn::Watch(b"ab"), b"a".as_slice(), b"".as_slice()),
+        (Turn::Ticks(2), b"a".as_slice(), b"".as_slice()),
+        (Turn::Ticks(1), b"a".as_slice(), b"a".as_slice()),
+        (
+            Turn::Watch(b"abcdefg"),
+            b"acdefg".as_slice(),
+            b"a".as_slice(),
+        ),
+        (Turn::Heard(b'a'), b"acdefg".as_slice(), b"".as_slice()),
+        (Turn::Watch(b"abcdefg"), b"cdefg".as_slice(), b"".as_slice()),
+        (Turn::Ticks(5), b"cdefg".as_slice(), b"cdefg".as_slice()),
+        (Turn::Watch(b"bc"), b"c".as_slice(), b"c".as_slice()),
+    ] {
+        take(rt.alloc(), &mut detector, turn)?;
+        assert!(rt; sees(rt.alloc(), &detector, watched, silent)?);
+    }
+    Ok(())
+}

@@ -1,0 +1,36 @@
+-- A walk along the rows of a table that takes in what it keeps of each row, one after the other.
+use Rattle.std.proofs.Common.{◌≡◌, ℕ, ◌+◌, ◌≤◌, Bool, List, [], ◌∷◌, map, length, drop, slice_get, Option, option_to_list, refl, sym, ap, ◌∙◌}
+use Rattle.std.specs.List.{fold, filter}
+use Rattle.std.proofs.lemmas.List.Sums.{fold-append}
+use Rattle.std.proofs.lemmas.List.Elements.{filter-append}
+use Rattle.std.proofs.lemmas.List.{map-append}
+use Rattle.ak_member.proofs.MemberLemmas.{KeepsPairs, kept_pair, kept_at_end}
+
+module _ {X Y S : Type 0} (kept : List X → List Y) (k : KeepsPairs kept) (step : S → Y → S) where
+  pub fold_next : (xs : List X) (i : ℕ) (s next all : S) (o : Option Y) → option_to_list o ≡ kept (option_to_list (slice_get xs i)) → next ≡ fold step s (option_to_list o)
+      → fold step s (kept (drop i xs)) ≡ all → fold step next (kept (drop (i + 1) xs)) ≡ all
+  fold_next xs i s next all o is taken so_far =
+      let rest = kept (drop (i + 1) xs) in
+      ap (λ n. fold step n rest) taken
+      ∙ sym (ap (fold step s) (kept_pair kept k xs i o is) ∙ fold-append step s (option_to_list o) rest)
+      ∙ so_far
+
+  pub fold_end : (xs : List X) (i : ℕ) (s all : S) → length xs ≤ i → fold step s (kept (drop i xs)) ≡ all → s ≡ all
+  fold_end xs i s all past so_far = sym (ap (fold step s) (kept_at_end kept k xs i past)) ∙ so_far
+
+-- what passes a test among what is kept, and what is made of each
+module _ {X Y : Type 0} (kept : List X → List Y) (k : KeepsPairs kept) where
+  pub keeps_filtered : (p : Y → Bool) → KeepsPairs (λ xs. filter p (kept xs))
+  keeps_filtered p = record {
+    none = ap (filter p) k.none;
+    more = λ x xs. ap (filter p) (k.more x xs) ∙ filter-append p (kept (x ∷ [])) (kept xs);
+  }
+
+  pub keeps_mapped : {Z : Type 0} (f : Y → Z) → KeepsPairs (λ xs. map f (kept xs))
+  keeps_mapped f = record {
+    none = ap (map f) k.none;
+    more = λ x xs. ap (map f) (k.more x xs) ∙ map-append f (kept (x ∷ [])) (kept xs);
+  }
+
+pub keeps_all : {X : Type 0} → KeepsPairs {X = X} {Y = X} (λ xs. xs)
+keeps_all = record { none = refl; more = λ x xs. refl }
