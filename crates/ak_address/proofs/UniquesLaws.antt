@@ -1,12 +1,13 @@
 -- What a set of processes has after a change, and at each index.
-use Rattle.std.proofs.Common.{◌≡◌, ℕ, ◌<◌, Bool, true, false, cond, not, ◌&&◌, ◌||◌, slice_get, Option, Some, None, is_some, unwrap_or, option_map, refl, sym, ap, ◌∙◌, true≢false}
+use Rattle.std.proofs.Common.{◌≡◌, ℕ, ◌<◌, Bool, true, false, cond, not, ◌&&◌, ◌||◌, List, [], ◌∷◌, slice_get, Option, Some, None, is_some, unwrap_or, option_map, refl, sym, ap, ◌∙◌, true≢false}
 use Rattle.std.specs.declared.cmp.Ordering.TheVariants.{Less}
 use Rattle.std.specs.Ordering.{eq_by_cmp}
 use Rattle.std.specs.FinMap as map
+use Rattle.std.specs.List.{list_any}
 use Rattle.std.proofs.lemmas.Option.{slice_get-map}
 use Rattle.ak_address.specs.Unique.{UniqueModel, unique_cmp}
 use Rattle.ak_address.specs.Table.{merged_at}
-use Rattle.ak_address.specs.Uniques.{UniqueSet, no_one, has, with_one, without_one, those, in_order, union}
+use Rattle.ak_address.specs.Uniques.{UniqueSet, no_one, has, with_one, without_one, those, in_order, union, set_of}
 use Rattle.ak_address.proofs.OrderLemmas.{unique_exact}
 use Rattle.ak_address.proofs.TableLaws.{same_key, same_table, get-empty, get-insert, get-remove, get_at, index_of_get, keys_rise, get-merged_tables}
 
@@ -88,3 +89,8 @@ either (Some u) (Some v) = refl
 pub has-union : (s t : UniqueSet) (q : UniqueModel) → has (union s t) q ≡ (has s q || has t q)
 unfolding union
 has-union s t q = ap is_some (get-merged_tables (λ _ _. tt) s t q) ∙ either (map.get s q) (map.get t q)
+
+-- a set made of a list has its processes
+pub has-set_of : (whos : List UniqueModel) (q : UniqueModel) → has (set_of whos) q ≡ list_any (eq_by_cmp unique_cmp q) whos
+has-set_of [] q = has-no_one q
+has-set_of (who ∷ whos) q = has-with_one (set_of whos) who q ∙ ap (λ b. eq_by_cmp unique_cmp q who || b) (has-set_of whos q)

@@ -1,5 +1,5 @@
 -- Finite sets of processes: tables with nothing at each process. `map`'s laws on tables hold of them as they stand.
-use Rattle.std.specs.Prelude.{ℕ, Bool, List}
+use Rattle.std.specs.Prelude.{ℕ, Bool, List, [], ◌∷◌}
 use Rattle.std.specs.FinMap as map
 use Rattle.ak_address.specs.Table.{merged_tables}
 use Rattle.ak_address.specs.Unique.{UniqueModel, unique_cmp}
@@ -33,3 +33,8 @@ in_order s = map.keys s
 -- those of either set
 unfoldable pub union : UniqueSet → UniqueSet → UniqueSet
 union s t = merged_tables (λ _ _. tt) s t
+
+-- the processes of a list
+abbrev pub set_of : List UniqueModel → UniqueSet
+set_of [] = no_one
+set_of (who ∷ rest) = with_one (set_of rest) who

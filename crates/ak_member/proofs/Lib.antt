@@ -5,3 +5,4 @@ pub mod OldestLaws
 pub mod StandingLaws
 pub mod ViewLaws
 pub mod MemberLemmas
+pub mod SetLaws

@@ -1,9 +1,12 @@
 -- What a view knows of each process, and what two views of it come to (Akka's Cluster Specification, "Membership
 -- Lifecycle" and "Gossip": a status only rises, and a process that was removed never comes back).
-use Rattle.std.specs.Prelude.{ℕ, min, nat_lt, ◌==◌, Bool, ◌||◌, List, [], ◌∷◌, Option, None, Some, is_some, if◌then◌else◌}
+use Rattle.std.specs.Prelude.{ℕ, min, nat_lt, ◌==◌, Bool, false, ◌||◌, List, [], ◌∷◌, Option, None, Some, is_some, if◌then◌else◌}
+use Rattle.std.specs.Prelude as list
+use Rattle.std.specs.List.{filter}
 use Rattle.std.specs.FinMap as map
 use Rattle.ak_address.specs.Unique.{UniqueModel, unique_cmp}
 use Rattle.ak_address.specs.Table.{value_with, merged_tables}
+use Rattle.ak_address.specs.Uniques.{UniqueSet, set_of}
 use Rattle.ak_member.specs.declared.status.Status.{Status}
 use Rattle.ak_member.specs.declared.status.Status.TheVariants.{Joining, Up, Leaving, Exiting, Down}
 use Rattle.ak_member.specs.declared.standing.Standing.{Standing}
@@ -73,6 +76,11 @@ tombstone_of (Some standing) = as_tombstone standing
 abbrev pub is_member : Standings → UniqueModel → Bool
 is_member s who = is_some (member_of (map.get s who))
 
+-- there is a member, and its status passes the test
+abbrev pub has_status : (Status → Bool) → Option (Status × ℕ) → Bool
+has_status test None = false
+has_status test (Some member) = test member.0
+
 -- the pairs that have one, in their order
 abbrev pub pair_of : {X : Type 0} → UniqueModel → Option X → List (UniqueModel × X) → List (UniqueModel × X)
 pair_of who None pairs = pairs
@@ -92,3 +100,10 @@ members_of s = member_pairs (map.entries s)
 
 abbrev pub tombstones_of : Standings → List (UniqueModel × Bool)
 tombstones_of s = tombstone_pairs (map.entries s)
+
+-- the members whose status passes a test, and all members, as sets
+abbrev pub members_with : (Status → Bool) → Standings → UniqueSet
+members_with test s = set_of (list.map (λ (pair : UniqueModel × (Status × ℕ)). pair.0) (filter (λ (pair : UniqueModel × (Status × ℕ)). test pair.1.0) (members_of s)))
+
+abbrev pub all_members : Standings → UniqueSet
+all_members s = set_of (list.map (λ (pair : UniqueModel × (Status × ℕ)). pair.0) (members_of s))

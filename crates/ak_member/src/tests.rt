@@ -129,7 +129,10 @@ fn effects_are_applied_in_order(rt: HostRuntime) -> Result<(), Fail> {
     assert!(rt; matches!(effects.at(3), Some(Effect::Observed(_))));
     let members = members_of(rt.alloc(), &[("a:1#1", up(1))])?;
     let members = members.after(rt.alloc(), &effects)?;
-    assert_eq!(rt; pair(&members, 0), Some(((b'a', 1), Standing::Buried(true))));
+    assert_eq!(rt;
+        pair(&members, 0),
+        Some(((b'a', 1), Standing::Buried(true)))
+    );
     assert_eq!(rt; pair(&members, 1), Some(((b'b', 1), up(2))));
     Ok(())
 }

@@ -97,17 +97,17 @@ pub none_left : (s : UniqueSet) (index : ℕ) → how_many s ≤ index → drop 
 none_left s index past = drop_of_length-le (in_order s) (omega (arith, length-in_order s))
 
 -- ---- who is reported
-module _ (p : UniqueModel → Bool) where
-  index_of_any : (xs : List UniqueModel) → list_any p xs ≡ true → (i : ℕ) × (x : UniqueModel) × (slice_get xs i ≡ Some x) × (p x ≡ true)
+module _ {X : Type 0} (p : X → Bool) where
+  pub index_of_any : (xs : List X) → list_any p xs ≡ true → (i : ℕ) × (x : X) × (slice_get xs i ≡ Some x) × (p x ≡ true)
   index_of_any [] is = absurd (true≢false (sym is))
   index_of_any (x ∷ xs) is = by_head (p x) refl (index_of_any xs) is
     where
-      by_head : (b : Bool) → p x ≡ b → (list_any p xs ≡ true → (i : ℕ) × (y : UniqueModel) × (slice_get xs i ≡ Some y) × (p y ≡ true))
-          → (b || list_any p xs) ≡ true → (i : ℕ) × (y : UniqueModel) × (slice_get (x ∷ xs) i ≡ Some y) × (p y ≡ true)
+      by_head : (b : Bool) → p x ≡ b → (list_any p xs ≡ true → (i : ℕ) × (y : X) × (slice_get xs i ≡ Some y) × (p y ≡ true))
+          → (b || list_any p xs) ≡ true → (i : ℕ) × (y : X) × (slice_get (x ∷ xs) i ≡ Some y) × (p y ≡ true)
       by_head true here later is = (0, x, refl, here)
       by_head false here later is = let rest = later is in (suc rest.0, rest.1, rest.2, rest.3)
 
-  pub any_at : (xs : List UniqueModel) (i : ℕ) (x : UniqueModel) → slice_get xs i ≡ Some x → p x ≡ true → list_any p xs ≡ true
+  pub any_at : (xs : List X) (i : ℕ) (x : X) → slice_get xs i ≡ Some x → p x ≡ true → list_any p xs ≡ true
   any_at [] i x at is = absurd (true≢false (sym (ap is_some at)))
   any_at (y ∷ xs) zero x at is = ap (λ b. b || list_any p xs) (ap p (same_Some y x at) ∙ is)
   any_at (y ∷ xs) (suc i) x at is = by_head (p y) (any_at xs i x at is)

@@ -1,2 +1,3 @@
 pub mod Reach
+pub mod Unreachable
 pub mod Walk

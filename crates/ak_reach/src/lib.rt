@@ -6,7 +6,11 @@ mod row;
 mod rows;
 #[cfg(test)]
 mod rows_tests;
+mod unreachable;
+#[cfg(test)]
+mod unreachable_tests;
 
 pub use laws::rows_are_merged;
 pub use row::Row;
 pub use rows::Rows;
+pub use unreachable::is_unreachable;

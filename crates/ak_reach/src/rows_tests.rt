@@ -4,7 +4,7 @@ use std::alloc::Global;
 use std::test::Fail;
 
 // The row of an observer: its number, and its one subject.
-type Line = (&'static str, u64, &'static str);
+pub(crate) type Line = (&'static str, u64, &'static str);
 
 fn set_of(alloc: Global, texts: &[&str]) -> Result<Uniques, Fail> {
     let mut set = Uniques::empty(alloc);
@@ -15,7 +15,7 @@ fn set_of(alloc: Global, texts: &[&str]) -> Result<Uniques, Fail> {
 }
 
 // The rows of these lines, set from the left.
-fn rows_of(alloc: Global, lines: &[Line]) -> Result<Rows, Fail> {
+pub(crate) fn rows_of(alloc: Global, lines: &[Line]) -> Result<Rows, Fail> {
     let mut rows = Rows::empty(alloc);
     for &(observer, number, subject) in lines {
         let observer = parse_unique(alloc, observer.as_bytes())?;

@@ -1,0 +1,100 @@
+-- Who is unreachable, along the rows and in words.
+use Rattle.std.proofs.Common.{◌≡◌, ◌≢◌, ℕ, ◌+◌, Bool, true, false, ◌||◌, ◌&&◌, IsTrue, ◌↔◌, List, drop, slice_get, Option, Some, None, option_to_list, refl, sym, ap, ◌∙◌, true≢false}
+use Rattle.std.proofs.lemmas.Bool.{and_parts, and_from}
+use Rattle.std.proofs.lemmas.List.Folds.{list_any-append}
+use Rattle.std.specs.List.{list_any}
+use Rattle.std.specs.FinMap as map
+use Rattle.ak_address.specs.Unique.{UniqueModel}
+use Rattle.ak_address.specs.Uniques.{has}
+use Rattle.ak_address.proofs.TableLaws.{get_at, index_of_get}
+use Rattle.ak_address.proofs.UniquesLaws.{has-those}
+use Rattle.ak_member.specs.declared.status.Status.{Status}
+use Rattle.ak_member.specs.declared.status.Status.TheVariants.{Joining, Up, Leaving, Exiting, Down}
+use Rattle.ak_member.specs.Standing.{Standings, member_of, is_member, has_status, members_with, all_members}
+use Rattle.ak_member.specs.View.{View, RowTable}
+use Rattle.ak_member.proofs.MemberLemmas.{drop_from}
+use Rattle.ak_member.proofs.SetLaws.{has-members_with, has-all_members}
+use Rattle.ak_reach.specs.Reach.{reported}
+use Rattle.ak_reach.specs.Unreachable.{observes, unreachable_members, IsUnreachable}
+use Rattle.ak_reach.specs.Walk.{row_shows}
+use Rattle.ak_reach.proofs.ReachLemmas.{index_of_any, any_at, reported_means}
+
+-- ---- along a list
+module _ {X : Type 0} (p : X → Bool) where
+  -- a test of the element at an index, and of those from the next one on
+  pub any_from_index : (xs : List X) (i : ℕ) → list_any p (drop i xs) ≡ (list_any p (option_to_list (slice_get xs i)) || list_any p (drop (i + 1) xs))
+  any_from_index xs i = ap (list_any p) (drop_from xs i) ∙ list_any-append p (option_to_list (slice_get xs i)) (drop (i + 1) xs)
+
+-- ---- who has it in its row
+same_answers : (a b : Bool) → (a ≡ true → b ≡ true) → (b ≡ true → a ≡ true) → a ≡ b
+same_answers true b there back = sym (there refl)
+same_answers false true there back = back refl
+same_answers false false there back = refl
+
+pub shown_reported : (s : Standings) (rows : RowTable) (who : UniqueModel) → list_any (row_shows s who) (map.entries rows) ≡ reported rows (members_with observes s) who
+shown_reported s rows who = same_answers _ _ there back
+  where
+    there : list_any (row_shows s who) (map.entries rows) ≡ true → reported rows (members_with observes s) who ≡ true
+    there is =
+        let at = index_of_any (row_shows s who) (map.entries rows) is in
+        let parts = and_parts (has_status observes (member_of (map.get s at.1.0))) (has at.1.1.subjects who) at.3 in
+        (reported_means rows (members_with observes s) who).1
+        (record { observer = at.1.0; row = at.1.1; observes = has-members_with observes s at.1.0 ∙ parts.0; has_row = get_at rows at.0 at.1 at.2; in_row = parts.1 })
+
+    back : reported rows (members_with observes s) who ≡ true → list_any (row_shows s who) (map.entries rows) ≡ true
+    back is =
+        let r = (reported_means rows (members_with observes s) who).0 is in
+        let at = index_of_get rows r.observer r.row r.has_row in
+        any_at (row_shows s who) (map.entries rows) at.0 (r.observer, r.row) at.1
+        (and_from (has_status observes (member_of (map.get s r.observer))) (has r.row.subjects who) (sym (has-members_with observes s r.observer) ∙ r.observes) r.in_row)
+
+-- ---- who is unreachable
+pub has-unreachable : (v : View) (who : UniqueModel) → has (unreachable_members v) who ≡ (is_member v.standings who && reported v.rows (members_with observes v.standings) who)
+has-unreachable v who =
+    has-those (all_members v.standings) (reported v.rows (members_with observes v.standings)) who
+    ∙ ap (λ b. b && reported v.rows (members_with observes v.standings) who) (has-all_members v.standings who)
+
+observing : (o : Option (Status × ℕ)) → has_status observes o ≡ true → (status : Status) × (number : ℕ) × (o ≡ Some (status, number)) × (status ≢ Down)
+observing None is = absurd (true≢false (sym is))
+observing (Some m) is = (m.0, m.1, refl, λ down. true≢false (sym is ∙ ap observes down))
+
+not_down_observes : (status : Status) → status ≢ Down → observes status ≡ true
+not_down_observes Joining not_down = refl
+not_down_observes Up not_down = refl
+not_down_observes Leaving not_down = refl
+not_down_observes Exiting not_down = refl
+not_down_observes Down not_down = absurd (not_down refl)
+
+pub unreachable_means : (v : View) (who : UniqueModel) → IsTrue (has (unreachable_members v) who) ↔ IsUnreachable v who
+unreachable_means v who = (there, back)
+  where
+    there : IsTrue (has (unreachable_members v) who) → IsUnreachable v who
+    there is =
+        let parts = and_parts (is_member v.standings who) (reported v.rows (members_with observes v.standings) who) (sym (has-unreachable v who) ∙ is) in
+        let r = (reported_means v.rows (members_with observes v.standings) who).0 parts.1 in
+        let o = observing (member_of (map.get v.standings r.observer)) (sym (has-members_with observes v.standings r.observer) ∙ r.observes) in
+        record { member = parts.0; observer = r.observer; status = o.0; number = o.1; observer_is = o.2; not_down = o.3; row = r.row; row_is = r.has_row; in_row = r.in_row }
+
+    back : IsUnreachable v who → IsTrue (has (unreachable_members v) who)
+    back u =
+        has-unreachable v who
+        ∙ and_from (is_member v.standings who) (reported v.rows (members_with observes v.standings) who) u.member
+        ((reported_means v.rows (members_with observes v.standings) who).1
+        (record {
+          observer = u.observer;
+          row = u.row;
+          observes = has-members_with observes v.standings u.observer ∙ ap (has_status observes) u.observer_is ∙ not_down_observes u.status u.not_down;
+          has_row = u.row_is;
+          in_row = u.in_row;
+        }))
+
+-- the answer of the call, where the process is a member, and where it is none
+pub told_reachable : (v : View) (who : UniqueModel) (b : Bool) → b ≡ has (unreachable_members v) who → IsTrue b ↔ IsUnreachable v who
+told_reachable v who b is = (λ t. (unreachable_means v who).0 (sym is ∙ t), λ u. is ∙ (unreachable_means v who).1 u)
+
+pub told_of_member : (v : View) (who : UniqueModel) (b : Bool) → is_member v.standings who ≡ true → b ≡ list_any (row_shows v.standings who) (map.entries v.rows) → b ≡ has (unreachable_members v) who
+told_of_member v who b member is =
+    is ∙ shown_reported v.standings v.rows who ∙ sym (has-unreachable v who ∙ ap (λ t. t && reported v.rows (members_with observes v.standings) who) member)
+
+pub told_of_nobody : (v : View) (who : UniqueModel) → is_member v.standings who ≡ false → false ≡ has (unreachable_members v) who
+told_of_nobody v who none = sym (has-unreachable v who ∙ ap (λ t. t && reported v.rows (members_with observes v.standings) who) none)

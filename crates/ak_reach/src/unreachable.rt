@@ -1,0 +1,67 @@
+ghost use Rattle.std.specs.Prelude.{◌≡◌, ◌↔◌, IsTrue, slice_get, option_map, option_to_list};
+ghost use Rattle.std.specs.List.{list_any};
+ghost use Rattle.std.specs.FinMap as map;
+ghost use Rattle.ak_address.specs.Uniques.{has};
+ghost use Rattle.ak_member.specs.Standing.{has_status};
+ghost use Rattle.ak_reach.specs.Unreachable.{observes, unreachable_members, IsUnreachable};
+ghost use Rattle.ak_reach.specs.Walk.{row_shows};
+
+use crate::rows::Rows;
+use ak_address::Unique;
+use ak_member::{Member, Members, Status};
+
+/// Whether the process is an unreachable member: one that a member which is not Down has in its row (Akka's Cluster
+/// Specification, "Failure Detector"; that the rows of Down members do not count is this project's choice). Every other
+/// member is reachable. Takes no memory.
+pub fn is_unreachable(members: &Members, rows: &Rows, who: &Unique) -> bool
+    ensures value { result ≡ has (unreachable_members (record { standings = members.now; rows = rows.now })) who.now }
+    ensures meaning { IsTrue result ↔ IsUnreachable (record { standings = members.now; rows = rows.now }) who.now }
+{
+    match members.get(who) {
+        Some(_) => is_observed(members, rows, who),
+        None => false,
+    }
+}
+
+// A member that is not Down has the process in its row.
+fn is_observed(members: &Members, rows: &Rows, who: &Unique) -> bool
+    ensures { result ≡ list_any (row_shows members.now who.now) (map.entries rows.now) }
+{
+    'rows: for index in 0..rows.len() {
+        if shows_at(members, rows, index, who) {
+            return true;
+        }
+    }
+    false
+}
+
+// There is a row at the index, of a member that is not Down, and the process is in it.
+fn shows_at(members: &Members, rows: &Rows, index: usize, who: &Unique) -> bool
+    ensures { result ≡ list_any (row_shows members.now who.now) (option_to_list (slice_get (map.entries rows.now) index)) }
+{
+    match rows.at(index) {
+        Some((observer, row)) => {
+            if observes(members.get(observer)) {
+                return row.subjects.contains(who);
+            }
+            false
+        }
+        None => false,
+    }
+}
+
+// There is a member, and it is not Down.
+fn observes(member: Option<Member<'_>>) -> bool
+    ensures { result ≡ has_status observes (option_map (λ m. (m.status, m.up_number)) member.entry) }
+{
+    match member {
+        Some(member) => match member.status {
+            Status::Joining => true,
+            Status::Up => true,
+            Status::Leaving => true,
+            Status::Exiting => true,
+            Status::Down => false,
+        },
+        None => false,
+    }
+}
