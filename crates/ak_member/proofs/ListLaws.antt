@@ -1,0 +1,46 @@
+-- What lists contain, and what tests over lists say of their elements.
+use Rattle.std.proofs.Common.{◌≡◌, ℕ, zero, suc, ◌+◌, Bool, true, false, ◌&&◌, ◌⊎◌, inl, inr, List, [], ◌∷◌, Some, slice_get, Contains, refl, sym, ap, ◌∙◌, subst, arith, true≢false}
+use Rattle.std.proofs.lemmas.Bool.{and_from}
+use Rattle.std.proofs.lemmas.Option.{none-some, same_Some}
+use Rattle.std.specs.List.{list_all}
+
+module _ {X : Type 0} where
+  pub contains_first : (x : X) (xs : List X) → Contains (x ∷ xs) x
+  contains_first x xs = (0, omega arith, refl)
+
+  pub contains_rest : (y x : X) (xs : List X) → Contains xs x → Contains (y ∷ xs) x
+  contains_rest y x xs there = (suc there.0, let lt = there.1 in omega arith, there.2)
+
+  pub first_or_rest : (y x : X) (xs : List X) → Contains (y ∷ xs) x → (x ≡ y) ⊎ Contains xs x
+  first_or_rest y x xs (zero, lt, is) = inl (sym is)
+  first_or_rest y x xs (suc k, lt, is) = inr (k, omega arith, is)
+
+  pub contains_nothing : (x : X) → Contains [] x → ⊥
+  contains_nothing x there = let lt = there.1 in omega arith
+
+  -- an element at an index
+  pub contains_at : (xs : List X) (index : ℕ) (x : X) → slice_get xs index ≡ Some x → Contains xs x
+  contains_at [] index x at = absurd (none-some x at)
+  contains_at (y ∷ xs) zero x at = subst (Contains (y ∷ xs)) (same_Some y x at) (contains_first y xs)
+  contains_at (y ∷ xs) (suc index) x at = contains_rest y x xs (contains_at xs index x at)
+
+  pub index_of : (xs : List X) (x : X) → Contains xs x → (index : ℕ) × (slice_get xs index ≡ Some x)
+  index_of [] x there = absurd (contains_nothing x there)
+  index_of (y ∷ xs) x there =
+      elim (first_or_rest y x xs there) [
+        | inl same ↦ (zero, ap Some (sym same))
+        | inr later ↦ let h = index_of xs x later in (suc h.0, h.1)
+      ]
+
+  -- ---- tests
+  all_next : (p : X → Bool) (y : X) (xs : List X) (x : X) (b : Bool) → p y ≡ b → (list_all p xs ≡ true → Contains xs x → p x ≡ true) → (b && list_all p xs) ≡ true → Contains (y ∷ xs) x → p x ≡ true
+  all_next p y xs x false here rest h there = absurd (true≢false (sym h))
+  all_next p y xs x true here rest h there = elim (first_or_rest y x xs there) [ inl same ↦ ap p same ∙ here | inr later ↦ rest h later ]
+
+  pub all_there : (p : X → Bool) (xs : List X) (x : X) → list_all p xs ≡ true → Contains xs x → p x ≡ true
+  all_there p [] x is there = absurd (contains_nothing x there)
+  all_there p (y ∷ xs) x is there = all_next p y xs x (p y) refl (λ h later. all_there p xs x h later) is there
+
+  pub all_from : (p : X → Bool) (xs : List X) → ((x : X) → Contains xs x → p x ≡ true) → list_all p xs ≡ true
+  all_from p [] each = refl
+  all_from p (y ∷ xs) each = and_from (p y) (list_all p xs) (each y (contains_first y xs)) (all_from p xs (λ x there. each x (contains_rest y x xs there)))
