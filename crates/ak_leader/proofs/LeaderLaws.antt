@@ -104,8 +104,7 @@ module _ (v : View) where
 
   may_pass : (who : UniqueModel) → MayLead v who → (m : MemberPair) × (m.0 ≡ who) × Contains (members_of v.standings) m × (may_lead (unreachable_members v) m ≡ true)
   may_pass who may =
-      let counted = may.1 in
-      (
+      let counted = may.1 in (
         (who, (counted.0, may.0)),
         refl,
         have_members v.standings who (counted.0, may.0) counted.1,
@@ -115,8 +114,7 @@ module _ (v : View) where
   leader_found : (o : Option MemberPair) → find (may_lead (unreachable_members v)) (members_of v.standings) ≡ o → IsLeader v (option_map (λ (m : MemberPair). m.0) o)
   leader_found None is = λ who may. let m = may_pass who may in none_passes (may_lead (unreachable_members v)) (members_of v.standings) is m.0 m.2 m.3
   leader_found (Some m) is =
-      let found = found_passes (may_lead (unreachable_members v)) (members_of v.standings) m is in
-      (
+      let found = found_passes (may_lead (unreachable_members v)) (members_of v.standings) m is in (
         passes_may m found.0 found.1,
         λ other may.
             let n = may_pass other may in

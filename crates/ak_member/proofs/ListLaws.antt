@@ -1,5 +1,5 @@
 -- What lists contain, and what tests over lists say of their elements.
-use Rattle.std.proofs.Common.{◌≡◌, ℕ, zero, suc, ◌+◌, Bool, true, false, ◌&&◌, ◌⊎◌, inl, inr, List, [], ◌∷◌, Some, slice_get, Contains, refl, sym, ap, ◌∙◌, subst, arith, true≢false}
+use Rattle.std.proofs.Common.{◌≡◌, ℕ, zero, suc, ◌+◌, Bool, true, false, ◌&&◌, ◌⊎◌, inl, inr, List, [], ◌∷◌, ◌++◌, Some, slice_get, Contains, refl, sym, ap, ◌∙◌, subst, arith, true≢false}
 use Rattle.std.proofs.lemmas.Bool.{and_from}
 use Rattle.std.proofs.lemmas.Option.{none-some, same_Some}
 use Rattle.std.specs.List.{list_all}
@@ -17,6 +17,27 @@ module _ {X : Type 0} where
 
   pub contains_nothing : (x : X) → Contains [] x → ⊥
   contains_nothing x there = let lt = there.1 in omega arith
+
+  -- an element of two lists, one after the other
+  pub contains_either : (xs ys : List X) (x : X) → Contains (xs ++ ys) x → Contains xs x ⊎ Contains ys x
+  contains_either [] ys x there = inr there
+  contains_either (y ∷ xs) ys x there =
+      elim (first_or_rest y x (xs ++ ys) there) [
+        | inl same ↦ inl (subst (Contains (y ∷ xs)) (sym same) (contains_first y xs))
+        | inr later ↦ elim (contains_either xs ys x later) [ inl one ↦ inl (contains_rest y x xs one) | inr other ↦ inr other ]
+      ]
+
+  pub contains_left : (xs ys : List X) (x : X) → Contains xs x → Contains (xs ++ ys) x
+  contains_left [] ys x there = absurd (contains_nothing x there)
+  contains_left (y ∷ xs) ys x there =
+      elim (first_or_rest y x xs there) [
+        | inl same ↦ subst (Contains (y ∷ (xs ++ ys))) (sym same) (contains_first y (xs ++ ys))
+        | inr later ↦ contains_rest y x (xs ++ ys) (contains_left xs ys x later)
+      ]
+
+  pub contains_right : (xs ys : List X) (x : X) → Contains ys x → Contains (xs ++ ys) x
+  contains_right [] ys x there = there
+  contains_right (y ∷ xs) ys x there = contains_rest y x (xs ++ ys) (contains_right xs ys x there)
 
   -- an element at an index
   pub contains_at : (xs : List X) (index : ℕ) (x : X) → slice_get xs index ≡ Some x → Contains xs x

@@ -13,13 +13,13 @@ pairs-preserved c =
       | in-Some+in_ok-copy+in_ok-push w ↦ record {
         few = omega (arith, w.number-is, c.pairs.invariant.few);
         so_far = founded_more c.pairs.effects c.match-joining_at.effects all w.in-Some.who.now w.in_ok-copy.field-0 c.pairs.number c.match-joining_at.number (joining_among (drop (c.pairs.pair + 1) es))
-        (w.in_ok-copy.ensures {u = tt}) w.number-is (w.effects-is ∙ (w.in_ok-push.ensures {u = tt}).ok)
-        (founded_next es c.pairs.pair c.pairs.number (Some w.in-Some.who.now) c.pairs.effects all w.in-Some.ensures c.pairs.invariant.so_far);
+            (w.in_ok-copy.ensures {u = tt}) w.number-is (w.effects-is ∙ (w.in_ok-push.ensures {u = tt}).ok)
+            (founded_next es c.pairs.pair c.pairs.number (Some w.in-Some.who.now) c.pairs.effects all w.in-Some.ensures c.pairs.invariant.so_far);
       }
       | in_default w ↦ record {
         few = omega (arith, w.number-is, c.pairs.invariant.few);
         so_far = (λ i. w.effects-is i ++ numbered (w.number-is i) (joining_among (drop (c.pairs.pair + 1) es)))
-        ∙ founded_next es c.pairs.pair c.pairs.number None c.pairs.effects all w.in_default.ensures c.pairs.invariant.so_far;
+            ∙ founded_next es c.pairs.pair c.pairs.number None c.pairs.effects all w.in_default.ensures c.pairs.invariant.so_far;
       }
     ]
 
