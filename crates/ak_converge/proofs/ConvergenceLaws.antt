@@ -92,9 +92,6 @@ settled_means quorum v seen = (there, back)
     back (c, enough) =
         and_from (is_converged v seen) (nat_le quorum (distinct (counted_addresses v.standings))) ((converged_means v seen).1 c) (le-leb quorum (distinct (counted_addresses v.standings)) enough)
 
--- the answers of the calls
-pub converged_told : (v : View) (seen : UniqueSet) (b : Bool) → b ≡ is_converged v seen → IsTrue b ↔ IsConverged v seen
-converged_told v seen b is = (λ t. (converged_means v seen).0 (sym is ∙ t), λ c. is ∙ (converged_means v seen).1 c)
-
-pub settled_told : (quorum : ℕ) (v : View) (seen : UniqueSet) (b : Bool) → b ≡ is_settled quorum v seen → IsTrue b ↔ (IsConverged v seen × (quorum ≤ distinct (counted_addresses v.standings)))
-settled_told quorum v seen b is = (λ t. (settled_means quorum v seen).0 (sym is ∙ t), λ c. is ∙ (settled_means quorum v seen).1 c)
+-- the answer of the call
+pub converged_answer : (v : View) (seen : UniqueSet) (b : Bool) → b ≡ is_converged v seen → IsTrue b ↔ IsConverged v seen
+converged_answer v seen b is = (λ t. (converged_means v seen).0 (sym is ∙ t), λ c. is ∙ (converged_means v seen).1 c)

@@ -1,27 +1,14 @@
 -- Entries and their numbers, and which entries versions cover.
-use Rattle.std.proofs.Common.{◌≡◌, ◌≢◌, ℕ, zero, suc, ◌+◌, ◌≤◌, ◌<◌, max, leb, Bool, true, false, ◌||◌, if◌then◌else◌, ◌⊎◌, inl, inr, List, [], ◌∷◌, ◌++◌, Contains, refl, sym, ap, ◌∙◌, subst, arith, le-leb}
+use Rattle.std.proofs.Common.{◌≡◌, ◌≢◌, ℕ, ◌+◌, ◌≤◌, ◌<◌, max, leb, Bool, true, false, ◌||◌, if◌then◌else◌, inl, inr, List, [], ◌∷◌, ◌++◌, Contains, refl, sym, ap, ◌∙◌, subst, arith, le-leb}
 use Rattle.std.proofs.lemmas.Bool.{leb-true, leb-false, lt-leb}
 use Rattle.std.specs.Ordering.{is_eq}
 use Rattle.ak_address.specs.Unique.{UniqueModel, unique_cmp}
 use Rattle.ak_address.proofs.TableLaws.{key_itself, other_key, same_or_apart}
+pub use Rattle.ak_member.proofs.ListLaws.{contains_first, contains_rest, first_or_rest, contains_nothing}
 use Rattle.ak_clock.specs.Version.{Counts, count, merged, bumped}
 use Rattle.ak_clock.proofs.VersionLaws.{count-merged, count-bumped_author, count-bumped_others}
 use Rattle.ak_history.specs.declared.entry.Entry.{Entry}
 use Rattle.ak_history.specs.History.{entries_of, IsNumbered, IsBounded, is_covered}
-
--- ---- elements of lists
-pub contains_first : {X : Type 0} (x : X) (xs : List X) → Contains (x ∷ xs) x
-contains_first x xs = (0, omega arith, refl)
-
-pub contains_rest : {X : Type 0} (y x : X) (xs : List X) → Contains xs x → Contains (y ∷ xs) x
-contains_rest y x xs there = (suc there.0, let lt = there.1 in omega arith, there.2)
-
-pub first_or_rest : {X : Type 0} (y x : X) (xs : List X) → Contains (y ∷ xs) x → (x ≡ y) ⊎ Contains xs x
-first_or_rest y x xs (zero, lt, is) = inl (sym is)
-first_or_rest y x xs (suc k, lt, is) = inr (k, omega arith, is)
-
-pub contains_nothing : {X : Type 0} (x : X) → Contains [] x → ⊥
-contains_nothing x there = let lt = there.1 in omega arith
 
 -- ---- how many entries an author has
 entries-if : (b : Bool) (k : ℕ) → k ≤ (if b then k + 1 else k)

@@ -1,5 +1,5 @@
 -- The walks of the calls along the members, and that the leader is the first that may lead.
-use Rattle.std.proofs.Common.{◌≡◌, ◌≢◌, ℕ, ◌+◌, ◌≤◌, max, Bool, true, false, not, ◌&&◌, cond, if◌then◌else◌, IsTrue, ◌⊎◌, inl, inr, T, List, [], ◌∷◌, ◌++◌, length, drop, slice_get, Option, Some, None, is_some, option_map, option_to_list, Contains, refl, sym, ap, ◌∙◌, subst, append_assoc, append-nil, arith, true≢false}
+use Rattle.std.proofs.Common.{◌≡◌, ℕ, ◌+◌, ◌≤◌, max, Bool, true, false, not, cond, ◌⊎◌, inl, inr, T, List, [], ◌∷◌, ◌++◌, length, drop, slice_get, Option, Some, None, option_map, option_to_list, Contains, refl, sym, ap, ◌∙◌, subst, append_assoc, append-nil, arith, true≢false}
 use Rattle.std.proofs.lemmas.Bool.{and_parts, and_from}
 use Rattle.std.proofs.lemmas.List.Folds.{find-append}
 use Rattle.std.proofs.lemmas.Option.{none-some, same_Some}
@@ -17,13 +17,13 @@ use Rattle.ak_member.specs.declared.standing.Standing.{Standing}
 use Rattle.ak_member.specs.declared.standing.Standing.TheVariants.{Member, Buried}
 use Rattle.ak_member.specs.declared.status.Status.{Status}
 use Rattle.ak_member.specs.declared.status.Status.TheVariants.{Up}
-use Rattle.ak_member.specs.Standing.{Standings, member_of, member_pairs, members_of}
+use Rattle.ak_member.specs.Standing.{Standings, member_pairs, members_of}
 use Rattle.ak_member.specs.Age.{counts}
 use Rattle.ak_member.specs.View.{View}
 use Rattle.ak_member.proofs.ListLaws.{contains_first, contains_rest, first_or_rest, contains_nothing, index_of}
 use Rattle.ak_member.proofs.MemberLemmas.{KeepsPairs, kept_from, kept_pair, kept_at_end, keeps_members}
 use Rattle.ak_member.proofs.MembersLaws.{members_have, have_members, members_sorted}
-use Rattle.ak_reach.specs.Unreachable.{unreachable_members, IsUnreachable}
+use Rattle.ak_reach.specs.Unreachable.{unreachable_members}
 use Rattle.ak_reach.proofs.UnreachableLaws.{unreachable_means}
 use Rattle.ak_leader.specs.Leader.{may_lead, leader, MayLead, IsLeader, greatest_number, number_after, led, all_led, is_joining, all_founded}
 use Rattle.ak_leader.specs.Walk.{number_past, joining, numbered}

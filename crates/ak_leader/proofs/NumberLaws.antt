@@ -1,5 +1,5 @@
 -- The up numbers that the leader gives: above those before, rising, and within the bound.
-use Rattle.std.proofs.Common.{◌≡◌, ℕ, zero, suc, ◌+◌, ◌<◌, ◌≤◌, max, Bool, true, false, if◌then◌else◌, inl, inr, List, [], ◌∷◌, ◌++◌, Some, slice_get, Contains, refl, sym, ap, ◌∙◌, arith}
+use Rattle.std.proofs.Common.{◌≡◌, ℕ, zero, suc, ◌+◌, ◌<◌, ◌≤◌, Bool, true, false, if◌then◌else◌, inl, inr, List, [], ◌∷◌, ◌++◌, Some, slice_get, Contains, refl, sym, ap, arith}
 use Rattle.std.proofs.lemmas.Bool.{ltb-true}
 use Rattle.std.proofs.lemmas.Option.{none-some, same_Some}
 use Rattle.std.specs.FinMap as map
@@ -7,15 +7,15 @@ use Rattle.ak_address.specs.Unique.{UniqueModel}
 use Rattle.ak_address.specs.Uniques.{UniqueSet, has}
 use Rattle.ak_clock.specs.declared.version.TheConstants.{BOUND}
 use Rattle.ak_member.specs.declared.effect.Effect.{Effect}
-use Rattle.ak_member.specs.declared.effect.Effect.TheVariants.{Joined, Rise, Removed, Observed}
+use Rattle.ak_member.specs.declared.effect.Effect.TheVariants.{Rise, Removed}
 use Rattle.ak_member.specs.declared.status.Status.{Status}
 use Rattle.ak_member.specs.declared.status.Status.TheVariants.{Joining, Up, Leaving, Exiting, Down}
-use Rattle.ak_member.specs.Standing.{Standings, member_of, members_of}
+use Rattle.ak_member.specs.Standing.{member_of, members_of}
 use Rattle.ak_member.specs.View.{View}
-use Rattle.ak_member.proofs.ListLaws.{contains_first, contains_rest, first_or_rest, contains_nothing, contains_at}
+use Rattle.ak_member.proofs.ListLaws.{first_or_rest, contains_nothing, contains_at}
 use Rattle.ak_member.proofs.MembersLaws.{have_members}
 use Rattle.ak_reach.specs.Unreachable.{unreachable_members}
-use Rattle.ak_leader.specs.Leader.{greatest_number, has_next, number_after, led, all_led, leaders_effects}
+use Rattle.ak_leader.specs.Leader.{greatest_number, has_next, number_after, all_led, leaders_effects}
 
 abbrev MemberPair : Type 0
 MemberPair = UniqueModel × (Status × ℕ)

@@ -49,7 +49,7 @@ fn letter(who: &Unique) -> u8 {
 
 // Whom an effect is about, the rank of the status that it rises to and its number; of a removal 0 and whether it is
 // confirmed; zeros where there is no effect.
-fn told(effect: Option<&Effect>) -> (u8, u8, u64) {
+fn parts_of(effect: Option<&Effect>) -> (u8, u8, u64) {
     match effect {
         Some(Effect::Rise(who, status, number)) => (letter(who), status.rank(), *number),
         Some(Effect::Removed(who, confirmed)) => (letter(who), 0, u64::from(*confirmed)),
@@ -120,7 +120,7 @@ fn a_leader_moves_members_on(rt: HostRuntime) -> Result<(), Fail> {
         (0, 0, 0),
     ];
     for index in 0..7 {
-        assert_eq!(rt; told(effects.at(index)), wanted[index]);
+        assert_eq!(rt; parts_of(effects.at(index)), wanted[index]);
     }
     Ok(())
 }
@@ -137,9 +137,9 @@ fn numbers_end_at_the_bound(rt: HostRuntime) -> Result<(), Fail> {
         ],
     )?;
     let found = [
-        told(effects.at(0)),
-        told(effects.at(1)),
-        told(effects.at(2)),
+        parts_of(effects.at(0)),
+        parts_of(effects.at(1)),
+        parts_of(effects.at(2)),
     ];
     assert_eq!(rt; found, [(b'a', 2, BOUND), (b'd', 4, 0), (0, 0, 0)]);
     Ok(())
@@ -157,9 +157,9 @@ fn a_founding_counts_from_one(rt: HostRuntime) -> Result<(), Fail> {
     )?;
     let effects = founding(rt.alloc(), &members)?;
     let found = [
-        told(effects.at(0)),
-        told(effects.at(1)),
-        told(effects.at(2)),
+        parts_of(effects.at(0)),
+        parts_of(effects.at(1)),
+        parts_of(effects.at(2)),
     ];
     assert_eq!(rt; found, [(b'b', 2, 1), (b'c', 2, 2), (0, 0, 0)]);
     Ok(())

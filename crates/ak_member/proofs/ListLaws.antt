@@ -1,7 +1,7 @@
 -- What lists contain, and what tests over lists say of their elements.
-use Rattle.std.proofs.Common.{◌≡◌, ℕ, zero, suc, ◌+◌, Bool, true, false, ◌&&◌, ◌⊎◌, inl, inr, List, [], ◌∷◌, ◌++◌, Some, slice_get, Contains, refl, sym, ap, ◌∙◌, subst, arith, true≢false}
+use Rattle.std.proofs.Common.{◌≡◌, ℕ, zero, suc, Bool, true, false, ◌&&◌, ◌⊎◌, inl, inr, List, [], ◌∷◌, ◌++◌, Some, slice_get, Contains, refl, sym, ap, ◌∙◌, subst, arith, true≢false}
 use Rattle.std.proofs.lemmas.Bool.{and_from}
-use Rattle.std.proofs.lemmas.Option.{none-some, same_Some}
+use Rattle.std.proofs.lemmas.Option.{slice_get-get_or, slice_get_within, get_or_from_slice_get}
 use Rattle.std.specs.List.{list_all}
 
 module _ {X : Type 0} where
@@ -41,17 +41,10 @@ module _ {X : Type 0} where
 
   -- an element at an index
   pub contains_at : (xs : List X) (index : ℕ) (x : X) → slice_get xs index ≡ Some x → Contains xs x
-  contains_at [] index x at = absurd (none-some x at)
-  contains_at (y ∷ xs) zero x at = subst (Contains (y ∷ xs)) (same_Some y x at) (contains_first y xs)
-  contains_at (y ∷ xs) (suc index) x at = contains_rest y x xs (contains_at xs index x at)
+  contains_at xs index x is = (index, slice_get_within xs index x is, get_or_from_slice_get xs index x x is)
 
   pub index_of : (xs : List X) (x : X) → Contains xs x → (index : ℕ) × (slice_get xs index ≡ Some x)
-  index_of [] x there = absurd (contains_nothing x there)
-  index_of (y ∷ xs) x there =
-      elim (first_or_rest y x xs there) [
-        | inl same ↦ (zero, ap Some (sym same))
-        | inr later ↦ let h = index_of xs x later in (suc h.0, h.1)
-      ]
+  index_of xs x there = (there.0, slice_get-get_or xs there.0 x there.1 ∙ ap Some there.2)
 
   -- ---- tests
   all_next : (p : X → Bool) (y : X) (xs : List X) (x : X) (b : Bool) → p y ≡ b → (list_all p xs ≡ true → Contains xs x → p x ≡ true) → (b && list_all p xs) ≡ true → Contains (y ∷ xs) x → p x ≡ true

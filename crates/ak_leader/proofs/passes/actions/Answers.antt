@@ -1,6 +1,6 @@
-use Rattle.std.proofs.Common.{◌+◌, ◌++◌, drop, sym, ap, ◌∙◌, arith, slice_get, option_to_list}
+use Rattle.std.proofs.Common.{◌+◌, ◌++◌, drop, ap, ◌∙◌, arith, slice_get, option_to_list}
 use Rattle.std.specs.FinMap as map
-use Rattle.ak_member.specs.Standing.{member_pairs, members_of}
+use Rattle.ak_member.specs.Standing.{member_pairs}
 use Rattle.ak_member.specs.View.{View}
 use Rattle.ak_reach.specs.Unreachable.{unreachable_members}
 use Rattle.ak_leader.specs.Leader.{all_led, leaders_effects}

@@ -1,4 +1,4 @@
-use Rattle.std.proofs.Common.{◌≡◌, max, sym, ap, ◌∙◌, arith}
+use Rattle.std.proofs.Common.{max, ap, ◌∙◌, arith}
 use Rattle.std.specs.FinMap as map
 use Rattle.ak_member.specs.Standing.{member_pairs, members_of}
 use Rattle.ak_member.proofs.MemberLemmas.{kept_at_end, keeps_members}
