@@ -1,7 +1,8 @@
 -- The elements of a list: of a first one and the rest, of those that pass a test, and of what becomes of each.
-use Rattle.std.proofs.Common.{◌≡◌, ℕ, zero, suc, Bool, true, false, ◌||◌, cond, ◌⊎◌, inl, inr, List, [], ◌∷◌, map, slice_get, Some, Contains, refl, sym, ap, ◌∙◌, subst, arith, true≢false}
+use Rattle.std.proofs.Common.{◌≡◌, ℕ, zero, suc, Bool, true, false, ◌||◌, ◌&&◌, cond, ◌⊎◌, inl, inr, List, [], ◌∷◌, ◌++◌, map, slice_get, Some, Contains, refl, sym, ap, ◌∙◌, subst, arith, true≢false}
 use Rattle.std.proofs.lemmas.Option.{same_Some}
-use Rattle.std.specs.List.{list_any, filter}
+use Rattle.std.proofs.lemmas.Bool.{and_from}
+use Rattle.std.specs.List.{list_any, list_all, filter}
 
 module _ {X : Type 0} where
   pub contains_first : (x : X) (xs : List X) → Contains (x ∷ xs) x
@@ -65,6 +66,27 @@ module _ {X : Type 0} where
         further true h = contains_rest y x (filter p xs) h
         further false h = h
 
+  -- an element of two lists, one after the other
+  pub contains_either : (xs ys : List X) (x : X) → Contains (xs ++ ys) x → Contains xs x ⊎ Contains ys x
+  contains_either [] ys x there = inr there
+  contains_either (y ∷ xs) ys x there =
+      elim (first_or_rest y x (xs ++ ys) there) [
+        | inl same ↦ inl (subst (Contains (y ∷ xs)) (sym same) (contains_first y xs))
+        | inr later ↦ elim (contains_either xs ys x later) [ inl one ↦ inl (contains_rest y x xs one) | inr other ↦ inr other ]
+      ]
+
+  pub contains_left : (xs ys : List X) (x : X) → Contains xs x → Contains (xs ++ ys) x
+  contains_left [] ys x there = absurd (contains_nothing x there)
+  contains_left (y ∷ xs) ys x there =
+      elim (first_or_rest y x xs there) [
+        | inl same ↦ subst (Contains (y ∷ (xs ++ ys))) (sym same) (contains_first y (xs ++ ys))
+        | inr later ↦ contains_rest y x (xs ++ ys) (contains_left xs ys x later)
+      ]
+
+  pub contains_right : (xs ys : List X) (x : X) → Contains ys x → Contains (xs ++ ys) x
+  contains_right [] ys x there = there
+  contains_right (y ∷ xs) ys x there = contains_rest y x (xs ++ ys) (contains_right xs ys x there)
+
   -- an element at an index
   pub contains_at : (xs : List X) (index : ℕ) (x : X) → slice_get xs index ≡ Some x → Contains xs x
   contains_at [] index x at = absurd cc
@@ -77,6 +99,19 @@ module _ {X : Type 0} where
     | inl same ↦ (zero, ap Some (sym same))
     | inr later ↦ let h = index_of xs x later in (suc h.0, h.1)
   ]
+
+  -- all of them pass
+  all_next : (p : X → Bool) (y : X) (xs : List X) (x : X) (b : Bool) → p y ≡ b → (list_all p xs ≡ true → Contains xs x → p x ≡ true) → (b && list_all p xs) ≡ true → Contains (y ∷ xs) x → p x ≡ true
+  all_next p y xs x false here rest h there = absurd (true≢false (sym h))
+  all_next p y xs x true here rest h there = elim (first_or_rest y x xs there) [ inl same ↦ ap p same ∙ here | inr later ↦ rest h later ]
+
+  pub all_there : (p : X → Bool) (xs : List X) (x : X) → list_all p xs ≡ true → Contains xs x → p x ≡ true
+  all_there p [] x is there = absurd (contains_nothing x there)
+  all_there p (y ∷ xs) x is there = all_next p y xs x (p y) refl (λ h later. all_there p xs x h later) is there
+
+  pub all_from : (p : X → Bool) (xs : List X) → ((x : X) → Contains xs x → p x ≡ true) → list_all p xs ≡ true
+  all_from p [] each = refl
+  all_from p (y ∷ xs) each = and_from (p y) (list_all p xs) (each y (contains_first y xs)) (all_from p xs (λ x there. each x (contains_rest y x xs there)))
 
 -- what becomes of each
 module _ {X Y : Type 0} (f : X → Y) where

@@ -9,9 +9,8 @@ use Rattle.ak_address.specs.Unique.{AddressModel, UniqueModel, unique_cmp}
 use Rattle.ak_address.specs.Uniques.{UniqueSet, has}
 use Rattle.ak_member.specs.declared.effect.Effect.{Effect}
 use Rattle.ak_member.specs.declared.effect.Effect.TheVariants.{Rise}
-use Rattle.ak_member.specs.declared.status.Status.{Status}
-use Rattle.ak_member.specs.declared.status.Status.TheVariants.{Joining, Up, Leaving, Exiting, Down}
-use Rattle.ak_member.specs.Standing.{members_of}
+use Rattle.ak_member.specs.declared.status.Status.TheVariants.{Down}
+use Rattle.ak_member.specs.Standing.{members_of, is_down}
 use Rattle.ak_member.specs.Age.{counted_pairs, counted_addresses}
 use Rattle.ak_member.specs.View.{View}
 use Rattle.ak_reach.specs.Unreachable.{unreachable_members}
@@ -68,13 +67,6 @@ abbrev pub is_against : Decision → UniqueSet → UniqueModel → UniqueModel �
 is_against decision.DownUnreachable lost me who = not (is_beside lost me who)
 is_against decision.DownReachable lost me who = is_beside lost me who
 is_against decision.DownAll lost me who = true
-
-abbrev pub is_down : Status → Bool
-is_down Joining = false
-is_down Up = false
-is_down Leaving = false
-is_down Exiting = false
-is_down Down = true
 
 -- those members that pass the test go Down, where they are not
 abbrev pub all_downed : (UniqueModel → Bool) → List (UniqueModel × (Status × ℕ)) → List Effect

@@ -6,13 +6,13 @@ use Rattle.ak_member.specs.declared.effect.Effect.{Effect}
 use Rattle.ak_member.specs.declared.effect.Effect.TheVariants.{Rise}
 use Rattle.ak_member.specs.declared.status.Status.{Status}
 use Rattle.ak_member.specs.declared.status.Status.TheVariants.{Down}
-use Rattle.ak_member.specs.Standing.{Standings, member_of}
+use Rattle.ak_member.specs.Standing.{Standings, member_of, is_down}
 use Rattle.ak_member.specs.View.{View, RowTable}
 use Rattle.ak_schedule.specs.declared.settings.Strategy.{Strategy}
 use Rattle.ak_reach.specs.Unreachable.{unreachable_members}
 use Rattle.ak_downing.specs.declared.decision.Decision.{Decision}
 use Rattle.ak_downing.specs.declared.decision.Decision.TheVariants.{DownUnreachable}
-use Rattle.ak_downing.specs.Downing.{decide, is_against, is_down}
+use Rattle.ak_downing.specs.Downing.{decide, is_against}
 
 -- what a node knows that has these rows
 abbrev pub seen_with : Standings → RowTable → View

@@ -1,18 +1,14 @@
 -- Entries and their numbers, and which entries versions cover.
-use Rattle.std.proofs.Common.{◌≡◌, ◌≢◌, ℕ, zero, suc, ◌+◌, ◌≤◌, ◌<◌, max, leb, Bool, true, false, ◌||◌, if◌then◌else◌, ◌⊎◌, inl, inr, List, [], ◌∷◌, ◌++◌, Contains, refl, sym, ap, ◌∙◌, subst, arith, le-leb}
+use Rattle.std.proofs.Common.{◌≡◌, ◌≢◌, ℕ, ◌+◌, ◌≤◌, ◌<◌, max, leb, Bool, true, false, ◌||◌, if◌then◌else◌, inl, inr, List, [], ◌∷◌, ◌++◌, Contains, refl, sym, ap, ◌∙◌, subst, arith, le-leb}
 use Rattle.std.proofs.lemmas.Bool.{leb-true, leb-false, lt-leb}
 use Rattle.std.specs.Ordering.{is_eq}
-use Rattle.ak_address.proofs.ListLemmas.{contains_rest, first_or_rest, contains_nothing}
 use Rattle.ak_address.specs.Unique.{UniqueModel, unique_cmp}
 use Rattle.ak_address.proofs.TableLaws.{key_itself, other_key, same_or_apart}
+pub use Rattle.ak_address.proofs.Elements.{contains_first, contains_rest, first_or_rest, contains_nothing}
 use Rattle.ak_clock.specs.Version.{Counts, count, merged, bumped}
 use Rattle.ak_clock.proofs.VersionLaws.{count-merged, count-bumped_author, count-bumped_others}
 use Rattle.ak_history.specs.declared.entry.Entry.{Entry}
 use Rattle.ak_history.specs.History.{entries_of, IsNumbered, IsBounded, is_covered}
-
--- ---- elements of lists
-pub contains_first : {X : Type 0} (x : X) (xs : List X) → Contains (x ∷ xs) x
-contains_first x xs = (0, omega arith, refl)
 
 -- ---- how many entries an author has
 entries-if : (b : Bool) (k : ℕ) → k ≤ (if b then k + 1 else k)

@@ -11,7 +11,7 @@ use Rattle.ak_member.specs.View.{Row, RowTable, observed, after_observed, after_
 use Rattle.ak_history.specs.declared.entry.Entry.{Entry}
 use Rattle.ak_history.specs.History.{entries_of, IsNumbered, is_covered, view}
 use Rattle.ak_history.specs.Shown.{IsLastRow, Observes}
-use Rattle.ak_address.proofs.ListLemmas.{first_or_rest, contains_rest, contains_nothing}
+use Rattle.ak_address.proofs.Elements.{first_or_rest, contains_rest, contains_nothing}
 use Rattle.ak_history.proofs.HistoryLemmas.{contains_first, number_range, number_below, one_entry, covered_count}
 
 -- ---- what an entry makes of the rows

@@ -16,6 +16,7 @@ use Rattle.ak_member.specs.declared.standing.Standing.{Standing}
 use Rattle.ak_member.specs.Standing.{Standings, member_pairs, members_of}
 use Rattle.ak_member.specs.Age.{counts, IsCountedAt, IsOlder, IsByAge}
 use Rattle.ak_member.specs.Indices.{indexed_from}
+use Rattle.ak_address.proofs.Elements.{contains_at, index_of}
 use Rattle.ak_member.proofs.MemberLemmas.{keeps_members, kept_pair, kept_at_end}
 
 abbrev MemberPair : Type 0
@@ -138,12 +139,6 @@ in_order n m p q sorted other =
     (λ is above. inr (sym tied, above)))
     (λ is above. inl above)
 
-contains_at : {X : Type 0} (xs : List X) (k : ℕ) (x : X) → slice_get xs k ≡ Some x → Contains xs x
-contains_at xs k x is = (k, slice_get_within xs k x is, get_or_from_slice_get xs k x x is)
-
-at_contains : {X : Type 0} (xs : List X) (x : X) → Contains xs x → (k : ℕ) × (slice_get xs k ≡ Some x)
-at_contains xs x c = (c.0, slice_get-get_or xs c.0 x c.1 ∙ ap Some c.2)
-
 of_pair : (o : Option (ℕ × ℕ)) (p : ℕ) → option_map (λ pair. pair.1) o ≡ Some p → (pair : ℕ × ℕ) × (o ≡ Some pair) × (pair.1 ≡ p)
 of_pair None p is = absurd (none-some p is)
 of_pair (Some pair) p is = (pair, refl, same_Some pair.1 p is)
@@ -154,7 +149,7 @@ module _ (s : Standings) (pairs sorted : List (ℕ × ℕ)) (all : pairs ≡ ind
 
   counted_pair : (k : ℕ) (pair : ℕ × ℕ) → slice_get sorted k ≡ Some pair → IsCountedAt s pair.1 pair.0
   counted_pair k pair is =
-      let at = at_contains pairs pair (Contains-permutation sorted pairs pair (IsPermutation-sym pairs sorted moved) (contains_at sorted k pair is)) in
+      let at = index_of pairs pair (Contains-permutation sorted pairs pair (IsPermutation-sym pairs sorted moved) (contains_at sorted k pair is)) in
       let p = indexed_is 0 (members_of s) at.0 pair (ap (λ l. slice_get l at.0) (sym all) ∙ at.1) in
       let index : p.0 ≡ pair.1 = (let e = p.1 in omega arith) in
       subst (λ j. CountedAt (members_of s) j pair.0) index p.2
@@ -165,14 +160,14 @@ module _ (s : Standings) (pairs sorted : List (ℕ × ℕ)) (all : pairs ≡ ind
 
   to_member : (index : ℕ) → Contains indices index → (number : ℕ) × IsCountedAt s index number
   to_member index c =
-      let at = at_contains indices index c in
+      let at = index_of indices index c in
       let pair = pair_of_index at.0 index at.1 in
       (pair.0.0, subst (λ j. CountedAt (members_of s) j pair.0.0) pair.2 (counted_pair at.0 pair.0 pair.1))
 
   from_member : (index : ℕ) → (number : ℕ) × IsCountedAt s index number → Contains indices index
   from_member index c =
       let p = indexed_at 0 (members_of s) index c.0 c.1 in
-      let at = at_contains sorted (c.0, 0 + index) (Contains-permutation pairs sorted (c.0, 0 + index) moved (contains_at pairs p.0 (c.0, 0 + index) (ap (λ l. slice_get l p.0) all ∙ p.1))) in
+      let at = index_of sorted (c.0, 0 + index) (Contains-permutation pairs sorted (c.0, 0 + index) moved (contains_at pairs p.0 (c.0, 0 + index) (ap (λ l. slice_get l p.0) all ∙ p.1))) in
       let same : 0 + index ≡ index = omega arith in
       contains_at indices at.0 index (slice_get-map (λ pair. pair.1) sorted at.0 ∙ ap (option_map (λ pair. pair.1)) at.1 ∙ ap Some same)
 

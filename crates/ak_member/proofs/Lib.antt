@@ -1,10 +1,10 @@
 pub mod ByAgeLaws
 pub mod CountedLaws
 pub mod Folds
-pub mod Merges
-pub mod OldestLaws
-pub mod StandingLaws
-pub mod ViewLaws
 pub mod MemberLemmas
 pub mod MembersLaws
+pub mod Merges
+pub mod OldestLaws
 pub mod SetLaws
+pub mod StandingLaws
+pub mod ViewLaws

@@ -2,7 +2,7 @@
 use Rattle.std.proofs.Common.{◌≡◌, ℕ, zero, ◌+◌, Bool, true, false, not, ◌&&◌, ◌⊎◌, inl, inr, if◌then◌else◌, nat_le, nat_lt, ◌≤◌, List, [], ◌∷◌, ◌++◌, Option, Some, None, is_some, Ok, Err, Contains, IsTrue, refl, sym, ap, ◌∙◌, subst, arith, true≢false}
 use Rattle.std.proofs.lemmas.Bool.{ltb-false}
 use Rattle.std.proofs.lemmas.Option.{same_Some}
-use Rattle.ak_address.proofs.ListLemmas.{first_or_rest, contains_nothing, contains_rest}
+use Rattle.ak_address.proofs.Elements.{first_or_rest, contains_nothing, contains_rest}
 use Rattle.ak_member.specs.declared.standing.Standing.{Standing}
 use Rattle.std.specs.FinMap as map
 use Rattle.ak_address.specs.Unique.{AddressModel, UniqueModel}

@@ -138,7 +138,7 @@ reported_means rows observers subject = (there, back)
         any_at test (in_order observers) at.0 r.observer at.1 (ap (λ o. row_has o subject) r.has_row ∙ r.in_row)
 
 -- ---- those of a set that pass a test
-abbrev is_among : UniqueModel → List UniqueModel → Bool
+abbrev pub is_among : UniqueModel → List UniqueModel → Bool
 is_among q xs = list_any (eq_by_cmp unique_cmp q) xs
 
 one_more : (test : UniqueModel → Bool) (x q : UniqueModel) (b among : Bool) (them : UniqueSet) → test x ≡ b
@@ -163,7 +163,7 @@ one_more test x q false among them is = ap (λ b. has them q || b) (by_key (eq_b
         and_false false = refl
     by_key false tied = refl
 
-has-with_all : (test : UniqueModel → Bool) (xs : List UniqueModel) (them : UniqueSet) (q : UniqueModel) → has (with_all_reported test xs them) q ≡ (has them q || (is_among q xs && test q))
+pub has-with_all : (test : UniqueModel → Bool) (xs : List UniqueModel) (them : UniqueSet) (q : UniqueModel) → has (with_all_reported test xs them) q ≡ (has them q || (is_among q xs && test q))
 has-with_all test [] them q = nobody (has them q)
   where
     nobody : (b : Bool) → b ≡ (b || false)

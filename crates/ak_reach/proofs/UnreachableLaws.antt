@@ -1,13 +1,19 @@
 -- Who is unreachable, along the rows and in words.
-use Rattle.std.proofs.Common.{◌≡◌, ◌≢◌, ℕ, ◌+◌, Bool, true, false, ◌||◌, ◌&&◌, IsTrue, ◌↔◌, List, drop, slice_get, Option, Some, None, option_to_list, refl, sym, ap, ◌∙◌, true≢false}
-use Rattle.std.proofs.lemmas.Bool.{and_parts, and_from}
+use Rattle.std.proofs.Common.{◌≡◌, ◌≢◌, ℕ, ◌+◌, Bool, true, false, ◌||◌, ◌&&◌, IsTrue, ◌↔◌, ◌≤◌, List, drop, slice_get, Option, Some, None, is_some, option_map, option_to_list, arith, refl, sym, ap, ◌∙◌, true≢false}
+use Rattle.std.proofs.Math.ListN.{drop_of_length-le}
+use Rattle.std.proofs.lemmas.Bool.{and_parts, and_from, and_right}
+use Rattle.std.proofs.lemmas.List.{length-map}
+use Rattle.std.proofs.lemmas.Option.{slice_get-map}
+use Rattle.std.specs.Prelude as list
+use Rattle.std.specs.Ordering.{eq_by_cmp}
 use Rattle.std.proofs.lemmas.List.Folds.{list_any-append}
 use Rattle.std.specs.List.{list_any}
 use Rattle.std.specs.FinMap as map
-use Rattle.ak_address.specs.Unique.{UniqueModel}
-use Rattle.ak_address.specs.Uniques.{has}
-use Rattle.ak_address.proofs.TableLaws.{get_at, index_of_get}
-use Rattle.ak_address.proofs.UniquesLaws.{has-those}
+use Rattle.ak_address.specs.Unique.{UniqueModel, unique_cmp}
+use Rattle.ak_address.specs.Uniques.{UniqueSet, has, no_one}
+use Rattle.ak_address.proofs.TableLaws.{get_at, index_of_get, key_itself}
+use Rattle.ak_address.proofs.UniquesLaws.{has-no_one, has-those, same_uniques}
+use Rattle.ak_member.specs.declared.standing.Standing.{Standing}
 use Rattle.ak_member.specs.declared.status.Status.{Status}
 use Rattle.ak_member.specs.declared.status.Status.TheVariants.{Joining, Up, Leaving, Exiting, Down}
 use Rattle.ak_member.specs.Standing.{Standings, member_of, is_member, has_status, members_with, all_members}
@@ -16,8 +22,8 @@ use Rattle.ak_member.proofs.MemberLemmas.{drop_from}
 use Rattle.ak_member.proofs.SetLaws.{has-members_with, has-all_members}
 use Rattle.ak_reach.specs.Reach.{reported}
 use Rattle.ak_reach.specs.Unreachable.{observes, unreachable_members, IsUnreachable}
-use Rattle.ak_reach.specs.Walk.{row_shows}
-use Rattle.ak_reach.proofs.ReachLemmas.{index_of_any, any_at, reported_means}
+use Rattle.ak_reach.specs.Walk.{row_shows, with_reported, with_all_reported}
+use Rattle.ak_reach.proofs.ReachLemmas.{index_of_any, any_at, reported_means, with_left, is_among, has-with_all}
 
 -- ---- along a list
 module _ {X : Type 0} (p : X → Bool) where
@@ -89,12 +95,43 @@ unreachable_means v who = (there, back)
         }))
 
 -- the answer of the call, where the process is a member, and where it is none
-pub told_reachable : (v : View) (who : UniqueModel) (b : Bool) → b ≡ has (unreachable_members v) who → IsTrue b ↔ IsUnreachable v who
-told_reachable v who b is = (λ t. (unreachable_means v who).0 (sym is ∙ t), λ u. is ∙ (unreachable_means v who).1 u)
+pub answer_means : (v : View) (who : UniqueModel) (b : Bool) → b ≡ has (unreachable_members v) who → IsTrue b ↔ IsUnreachable v who
+answer_means v who b is = (λ t. (unreachable_means v who).0 (sym is ∙ t), λ u. is ∙ (unreachable_means v who).1 u)
 
-pub told_of_member : (v : View) (who : UniqueModel) (b : Bool) → is_member v.standings who ≡ true → b ≡ list_any (row_shows v.standings who) (map.entries v.rows) → b ≡ has (unreachable_members v) who
-told_of_member v who b member is =
+pub answer_of_member : (v : View) (who : UniqueModel) (b : Bool) → is_member v.standings who ≡ true → b ≡ list_any (row_shows v.standings who) (map.entries v.rows) → b ≡ has (unreachable_members v) who
+answer_of_member v who b member is =
     is ∙ shown_reported v.standings v.rows who ∙ sym (has-unreachable v who ∙ ap (λ t. t && reported v.rows (members_with observes v.standings) who) member)
 
-pub told_of_nobody : (v : View) (who : UniqueModel) → is_member v.standings who ≡ false → false ≡ has (unreachable_members v) who
-told_of_nobody v who none = sym (has-unreachable v who ∙ ap (λ t. t && reported v.rows (members_with observes v.standings) who) none)
+pub answer_of_nobody : (v : View) (who : UniqueModel) → is_member v.standings who ≡ false → false ≡ has (unreachable_members v) who
+answer_of_nobody v who none = sym (has-unreachable v who ∙ ap (λ t. t && reported v.rows (members_with observes v.standings) who) none)
+
+-- ---- the unreachable members as a set, along the pairs
+abbrev pub known_ones : Standings → List UniqueModel
+known_ones s = list.map (λ (e : UniqueModel × Standing). e.0) (map.entries s)
+
+pub found_next : (test : UniqueModel → Bool) (s : Standings) (i : ℕ) (them next all : UniqueSet) → next ≡ with_reported test (option_map (λ (e : UniqueModel × Standing). e.0) (slice_get (map.entries s) i)) them
+    → with_all_reported test (drop i (known_ones s)) them ≡ all → with_all_reported test (drop (i + 1) (known_ones s)) next ≡ all
+found_next test s i them next all is before =
+    ap (with_all_reported test (drop (i + 1) (known_ones s))) (is ∙ ap (λ o. with_reported test o them) (sym (slice_get-map (λ (e : UniqueModel × Standing). e.0) (map.entries s) i)))
+    ∙ sym (with_left test (known_ones s) i them)
+    ∙ before
+
+pub found_end : (test : UniqueModel → Bool) (s : Standings) (i : ℕ) (them all : UniqueSet) → map.len s ≤ i → with_all_reported test (drop i (known_ones s)) them ≡ all → them ≡ all
+found_end test s i them all past before =
+    sym (ap (λ rest. with_all_reported test rest them) (drop_of_length-le (known_ones s) (omega (arith, map.len-entries s, length-map (map.entries s) (λ (e : UniqueModel × Standing). e.0))))) ∙ before
+
+pub found_all : (v : View) → with_all_reported (has (unreachable_members v)) (known_ones v.standings) no_one ≡ unreachable_members v
+found_all v = same_uniques _ _ (λ q.
+    has-with_all (has (unreachable_members v)) (known_ones v.standings) no_one q
+    ∙ ap (λ b. b || (is_among q (known_ones v.standings) && has (unreachable_members v) q)) (has-no_one q)
+    ∙ by_has q (has (unreachable_members v) q) refl)
+  where
+    known : (q : UniqueModel) (o : Option Standing) → map.get v.standings q ≡ o → is_some (member_of o) ≡ true → is_among q (known_ones v.standings) ≡ true
+    known q None at is = absurd (true≢false (sym is))
+    known q (Some x) at is =
+        let index = index_of_get v.standings q x at in
+        any_at (eq_by_cmp unique_cmp q) (known_ones v.standings) index.0 q (slice_get-map (λ (e : UniqueModel × Standing). e.0) (map.entries v.standings) index.0 ∙ ap (option_map (λ (e : UniqueModel × Standing). e.0)) index.1) (key_itself q)
+
+    by_has : (q : UniqueModel) (b : Bool) → has (unreachable_members v) q ≡ b → (is_among q (known_ones v.standings) && b) ≡ b
+    by_has q true is = ap (λ t. t && true) (known q (map.get v.standings q) refl ((unreachable_means v q).0 is).member)
+    by_has q false is = and_right (is_among q (known_ones v.standings)) false refl

@@ -13,4 +13,4 @@ mod unreachable_tests;
 pub use laws::rows_are_merged;
 pub use row::Row;
 pub use rows::Rows;
-pub use unreachable::is_unreachable;
+pub use unreachable::{is_unreachable, unreachable_members};

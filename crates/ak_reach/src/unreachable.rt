@@ -1,14 +1,15 @@
-ghost use Rattle.std.specs.Prelude.{◌≡◌, ◌↔◌, IsTrue, slice_get, option_map, option_to_list};
+ghost use Rattle.std.specs.Prelude.{◌≡◌, ◌↔◌, IsTrue, IfOk, OnOk, slice_get, option_map, option_to_list};
 ghost use Rattle.std.specs.List.{list_any};
 ghost use Rattle.std.specs.FinMap as map;
 ghost use Rattle.ak_address.specs.Uniques.{has};
 ghost use Rattle.ak_member.specs.Standing.{has_status};
 ghost use Rattle.ak_reach.specs.Unreachable.{observes, unreachable_members, IsUnreachable};
-ghost use Rattle.ak_reach.specs.Walk.{row_shows};
+ghost use Rattle.ak_reach.specs.Walk.{row_shows, with_reported};
 
 use crate::rows::Rows;
-use ak_address::Unique;
+use ak_address::{Unique, Uniques};
 use ak_member::{Member, Members, Status};
+use std::alloc::{AllocError, Global};
 
 /// Whether the process is an unreachable member: one that a member which is not Down has in its row (Akka's Cluster
 /// Specification, "Failure Detector"; that the rows of Down members do not count is this project's choice). Every other
@@ -20,6 +21,42 @@ pub fn is_unreachable(members: &Members, rows: &Rows, who: &Unique) -> bool
     match members.get(who) {
         Some(_) => is_observed(members, rows, who),
         None => false,
+    }
+}
+
+/// The unreachable members, as a set. Only memory can fail.
+pub fn unreachable_members(
+    alloc: Global,
+    members: &Members,
+    rows: &Rows,
+) -> Result<Uniques, AllocError>
+    ensures { IfOk result (λ them. them ≡ unreachable_members (record { standings = members.now; rows = rows.now })) }
+{
+    let mut them = Uniques::empty(alloc);
+    'pairs: for pair in 0..members.uniques() {
+        add_unreachable(alloc, members, rows, pair, &mut them)?;
+    }
+    Ok(them)
+}
+
+// Adds the process at an index among all that are known, where it is an unreachable member.
+fn add_unreachable(
+    alloc: Global,
+    members: &Members,
+    rows: &Rows,
+    pair: usize,
+    them: &mut Uniques,
+) -> Result<(), AllocError>
+    ensures { OnOk result (them.new ≡ with_reported (has (unreachable_members (record { standings = members.now; rows = rows.now }))) (option_map (λ e. e.0) (slice_get (map.entries members.now) pair)) them.old) }
+{
+    match members.pair(pair) {
+        Some((who, _)) => {
+            if is_unreachable(members, rows, who) {
+                return them.insert(alloc, who);
+            }
+            Ok(())
+        }
+        None => Ok(()),
     }
 }
 

@@ -1,5 +1,5 @@
 use crate::rows_tests::rows_of;
-use crate::unreachable::is_unreachable;
+use crate::unreachable::{is_unreachable, unreachable_members};
 use ak_address::parse_unique;
 use ak_member::{Members, Status};
 use std::alloc::Global;
@@ -13,9 +13,9 @@ fn members_of(alloc: Global, lines: &[(&str, Status)]) -> Result<Members, Fail> 
     Ok(members)
 }
 
-// Whether the process is unreachable, where a has c in its row, the Down member b has d, and the exiting one e has x,
+// Whether the process is unreachable, and is in the set of those that are, where a has c in its row, the Down member b has d, and the exiting one e has x,
 // which is no member.
-fn found(alloc: Global, text: &str) -> Result<bool, Fail> {
+fn found(alloc: Global, text: &str) -> Result<(bool, bool), Fail> {
     let members = members_of(
         alloc,
         &[
@@ -34,7 +34,9 @@ fn found(alloc: Global, text: &str) -> Result<bool, Fail> {
             ("e:1#1", 1, "x:1#1"),
         ],
     )?;
-    Ok(is_unreachable(&members, &rows, &parse_unique(alloc, text.as_bytes())?))
+    let who = parse_unique(alloc, text.as_bytes())?;
+    let them = unreachable_members(alloc, &members, &rows)?;
+    Ok((is_unreachable(&members, &rows, &who), them.contains(&who)))
 }
 
 #[test]
@@ -45,7 +47,7 @@ fn rows_of_down_members_do_not_count(rt: HostRuntime) -> Result<(), Fail> {
         ("d:1#1", false),
         ("x:1#1", false),
     ] {
-        assert_eq!(rt; found(rt.alloc(), text)?, wanted);
+        assert_eq!(rt; found(rt.alloc(), text)?, (wanted, wanted));
     }
     Ok(())
 }

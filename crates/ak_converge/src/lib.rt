@@ -1,0 +1,10 @@
+//! When the members of a cluster agree on a view, and when it settles.
+#![tactic(auto)]
+
+mod converge;
+mod laws;
+#[cfg(test)]
+mod tests;
+
+pub use converge::{converged, settled_by};
+pub use laws::settled_views;

@@ -1,0 +1,3 @@
+pub mod LeaderLaws
+pub mod LedLaws
+pub mod NumberLaws

@@ -1,0 +1,3 @@
+pub mod Leader
+pub mod Led
+pub mod Walk

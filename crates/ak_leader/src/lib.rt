@@ -1,0 +1,17 @@
+//! Who leads a cluster, and what the leader makes of a view on which all agree.
+#![tactic(auto)]
+
+mod founds;
+mod laws;
+mod leads;
+mod passes;
+#[cfg(test)]
+mod tests;
+
+pub use founds::founding;
+pub use laws::{
+    founding_raises_joining_members, leaders_effects_are_all, leaders_effects_have_causes,
+    leaders_numbers_rise,
+};
+pub use leads::leader;
+pub use passes::actions;
