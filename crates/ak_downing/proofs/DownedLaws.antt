@@ -8,13 +8,13 @@ use Rattle.ak_member.specs.declared.effect.Effect.{Effect}
 use Rattle.ak_member.specs.declared.effect.Effect.TheVariants.{Rise}
 use Rattle.ak_member.specs.declared.status.Status.{Status}
 use Rattle.ak_member.specs.declared.status.Status.TheVariants.{Down}
-use Rattle.ak_member.specs.Standing.{members_of}
+use Rattle.ak_member.specs.Standing.{is_down, members_of}
 use Rattle.ak_member.specs.View.{View}
 use Rattle.ak_member.proofs.MembersLaws.{members_have, have_members}
 use Rattle.ak_reach.specs.Unreachable.{unreachable_members}
 use Rattle.ak_downing.specs.declared.decision.Decision.{Decision}
 use Rattle.ak_downing.specs.declared.decision.Decision.TheVariants.{DownUnreachable}
-use Rattle.ak_downing.specs.Downing.{is_against, is_down, all_downed, downs}
+use Rattle.ak_downing.specs.Downing.{is_against, all_downed, downs}
 use Rattle.ak_downing.specs.Sides.{IsDowning}
 
 module _ (test : UniqueModel → Bool) where

@@ -8,13 +8,13 @@ use Rattle.ak_member.specs.declared.effect.Effect.TheVariants.{Rise}
 use Rattle.ak_member.specs.declared.status.Status.{Status}
 use Rattle.ak_member.specs.declared.status.Status.TheVariants.{Down}
 use Rattle.ak_member.specs.declared.standing.Standing.{Standing}
-use Rattle.ak_member.specs.Standing.{member_pairs}
+use Rattle.ak_member.specs.Standing.{is_down, member_pairs}
 use Rattle.ak_member.specs.View.{View}
 use Rattle.ak_member.proofs.MemberLemmas.{KeepsPairs, keeps_filtered, keeps_members, kept_pair, kept_at_end}
 use Rattle.ak_member.proofs.OldestLaws.{counted_among, keeps_counted}
 use Rattle.ak_member.proofs.CountedLaws.{KeepsProcess, counted_process, filtered_process}
 use Rattle.ak_reach.specs.Unreachable.{unreachable_members}
-use Rattle.ak_downing.specs.Downing.{is_beside, is_down, all_downed}
+use Rattle.ak_downing.specs.Downing.{is_beside, all_downed}
 
 -- ---- those on the side of the node
 abbrev pub beside_pair : View → UniqueModel → UniqueModel × ℕ → Bool

@@ -3,9 +3,9 @@ ghost use Rattle.std.specs.Prelude as list;
 ghost use Rattle.std.specs.FinMap as map;
 ghost use Rattle.ak_member.specs.declared.effect.Effect.TheVariants.{Rise};
 ghost use Rattle.ak_member.specs.declared.status.Status.TheVariants as status;
-ghost use Rattle.ak_member.specs.Standing.{member_pairs};
+ghost use Rattle.ak_member.specs.Standing.{is_down, member_pairs};
 ghost use Rattle.ak_reach.specs.Unreachable.{unreachable_members};
-ghost use Rattle.ak_downing.specs.Downing.{is_against, is_down, all_downed, downs};
+ghost use Rattle.ak_downing.specs.Downing.{is_against, all_downed, downs};
 ghost use Rattle.ak_downing.specs.Sides.{seen_with};
 
 use crate::decision::Decision;
