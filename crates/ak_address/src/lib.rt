@@ -3,6 +3,7 @@
 #![tactic(auto)]
 
 mod address;
+mod laws;
 mod parse;
 mod print;
 mod table;

@@ -22,7 +22,7 @@ pub trait Merge: Duplicate {
     /// What the two come to.
     ghost merged: { Self → Self → Self };
 
-    /// The join of the two values, which stay as they are. Only memory can fail.
+    /// The merge of the two values, which stay as they are. Only memory can fail.
     fn merged(&self, alloc: Global, other: &Self) -> Result<Self, AllocError>
         ensures { IfOk result (λ both. both ≡ merged self.now other.now) };
 }
@@ -38,7 +38,7 @@ pub trait Raise {
 }
 
 /// A finite map from processes to values, in the order of processes. All that is kept by process
-/// stands on it: counts, members, pairs of observers.
+/// stands on it: counts, members, rows of observers.
 #[derive(Drop)]
 pub struct Table<V> {
     entries: Vec<(Unique, V)>,
@@ -173,12 +173,6 @@ impl<V: Merge + Drop> Table<V> {
     }
 }
 
-/// What a merge of tables is, at each process: what the two say of it together. Two tables that answer alike at
-/// each process are equal, so this is all of it.
-pub fn merges_are_pointwise<V: Merge>()
-    ensures { (m n : map.FinMap unique_cmp V) (q : UniqueModel) → map.get (merged_tables V.merged m n) q ≡ merged_at V.merged (map.get m q) (map.get n q) }
-{}
-
 // Where the process stands, or as an error where it would go: a search by halves.
 fn index_of<V>(entries: &[(Unique, V)], who: &Unique) -> Result<usize, usize>
     requires { IsTrue (map.is_sorted unique_cmp entries.now) }
@@ -273,7 +267,7 @@ fn push_copies<V: Duplicate + Drop>(
     Ok(())
 }
 
-// The pairs of both lists in order, two of one process joined: one walk along both.
+// The pairs of both lists in order, two of one process merged: one walk along both.
 fn weave<V: Merge + Drop>(
     alloc: Global,
     left: &[(Unique, V)],

@@ -11,7 +11,8 @@ use Rattle.ak_member.specs.declared.status.Status.{Status}
 use Rattle.ak_member.specs.declared.status.Status.TheVariants.{Joining, Up, Leaving, Exiting, Down}
 use Rattle.ak_member.specs.declared.standing.Standing.{Standing}
 use Rattle.ak_member.specs.Standing.{member_of, member_pairs, members_of}
-use Rattle.ak_member.specs.Age.{counts, distinct, counted_addresses}
+use Rattle.ak_address.specs.Distinct.{distinct}
+use Rattle.ak_member.specs.Age.{counts, counted_addresses}
 use Rattle.ak_member.specs.View.{View}
 use Rattle.ak_address.proofs.Elements.{all_there, all_from}
 use Rattle.ak_member.proofs.MemberLemmas.{kept_from, keeps_members}

@@ -8,7 +8,8 @@ use Rattle.ak_address.specs.Uniques.{UniqueSet, has}
 use Rattle.ak_member.specs.declared.status.Status.{Status}
 use Rattle.ak_member.specs.declared.status.Status.TheVariants.{Joining, Up, Leaving, Exiting, Down}
 use Rattle.ak_member.specs.Standing.{Standings, member_of, members_of}
-use Rattle.ak_member.specs.Age.{counts, IsCounted, distinct, counted_addresses}
+use Rattle.ak_address.specs.Distinct.{distinct}
+use Rattle.ak_member.specs.Age.{counts, IsCounted, counted_addresses}
 use Rattle.ak_member.specs.View.{View}
 use Rattle.ak_reach.specs.Unreachable.{unreachable_members, IsUnreachable}
 

@@ -2,7 +2,8 @@ ghost use Rattle.std.specs.Prelude.{◌≡◌, ◌↔◌, ◌≤◌, ◌<◌, �
 ghost use Rattle.std.specs.List.{list_all};
 ghost use Rattle.std.specs.FinMap as map;
 ghost use Rattle.ak_member.specs.Standing.{member_pairs, members_of};
-ghost use Rattle.ak_member.specs.Age.{distinct, counted_addresses};
+ghost use Rattle.ak_address.specs.Distinct.{distinct};
+ghost use Rattle.ak_member.specs.Age.{counted_addresses};
 ghost use Rattle.ak_reach.specs.Unreachable.{unreachable_members};
 ghost use Rattle.ak_converge.specs.Convergence.{is_passed_over, agrees, is_converged, is_settled, IsConverged};
 

@@ -1,7 +1,8 @@
 ghost use Rattle.std.specs.Prelude.{ℕ, ◌≤◌, IsTrue};
 ghost use Rattle.ak_address.specs.Unique.{UniqueModel};
 ghost use Rattle.ak_address.specs.Uniques.{UniqueSet, has};
-ghost use Rattle.ak_member.specs.Age.{IsCounted, distinct, counted_addresses};
+ghost use Rattle.ak_address.specs.Distinct.{distinct};
+ghost use Rattle.ak_member.specs.Age.{IsCounted, counted_addresses};
 ghost use Rattle.ak_member.specs.View.{View};
 ghost use Rattle.ak_reach.specs.Unreachable.{IsUnreachable};
 ghost use Rattle.ak_converge.specs.Convergence.{is_settled, IsOut};

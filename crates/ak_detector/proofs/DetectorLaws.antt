@@ -36,21 +36,21 @@ and_last true b is = is
 and_last false b is = absurd (true≢false (sym is))
 
 -- ---- the other members
-members_by_row : (rows : List (UniqueModel × Standing)) → map (λ (row : UniqueModel × (Status × ℕ)). row.0) (member_pairs rows) ≡ map (λ (e : UniqueModel × Standing). e.0) (filter (λ (e : UniqueModel × Standing). is_some (as_member e.1)) rows)
-members_by_row [] = refl
-members_by_row ((who, Member status number) ∷ rows) = ap (λ l. who ∷ l) (members_by_row rows)
-members_by_row ((who, Buried confirmed) ∷ rows) = members_by_row rows
+members_by_pair : (pairs : List (UniqueModel × Standing)) → map (λ (pair : UniqueModel × (Status × ℕ)). pair.0) (member_pairs pairs) ≡ map (λ (e : UniqueModel × Standing). e.0) (filter (λ (e : UniqueModel × Standing). is_some (as_member e.1)) pairs)
+members_by_pair [] = refl
+members_by_pair ((who, Member status number) ∷ pairs) = ap (λ l. who ∷ l) (members_by_pair pairs)
+members_by_pair ((who, Buried confirmed) ∷ pairs) = members_by_pair pairs
 
 member_one : (who : UniqueModel) (o : Option Standing) → passes (λ (e : UniqueModel × Standing). is_some (as_member e.1)) who o ≡ is_some (member_of o)
 member_one who None = refl
 member_one who (Some x) = refl
 
 abbrev names : Standings → List UniqueModel
-names s = map (λ (row : UniqueModel × (Status × ℕ)). row.0) (members_of s)
+names s = map (λ (pair : UniqueModel × (Status × ℕ)). pair.0) (members_of s)
 
 among_members : (s : Standings) (who : UniqueModel) → among who (names s) ≡ is_member s who
 among_members s who =
-    ap (among who) (members_by_row (finmap.entries s))
+    ap (among who) (members_by_pair (finmap.entries s))
     ∙ among_passing (λ (e : UniqueModel × Standing). is_some (as_member e.1)) s who
     ∙ member_one who (finmap.get s who)
 

@@ -16,20 +16,20 @@ use Rattle.ak_address.proofs.CountersLaws.{among, among-filter, has-set_of, set_
 use Rattle.ak_member.specs.declared.status.Status.{Status}
 use Rattle.ak_member.specs.declared.standing.Standing.{Standing}
 use Rattle.ak_member.specs.Standing.{Standings, is_member, member_pairs}
-use Rattle.ak_member.proofs.MemberLemmas.{KeepsRows, kept_row, kept_at_end, keeps_members}
+use Rattle.ak_member.proofs.MemberLemmas.{KeepsPairs, kept_pair, kept_at_end, keeps_members}
 use Rattle.ak_member.proofs.Folds.{keeps_all, keeps_filtered, keeps_mapped}
 use Rattle.ak_detector.specs.Detector.{most_watched, watch_ring, is_silent, silent, watching, heard, ticked}
-use Rattle.ak_detector.specs.Sides.{is_on_side, side_rows, above_rows}
+use Rattle.ak_detector.specs.Sides.{is_on_side, side_pairs, above_pairs}
 
--- ---- what a walk keeps of each row
-pub keeps_side : (is_after : Bool) (me : UniqueModel) → KeepsRows (side_rows is_after me)
+-- ---- what a walk keeps of each pair
+pub keeps_side : (is_after : Bool) (me : UniqueModel) → KeepsPairs (side_pairs is_after me)
 keeps_side is_after me =
-    keeps_filtered (λ rows. map (λ (row : UniqueModel × (Status × ℕ)). row.0) (member_pairs rows)) (keeps_mapped member_pairs keeps_members (λ row. row.0)) (is_on_side is_after me)
+    keeps_filtered (λ pairs. map (λ (pair : UniqueModel × (Status × ℕ)). pair.0) (member_pairs pairs)) (keeps_mapped member_pairs keeps_members (λ pair. pair.0)) (is_on_side is_after me)
 
-pub keeps_above : (limit : ℕ) → KeepsRows (above_rows limit)
+pub keeps_above : (limit : ℕ) → KeepsPairs (above_pairs limit)
 keeps_above limit = keeps_mapped (filter (λ (e : UniqueModel × ℕ). nat_lt limit e.1)) (keeps_filtered (λ xs. xs) keeps_all (λ e. nat_lt limit e.1)) (λ e. e.0)
 
-pub keeps_those : (p : UniqueModel → Bool) → KeepsRows (filter p)
+pub keeps_those : (p : UniqueModel → Bool) → KeepsPairs (filter p)
 keeps_those p = keeps_filtered (λ xs. xs) keeps_all p
 
 -- a set has as many processes as indices
@@ -56,19 +56,19 @@ take-append (suc n) (x ∷ xs) ys =
 pub taken_both : (n : ℕ) (xs ys : List UniqueModel) (s : UniqueSet) → fold with_one (fold with_one s (take n xs)) (take (n - length xs) ys) ≡ fold with_one s (take n (xs ++ ys))
 taken_both n xs ys s = sym (ap (fold with_one s) (take-append n xs ys) ∙ fold-append with_one s (take n xs) (take (n - length xs) ys))
 
--- so many are left to take of those of the rows that are left
-pub record Taking (kept : List (UniqueModel × Standing) → List UniqueModel) (rows : List (UniqueModel × Standing)) (left : ℕ) (s : UniqueSet) (most : ℕ) (all : UniqueSet) : Type 0 where
-  pub left_is : left - length (kept rows) ≡ most
-  pub taken : fold with_one s (take left (kept rows)) ≡ all
+-- so many are left to take of those of the pairs that are left
+pub record Taking (kept : List (UniqueModel × Standing) → List UniqueModel) (pairs : List (UniqueModel × Standing)) (left : ℕ) (s : UniqueSet) (most : ℕ) (all : UniqueSet) : Type 0 where
+  pub left_is : left - length (kept pairs) ≡ most
+  pub taken : fold with_one s (take left (kept pairs)) ≡ all
 
-module _ (kept : List (UniqueModel × Standing) → List UniqueModel) (k : KeepsRows kept) where
-  pub taking_next : (rows : List (UniqueModel × Standing)) (i left next : ℕ) (s t : UniqueSet) (most : ℕ) (all : UniqueSet) (o : Option UniqueModel)
-      → option_to_list o ≡ kept (option_to_list (slice_get rows i)) → next ≡ left - length (option_to_list o) → t ≡ fold with_one s (take left (option_to_list o))
-      → Taking kept (drop i rows) left s most all → Taking kept (drop (i + 1) rows) next t most all
-  taking_next rows i left next s t most all o is fewer more so_far =
-      let rest = kept (drop (i + 1) rows) in
-      let whole : kept (drop i rows) ≡ option_to_list o ++ rest = kept_row kept k rows i o is in
-      let long : length (kept (drop i rows)) ≡ length (option_to_list o) + length rest = ap length whole ∙ length-append (option_to_list o) rest in
+module _ (kept : List (UniqueModel × Standing) → List UniqueModel) (k : KeepsPairs kept) where
+  pub taking_next : (pairs : List (UniqueModel × Standing)) (i left next : ℕ) (s t : UniqueSet) (most : ℕ) (all : UniqueSet) (o : Option UniqueModel)
+      → option_to_list o ≡ kept (option_to_list (slice_get pairs i)) → next ≡ left - length (option_to_list o) → t ≡ fold with_one s (take left (option_to_list o))
+      → Taking kept (drop i pairs) left s most all → Taking kept (drop (i + 1) pairs) next t most all
+  taking_next pairs i left next s t most all o is fewer more so_far =
+      let rest = kept (drop (i + 1) pairs) in
+      let whole : kept (drop i pairs) ≡ option_to_list o ++ rest = kept_pair kept k pairs i o is in
+      let long : length (kept (drop i pairs)) ≡ length (option_to_list o) + length rest = ap length whole ∙ length-append (option_to_list o) rest in
       let before = so_far.left_is in
       record {
         left_is = omega arith;
@@ -79,19 +79,19 @@ module _ (kept : List (UniqueModel × Standing) → List UniqueModel) (k : Keeps
             ∙ so_far.taken;
       }
 
-  pub taking_end : (rows : List (UniqueModel × Standing)) (i left : ℕ) (s : UniqueSet) (most : ℕ) (all : UniqueSet) → length rows ≤ i → Taking kept (drop i rows) left s most all → (left ≡ most) × (s ≡ all)
-  taking_end rows i left s most all past so_far =
-      let none : kept (drop i rows) ≡ [] = kept_at_end kept k rows i past in
-      let long : length (kept (drop i rows)) ≡ 0 = ap length none in
+  pub taking_end : (pairs : List (UniqueModel × Standing)) (i left : ℕ) (s : UniqueSet) (most : ℕ) (all : UniqueSet) → length pairs ≤ i → Taking kept (drop i pairs) left s most all → (left ≡ most) × (s ≡ all)
+  taking_end pairs i left s most all past so_far =
+      let none : kept (drop i pairs) ≡ [] = kept_at_end kept k pairs i past in
+      let long : length (kept (drop i pairs)) ≡ 0 = ap length none in
       let before = so_far.left_is in
       (omega arith, sym (ap (λ l. fold with_one s (take left l)) none ∙ ap (fold with_one s) (take-none left)) ∙ so_far.taken)
 
 pub ring_walked : (me : UniqueModel) (s : Standings) (left : ℕ) (ring : UniqueSet)
-    → left ≡ most_watched - length (side_rows true me (finmap.entries s)) → ring ≡ fold with_one no_one (take most_watched (side_rows true me (finmap.entries s)))
-    → fold with_one ring (take left (side_rows false me (finmap.entries s))) ≡ watch_ring me s
+    → left ≡ most_watched - length (side_pairs true me (finmap.entries s)) → ring ≡ fold with_one no_one (take most_watched (side_pairs true me (finmap.entries s)))
+    → fold with_one ring (take left (side_pairs false me (finmap.entries s))) ≡ watch_ring me s
 ring_walked me s left ring fewer first =
-    let after = side_rows true me (finmap.entries s) in
-    let before = side_rows false me (finmap.entries s) in
+    let after = side_pairs true me (finmap.entries s) in
+    let before = side_pairs false me (finmap.entries s) in
     (λ j. fold with_one (first j) (take (fewer j) before))
     ∙ taken_both most_watched after before no_one
     ∙ set_walked (take most_watched (after ++ before))
@@ -102,11 +102,11 @@ is_silent_by deadline None = false
 is_silent_by deadline (Some n) = nat_lt deadline n
 
 pub has-silent : (deadline : ℕ) (c : Counters) (q : UniqueModel) → has (silent deadline c) q ≡ is_silent_by deadline (finmap.get c q)
-has-silent deadline c q = has-set_of (above deadline c) q ∙ among_passing (λ (e : UniqueModel × ℕ). nat_lt deadline e.1) c q ∙ by_row (finmap.get c q)
+has-silent deadline c q = has-set_of (above deadline c) q ∙ among_passing (λ (e : UniqueModel × ℕ). nat_lt deadline e.1) c q ∙ by_pair (finmap.get c q)
   where
-    by_row : (o : Option ℕ) → passes (λ (e : UniqueModel × ℕ). nat_lt deadline e.1) q o ≡ is_silent_by deadline o
-    by_row None = refl
-    by_row (Some n) = refl
+    by_pair : (o : Option ℕ) → passes (λ (e : UniqueModel × ℕ). nat_lt deadline e.1) q o ≡ is_silent_by deadline o
+    by_pair None = refl
+    by_pair (Some n) = refl
 
 -- ---- who is watched
 among_in : (s : UniqueSet) (q : UniqueModel) → among q (in_order s) ≡ has s q
@@ -167,5 +167,5 @@ keys-heard who c = by_presence (finmap.contains_key c who) refl
         ∙ sym (has-keys_of c q))
     by_presence false there = refl
 
-pub row_there : (o p : Option UniqueModel) → o ≡ p → option_to_list o ≡ option_to_list p
-row_there o p is = ap option_to_list is
+pub pair_there : (o p : Option UniqueModel) → o ≡ p → option_to_list o ≡ option_to_list p
+pair_there o p is = ap option_to_list is

@@ -17,7 +17,7 @@ most_watched = 5
 -- the other members, those after the node first
 abbrev pub others_around : UniqueModel → Standings → List UniqueModel
 others_around me s =
-    let members = map (λ (row : UniqueModel × (Status × ℕ)). row.0) (members_of s) in
+    let members = map (λ (pair : UniqueModel × (Status × ℕ)). pair.0) (members_of s) in
     filter (λ who. is_lt (unique_cmp me who)) members ++ filter (λ who. is_lt (unique_cmp who me)) members
 
 -- the next members on the ring

@@ -12,10 +12,10 @@ abbrev pub is_on_side : Bool → UniqueModel → UniqueModel → Bool
 is_on_side true me who = is_lt (unique_cmp me who)
 is_on_side false me who = is_lt (unique_cmp who me)
 
--- the members on that side among these rows
-abbrev pub side_rows : Bool → UniqueModel → List (UniqueModel × Standing) → List UniqueModel
-side_rows is_after me rows = filter (is_on_side is_after me) (map (λ (row : UniqueModel × (Status × ℕ)). row.0) (member_pairs rows))
+-- the members on that side among these pairs
+abbrev pub side_pairs : Bool → UniqueModel → List (UniqueModel × Standing) → List UniqueModel
+side_pairs is_after me pairs = filter (is_on_side is_after me) (map (λ (pair : UniqueModel × (Status × ℕ)). pair.0) (member_pairs pairs))
 
--- the processes of these rows whose counter is above a limit
-abbrev pub above_rows : ℕ → List (UniqueModel × ℕ) → List UniqueModel
-above_rows limit rows = map (λ (e : UniqueModel × ℕ). e.0) (filter (λ (e : UniqueModel × ℕ). nat_lt limit e.1) rows)
+-- the processes of these pairs whose counter is above a limit
+abbrev pub above_pairs : ℕ → List (UniqueModel × ℕ) → List UniqueModel
+above_pairs limit pairs = map (λ (e : UniqueModel × ℕ). e.0) (filter (λ (e : UniqueModel × ℕ). nat_lt limit e.1) pairs)

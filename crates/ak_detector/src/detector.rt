@@ -6,7 +6,7 @@ ghost use Rattle.ak_address.specs.Counters.{counter, with_each};
 ghost use Rattle.ak_address.specs.Uniques.{with_one, in_order};
 ghost use Rattle.ak_member.specs.Standing.{is_member};
 ghost use Rattle.ak_detector.specs.Detector.{silent, watching, heard, ticked};
-ghost use Rattle.ak_detector.specs.Sides.{above_rows};
+ghost use Rattle.ak_detector.specs.Sides.{above_pairs};
 
 use crate::ring::watch_ring;
 use ak_address::{Table, Unique, Uniques};
@@ -103,17 +103,17 @@ fn silent_in(alloc: Global, counters: &Table<u32>, deadline: u32) -> Result<Uniq
     ensures { IfOk result (λ them. them ≡ silent deadline counters.now) }
 {
     let mut them = Uniques::empty(alloc);
-    'rows: for row in 0..counters.len() {
-        add_one(alloc, silent_at(counters, row, deadline), &mut them)?;
+    'pairs: for pair in 0..counters.len() {
+        add_one(alloc, silent_at(counters, pair, deadline), &mut them)?;
     }
     Ok(them)
 }
 
-// The process at a row, where its counter is above the deadline.
-fn silent_at(counters: &Table<u32>, row: usize, deadline: u32) -> Option<&Unique>
-    ensures { option_to_list (option_copied result) ≡ above_rows deadline (option_to_list (slice_get (map.entries counters.now) row)) }
+// The process at a pair, where its counter is above the deadline.
+fn silent_at(counters: &Table<u32>, pair: usize, deadline: u32) -> Option<&Unique>
+    ensures { option_to_list (option_copied result) ≡ above_pairs deadline (option_to_list (slice_get (map.entries counters.now) pair)) }
 {
-    match counters.at(row) {
+    match counters.at(pair) {
         Some((who, ticks)) => {
             if *ticks > deadline {
                 return Some(who);

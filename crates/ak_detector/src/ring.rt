@@ -3,7 +3,7 @@ ghost use Rattle.std.specs.List.{fold};
 ghost use Rattle.std.specs.FinMap as map;
 ghost use Rattle.ak_address.specs.Uniques.{with_one};
 ghost use Rattle.ak_detector.specs.Detector.{watch_ring};
-ghost use Rattle.ak_detector.specs.Sides.{is_on_side, side_rows};
+ghost use Rattle.ak_detector.specs.Sides.{is_on_side, side_pairs};
 
 use ak_address::{Unique, Uniques};
 use ak_member::{Members, Standing};
@@ -33,20 +33,20 @@ fn add_side(
     most: usize,
     ring: &mut Uniques,
 ) -> Result<usize, AllocError>
-    ensures { IfOk result (λ n. (n ≡ most - length (side_rows is_after me.now (map.entries members.now))) × (ring.new ≡ fold with_one ring.old (take most (side_rows is_after me.now (map.entries members.now))))) }
+    ensures { IfOk result (λ n. (n ≡ most - length (side_pairs is_after me.now (map.entries members.now))) × (ring.new ≡ fold with_one ring.old (take most (side_pairs is_after me.now (map.entries members.now))))) }
 {
     let mut left = most;
-    'rows: for row in 0..members.uniques() {
-        left = add_next(alloc, other_at(members, row, me, is_after), left, ring)?;
+    'pairs: for pair in 0..members.uniques() {
+        left = add_next(alloc, other_at(members, pair, me, is_after), left, ring)?;
     }
     Ok(left)
 }
 
-// The member at a row, where there is one on that side of the node.
-fn other_at<'a>(members: &'a Members, row: usize, me: &Unique, is_after: bool) -> Option<&'a Unique>
-    ensures { option_to_list (option_copied result) ≡ side_rows is_after me.now (option_to_list (slice_get (map.entries members.now) row)) }
+// The member at a pair, where there is one on that side of the node.
+fn other_at<'a>(members: &'a Members, pair: usize, me: &Unique, is_after: bool) -> Option<&'a Unique>
+    ensures { option_to_list (option_copied result) ≡ side_pairs is_after me.now (option_to_list (slice_get (map.entries members.now) pair)) }
 {
-    match members.row(row) {
+    match members.pair(pair) {
         Some((who, Standing::Member(_, _))) => {
             if is_on_side(is_after, me, who) {
                 return Some(who);

@@ -9,6 +9,7 @@ use Rattle.ak_address.specs.Unique.{AddressModel, UniqueModel, unique_cmp}
 use Rattle.ak_address.specs.Uniques.{UniqueSet, has}
 use Rattle.ak_member.specs.declared.effect.Effect.{Effect}
 use Rattle.ak_member.specs.declared.effect.Effect.TheVariants.{Rise}
+use Rattle.ak_member.specs.declared.status.Status.{Status}
 use Rattle.ak_member.specs.declared.status.Status.TheVariants.{Down}
 use Rattle.ak_member.specs.Standing.{members_of, is_down}
 use Rattle.ak_member.specs.Age.{counted_pairs, counted_addresses}

@@ -1,5 +1,5 @@
 -- A replay that says what it printed has printed the one replay text of its schedule, or there was no memory for it.
-use Rattle.std.proofs.Common.{◌≡◌, ℕ, List, Option, Some, refl, subst, inl, inr}
+use Rattle.std.proofs.Common.{◌≡◌, ◌-◌, ◌^◌, arith, ℕ, List, Option, Some, refl, subst, inl, inr}
 use Rattle.std.specs.Io.KnownBytes.{Appends}
 use Rattle.ak_outside.specs.Outside.{Rose}
 use Rattle.ak_outside.specs.declared.status.Status.{Status}
@@ -14,6 +14,23 @@ whole_text : (bytes text : List ℕ) (status : ℕ) (old new : Option (List ℕ)
     → (other : ℕ) (whole : List ℕ) → IsReplay bytes other whole → (status ≡ other) × Appends old new whole
 whole_text bytes text status old new is written other whole replay =
     let same = one_replay bytes status other text whole is replay in (same.0, subst (λ (t : List ℕ). Appends old new t) same.1 written)
+
+-- a count that did not change did not rise
+no_rise : Rose 0 0 → ⊥
+no_rise rose = let risen = rose (λ (e : ◌≡◌ {A = ℕ} 0 (2 ^ 64 - 1)). omega (arith, e)) in omega arith
+
+-- a replay of bytes that were read reads no more
+pub caused : (answer : Status) (r0 r1 w0 w1 : ℕ) → r1 ≡ r0 → ReplayCause answer 0 0 w0 w1 → ReplayCause answer r0 r1 w0 w1
+caused Done r0 r1 w0 w1 same cause = (same, cause.1)
+caused Schedule r0 r1 w0 w1 same cause = (same, cause.1)
+caused Memory r0 r1 w0 w1 same cause = (same, cause.1)
+caused Read r0 r1 w0 w1 same cause = absurd (no_rise cause.0)
+caused Write r0 r1 w0 w1 same cause = cause
+caused Double r0 r1 w0 w1 same cause = absurd cause
+caused Usage r0 r1 w0 w1 same cause = absurd cause
+caused Configuration r0 r1 w0 w1 same cause = absurd cause
+caused Link r0 r1 w0 w1 same cause = absurd cause
+caused Turns r0 r1 w0 w1 same cause = absurd cause
 
 completes : (bytes : List ℕ) (answer : Status) (r0 r1 w0 w1 : ℕ) (old new : Option (List ℕ)) → (Rose r0 r1 → ⊥) → (Rose w0 w1 → ⊥) → ReplayCause answer r0 r1 w0 w1
     → Prints bytes answer old new → IsCompleted bytes answer old new

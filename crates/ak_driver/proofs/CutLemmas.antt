@@ -234,19 +234,21 @@ replays_longer p (line ∷ []) (other ∷ longer) steps ending within stops e r 
 replays_longer p (line ∷ next ∷ lines) (other ∷ longer) steps ending within stops e r =
     elim (stops_next p.line line (next ∷ lines) stops) [
       | inl long ↦ at_stop p line other (next ∷ lines) longer steps ending (inl long) (stops_longer p line other (omega (arith, ap length e.0)) (inl long)) r
-      | inr later ↦ on_later p line other next lines longer steps ending later e r
+      | inr later ↦ on_later p line other next lines longer steps ending later e (λ q more few stop on. replays_longer q (next ∷ lines) longer more ending few stop e.1 on) r
     ]
   where
     on_later : (p : Progress) (line other next : List ℕ) (lines longer steps : List (List ℕ)) (ending : Ending) → StopsWithin (p.line + 1) (next ∷ lines)
         → Extends (line ∷ next ∷ lines) (other ∷ longer)
+        → ((q : Progress) (more : List (List ℕ)) → q.line ≤ most_lines + 1 → StopsWithin q.line (next ∷ lines) → Replays q (next ∷ lines) more ending
+          → Replays q longer more ending × (ending_status ending ≡ 4))
         → Replays p (line ∷ next ∷ lines) steps ending → Replays p (other ∷ longer) steps ending × (ending_status ending ≡ 4)
-    on_later p line other next lines longer steps ending later e (inl r) =
+    on_later p line other next lines longer steps ending later e on (inl r) =
         (inl (r.0, subst (λ (l : List ℕ). IsRefused p l r.0) e.0 r.1, r.2, r.3), ap ending_status r.3)
-    on_later p line other next lines longer steps ending later e (inr r) =
+    on_later p line other next lines longer steps ending later e on (inr r) =
         let q : Progress = (turn p r.0).0 in
         let is = next_line p r.0 in
         let within = accepted_within p line r.0 r.1 in
-        let rest = replays_longer q (next ∷ lines) longer r.2 ending (omega (arith, is, within)) (subst (λ (n : ℕ). StopsWithin n (next ∷ lines)) (sym is) later) e.1 r.3 in
+        let rest = on q r.2 (omega (arith, is, within)) (subst (λ (n : ℕ). StopsWithin n (next ∷ lines)) (sym is) later) r.3 in
         (inr (r.0, subst (λ (l : List ℕ). Judged p l r.0) e.0 r.1, r.2, rest.0, r.4), rest.1)
 
 -- ---- bytes that pass a limit

@@ -81,6 +81,7 @@ impl Extent {
 /// endless input ends too. After the first failed read no other is asked. The source's count of faults rises exactly
 /// where a read failed.
 pub fn read_all<S: Source>(alloc: Global, input: &mut S) -> Result<Vec<u8>, Unread>
+    ensures count { S.faults input.old ≤ S.faults input.new }
     ensures cause { MatchResult result (λ bytes. S.faults input.new ≡ S.faults input.old) (UnreadCause (S.faults input.old) (S.faults input.new)) }
     ensures reads { IfOk result (λ bytes. IfSome (S.remaining input.old) (λ all. Reads all bytes.items (S.remaining input.new))) }
 {

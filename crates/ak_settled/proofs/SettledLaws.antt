@@ -20,7 +20,7 @@ use Rattle.ak_member.specs.Standing.{Standings, member_of, members_of, tombstone
 use Rattle.ak_member.specs.Age.{counts, counted_pairs, least_pair, IsOldest}
 use Rattle.ak_member.proofs.OldestLaws.{oldest_is}
 use Rattle.ak_settled.specs.SettledView.{SettledView}
-use Rattle.ak_settled.specs.Settled.{standings_of, counters_of, unconfirmed, unconfirmed_rows, noted_as, ticked, ending, is_over, is_finished, has_risen, is_needed_as, needed, candidate, IsCounting}
+use Rattle.ak_settled.specs.Settled.{standings_of, counters_of, unconfirmed, unconfirmed_pairs, noted_as, ticked, ending, is_over, is_finished, has_risen, is_needed_as, needed, candidate, IsCounting}
 
 -- ---- what the settled view says of one process
 abbrev pub is_needed_by : ℕ → ℕ → Option Standing → Bool
@@ -31,10 +31,10 @@ pub finished_at : (margin : ℕ) (settled : SettledView) (who : UniqueModel) →
 finished_at margin None who = sym (ap (λ o. is_over margin (counter finmap.empty who) (tombstone_of o)) (get-empty who))
 finished_at margin (Some noted) who = refl
 
-needed_row : (margin : ℕ) (counters : Counters) (who : UniqueModel) (o : Option Standing)
+needed_pair : (margin : ℕ) (counters : Counters) (who : UniqueModel) (o : Option Standing)
     → passes (λ (e : UniqueModel × Standing). is_needed_as margin (counter counters e.0) e.1) who o ≡ is_needed_by margin (counter counters who) o
-needed_row margin counters who None = refl
-needed_row margin counters who (Some x) = refl
+needed_pair margin counters who None = refl
+needed_pair margin counters who (Some x) = refl
 
 pub needed_at : (margin : ℕ) (settled : SettledView) (who : UniqueModel) → has (needed margin settled) who ≡ is_needed_by margin (counter (counters_of settled) who) (finmap.get (standings_of settled) who)
 needed_at margin None who = has-no_one who ∙ sym (ap (is_needed_by margin (counter finmap.empty who)) (get-empty who))
@@ -42,7 +42,7 @@ needed_at margin (Some noted) who =
     let p : UniqueModel × Standing → Bool = λ e. is_needed_as margin (counter noted.counters e.0) e.1 in
     has-set_of (map (λ (e : UniqueModel × Standing). e.0) (filter p (finmap.entries noted.standings))) who
     ∙ among_passing p noted.standings who
-    ∙ needed_row margin noted.counters who (finmap.get noted.standings who)
+    ∙ needed_pair margin noted.counters who (finmap.get noted.standings who)
 
 -- ---- needed or finished
 known_joining : (margin ticks number : ℕ) (o : Option Standing) → member_of o ≡ Some (Joining, number) → (is_needed_by margin ticks o ≡ false) × (is_over margin ticks (tombstone_of o) ≡ false)
@@ -117,11 +117,11 @@ candidate_needed margin (Some noted) who is =
     ((member margin (Some noted) who c.0 h.0 c.1 (counts_risen c.0 c.2)).0, no_tombstone (finmap.get noted.standings who) (c.0, h.0) c.1)
 
 -- ---- unconfirmed tombstones
-unconfirmed_by_row : (rows : List (UniqueModel × Standing)) → unconfirmed_rows rows ≡ map (λ (e : UniqueModel × Standing). e.0) (filter (λ (e : UniqueModel × Standing). unwrap_or (option_map not (as_tombstone e.1)) false) rows)
-unconfirmed_by_row [] = refl
-unconfirmed_by_row ((who, Member status number) ∷ rows) = unconfirmed_by_row rows
-unconfirmed_by_row ((who, Buried true) ∷ rows) = unconfirmed_by_row rows
-unconfirmed_by_row ((who, Buried false) ∷ rows) = ap (λ l. who ∷ l) (unconfirmed_by_row rows)
+unconfirmed_by_pair : (pairs : List (UniqueModel × Standing)) → unconfirmed_pairs pairs ≡ map (λ (e : UniqueModel × Standing). e.0) (filter (λ (e : UniqueModel × Standing). unwrap_or (option_map not (as_tombstone e.1)) false) pairs)
+unconfirmed_by_pair [] = refl
+unconfirmed_by_pair ((who, Member status number) ∷ pairs) = unconfirmed_by_pair pairs
+unconfirmed_by_pair ((who, Buried true) ∷ pairs) = unconfirmed_by_pair pairs
+unconfirmed_by_pair ((who, Buried false) ∷ pairs) = ap (λ l. who ∷ l) (unconfirmed_by_pair pairs)
 
 unconfirmed_one : (who : UniqueModel) (o : Option Standing) → passes (λ (e : UniqueModel × Standing). unwrap_or (option_map not (as_tombstone e.1)) false) who o ≡ unwrap_or (option_map not (tombstone_of o)) false
 unconfirmed_one who None = refl
@@ -129,7 +129,7 @@ unconfirmed_one who (Some x) = refl
 
 pub among_unconfirmed : (s : Standings) (who : UniqueModel) → among who (unconfirmed s) ≡ unwrap_or (option_map not (tombstone_of (finmap.get s who))) false
 among_unconfirmed s who =
-    ap (among who) (unconfirmed_by_row (finmap.entries s))
+    ap (among who) (unconfirmed_by_pair (finmap.entries s))
     ∙ among_passing (λ (e : UniqueModel × Standing). unwrap_or (option_map not (as_tombstone e.1)) false) s who
     ∙ unconfirmed_one who (finmap.get s who)
 
@@ -199,12 +199,12 @@ module _ (margin : ℕ) (settled : SettledView) (who : UniqueModel) where
       ∙ ap (λ c. is_over margin (counter c who) (tombstone_of (finmap.get (standings_of settled) who))) (counters-ticked margin settled)
       ∙ ap (λ k. is_over margin (unwrap_or k 0) (tombstone_of (finmap.get (standings_of settled) who))) (get-changed (λ n. min (n + 1) margin) (counters_of settled) who)
 
-  ends_row : (k : Option ℕ) → passes (λ (e : UniqueModel × ℕ). e.1 + 1 == margin) who k ≡ ends margin k
-  ends_row None = refl
-  ends_row (Some n) = refl
+  ends_pair : (k : Option ℕ) → passes (λ (e : UniqueModel × ℕ). e.1 + 1 == margin) who k ≡ ends margin k
+  ends_pair None = refl
+  ends_pair (Some n) = refl
 
   among_ending : among who (ending margin settled) ≡ ends margin kept
-  among_ending = among_passing (λ (e : UniqueModel × ℕ). e.1 + 1 == margin) (counters_of settled) who ∙ ends_row kept
+  among_ending = among_passing (λ (e : UniqueModel × ℕ). e.1 + 1 == margin) (counters_of settled) who ∙ ends_pair kept
 
   forth : (k : Option ℕ) (o : Option Bool) → (is_some k ≡ true → o ≡ Some false) → unwrap_or k 0 ≤ margin → is_over margin (after k) o ≡ true → (is_over margin (unwrap_or k 0) o ≡ true) ⊎ (ends margin k ≡ true)
   forth None o there bound is = inl is

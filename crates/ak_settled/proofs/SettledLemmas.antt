@@ -13,20 +13,20 @@ use Rattle.ak_clock.specs.Version.{Counts}
 use Rattle.ak_member.specs.declared.standing.Standing.{Standing}
 use Rattle.ak_member.specs.Standing.{Standings, nobody, tombstone_of, tombstone_pairs, member_pairs}
 use Rattle.ak_member.specs.Age.{oldest, least_pair, counted_pairs}
-use Rattle.ak_member.proofs.MemberLemmas.{KeepsRows, keeps_tombstones}
+use Rattle.ak_member.proofs.MemberLemmas.{KeepsPairs, keeps_tombstones}
 use Rattle.ak_member.proofs.Folds.{keeps_all, keeps_filtered, keeps_mapped}
 use Rattle.ak_settled.specs.declared.ticks.Ticks.{Ticks}
-use Rattle.ak_settled.specs.Settled.{version_of, standings_of, counters_of, unconfirmed_rows, is_over, is_finished, is_needed_as, needed_rows, needed, candidate, after_note, after_tick}
-use Rattle.ak_settled.specs.Ticks.{MarkedCounters, counts_of, unmarked, after_one, marked_rows, marked, with_unmarked, view_of, IsKept, settled_of}
+use Rattle.ak_settled.specs.Settled.{version_of, standings_of, counters_of, unconfirmed_pairs, is_over, is_finished, is_needed_as, needed_pairs, needed, candidate, after_note, after_tick}
+use Rattle.ak_settled.specs.Ticks.{MarkedCounters, counts_of, unmarked, after_one, marked_pairs, marked, with_unmarked, view_of, IsKept, settled_of}
 
--- ---- what a walk keeps of each row
-pub keeps_marked : KeepsRows marked_rows
+-- ---- what a walk keeps of each pair
+pub keeps_marked : KeepsPairs marked_pairs
 keeps_marked = keeps_mapped (filter (λ (e : UniqueModel × Ticks). e.1.has_just_ended)) (keeps_filtered (λ xs. xs) keeps_all (λ e. e.1.has_just_ended)) (λ e. e.0)
 
-pub keeps_unconfirmed : KeepsRows unconfirmed_rows
-keeps_unconfirmed = keeps_mapped (λ rows. filter (λ (row : UniqueModel × Bool). not row.1) (tombstone_pairs rows)) (keeps_filtered tombstone_pairs keeps_tombstones (λ row. not row.1)) (λ row. row.0)
+pub keeps_unconfirmed : KeepsPairs unconfirmed_pairs
+keeps_unconfirmed = keeps_mapped (λ pairs. filter (λ (pair : UniqueModel × Bool). not pair.1) (tombstone_pairs pairs)) (keeps_filtered tombstone_pairs keeps_tombstones (λ pair. not pair.1)) (λ pair. pair.0)
 
-pub keeps_needed : (margin : ℕ) (counters : Counters) → KeepsRows (needed_rows margin counters)
+pub keeps_needed : (margin : ℕ) (counters : Counters) → KeepsPairs (needed_pairs margin counters)
 keeps_needed margin counters =
     keeps_mapped (filter (λ (e : UniqueModel × Standing). is_needed_as margin (counter counters e.0) e.1)) (keeps_filtered (λ xs. xs) keeps_all (λ e. is_needed_as margin (counter counters e.0) e.1)) (λ e. e.0)
 
@@ -45,12 +45,12 @@ same_counters c = same_table _ _ (λ q. get-changed (λ (n : ℕ). n) c q ∙ sa
 pub counts-unmarked : (c : Counters) → counts_of (changed unmarked c) ≡ c
 counts-unmarked c = changed-changed unmarked (λ (t : Ticks). t.count) c ∙ same_counters c
 
-none_marked : (es : List (UniqueModel × ℕ)) → marked_rows (rows_changed unmarked es) ≡ []
+none_marked : (es : List (UniqueModel × ℕ)) → marked_pairs (rows_changed unmarked es) ≡ []
 none_marked [] = refl
 none_marked (e ∷ es) = none_marked es
 
 pub marked-unmarked : (c : Counters) → marked (changed unmarked c) ≡ []
-marked-unmarked c = ap marked_rows (entries-changed unmarked c) ∙ none_marked (finmap.entries c)
+marked-unmarked c = ap marked_pairs (entries-changed unmarked c) ∙ none_marked (finmap.entries c)
 
 -- and are made one at a time
 unmarked_walked : (kept : Counters) (whos : List UniqueModel) (c : Counters) → fold (with_unmarked kept) (changed unmarked c) whos ≡ changed unmarked (fold (λ c who. finmap.insert c who (counter kept who)) c whos)
@@ -72,11 +72,11 @@ counts-ticked margin t =
     ∙ sym (changed-changed (λ (t : Ticks). t.count) (λ n. min (n + 1) margin) t)
 
 marked_next : (margin : ℕ) (es : List (UniqueModel × Ticks))
-    → marked_rows (rows_changed (after_one margin) es) ≡ map (λ (e : UniqueModel × ℕ). e.0) (filter (λ (e : UniqueModel × ℕ). e.1 + 1 == margin) (rows_changed (λ (t : Ticks). t.count) es))
+    → marked_pairs (rows_changed (after_one margin) es) ≡ map (λ (e : UniqueModel × ℕ). e.0) (filter (λ (e : UniqueModel × ℕ). e.1 + 1 == margin) (rows_changed (λ (t : Ticks). t.count) es))
 marked_next margin [] = refl
 marked_next margin (e ∷ es) = by_mark (e.1.count + 1 == margin) (marked_next margin es)
   where
-    by_mark : (b : Bool) → marked_rows (rows_changed (after_one margin) es) ≡ map (λ (e : UniqueModel × ℕ). e.0) (filter (λ (e : UniqueModel × ℕ). e.1 + 1 == margin) (rows_changed (λ (t : Ticks). t.count) es))
+    by_mark : (b : Bool) → marked_pairs (rows_changed (after_one margin) es) ≡ map (λ (e : UniqueModel × ℕ). e.0) (filter (λ (e : UniqueModel × ℕ). e.1 + 1 == margin) (rows_changed (λ (t : Ticks). t.count) es))
         → map (λ (e : UniqueModel × Ticks). e.0) (cond b ((e.0, after_one margin e.1) ∷ filter (λ (e : UniqueModel × Ticks). e.1.has_just_ended) (rows_changed (after_one margin) es)) (filter (λ (e : UniqueModel × Ticks). e.1.has_just_ended) (rows_changed (after_one margin) es)))
         ≡ map (λ (e : UniqueModel × ℕ). e.0) (cond b ((e.0, e.1.count) ∷ filter (λ (e : UniqueModel × ℕ). e.1 + 1 == margin) (rows_changed (λ (t : Ticks). t.count) es)) (filter (λ (e : UniqueModel × ℕ). e.1 + 1 == margin) (rows_changed (λ (t : Ticks). t.count) es)))
     by_mark true rest = ap (λ l. e.0 ∷ l) rest
@@ -84,9 +84,9 @@ marked_next margin (e ∷ es) = by_mark (e.1.count + 1 == margin) (marked_next m
 
 pub marked-ticked : (margin : ℕ) (t : MarkedCounters) → marked (changed (after_one margin) t) ≡ map (λ (e : UniqueModel × ℕ). e.0) (filter (λ (e : UniqueModel × ℕ). e.1 + 1 == margin) (finmap.entries (counts_of t)))
 marked-ticked margin t =
-    ap marked_rows (entries-changed (after_one margin) t)
+    ap marked_pairs (entries-changed (after_one margin) t)
     ∙ marked_next margin (finmap.entries t)
-    ∙ ap (λ rows. map (λ (e : UniqueModel × ℕ). e.0) (filter (λ (e : UniqueModel × ℕ). e.1 + 1 == margin) rows)) (sym (entries-changed (λ (t : Ticks). t.count) t))
+    ∙ ap (λ pairs. map (λ (e : UniqueModel × ℕ). e.0) (filter (λ (e : UniqueModel × ℕ). e.1 + 1 == margin) pairs)) (sym (entries-changed (λ (t : Ticks). t.count) t))
 
 -- ---- whether a tombstone is over
 pub over_confirmed : (margin ticks : ℕ) (confirmed : Bool) → confirmed ≡ true → confirmed ≡ is_over margin ticks (Some confirmed)
@@ -103,7 +103,7 @@ module _ (v : Counts) (s : Standings) (t : MarkedCounters) where
   counts_nothing is = ap counts_of is ∙ changed-empty (λ (t : Ticks). t.count)
 
   marked_nothing : t ≡ finmap.empty → marked t ≡ []
-  marked_nothing is = ap marked is ∙ ap marked_rows entries-empty
+  marked_nothing is = ap marked is ∙ ap marked_pairs entries-empty
 
   pub parts_version : (exists : Bool) → IsKept exists v s t → v ≡ version_of (view_of exists v s (counts_of t))
   parts_version true kept = refl
@@ -121,13 +121,13 @@ module _ (v : Counts) (s : Standings) (t : MarkedCounters) where
   parts_finished true kept margin who = refl
   parts_finished false kept margin who = ap (λ o. is_over margin (counter (counts_of t) who) (tombstone_of o)) (ap (λ m. finmap.get m who) kept.no_standing ∙ get-empty who)
 
-  pub parts_needed : (exists : Bool) → IsKept exists v s t → (margin : ℕ) → set_of (needed_rows margin (counts_of t) (finmap.entries s)) ≡ needed margin (view_of exists v s (counts_of t))
+  pub parts_needed : (exists : Bool) → IsKept exists v s t → (margin : ℕ) → set_of (needed_pairs margin (counts_of t) (finmap.entries s)) ≡ needed margin (view_of exists v s (counts_of t))
   parts_needed true kept margin = refl
-  parts_needed false kept margin = ap (λ rows. set_of (needed_rows margin (counts_of t) rows)) (ap finmap.entries kept.no_standing ∙ entries-empty)
+  parts_needed false kept margin = ap (λ pairs. set_of (needed_pairs margin (counts_of t) pairs)) (ap finmap.entries kept.no_standing ∙ entries-empty)
 
   pub parts_candidate : (exists : Bool) → IsKept exists v s t → oldest s ≡ candidate (view_of exists v s (counts_of t))
   parts_candidate true kept = refl
-  parts_candidate false kept = ap (λ rows. option_map (λ row. row.0) (least_pair (counted_pairs (member_pairs rows)))) (ap finmap.entries kept.no_standing ∙ entries-empty)
+  parts_candidate false kept = ap (λ pairs. option_map (λ pair. pair.0) (least_pair (counted_pairs (member_pairs pairs)))) (ap finmap.entries kept.no_standing ∙ entries-empty)
 
   -- after a tick
   pub parts_ticked : (exists : Bool) → IsKept exists v s t → (margin : ℕ) → settled_of exists v s (changed (after_one margin) t) ≡ after_tick margin (settled_of exists v s t)
@@ -150,14 +150,14 @@ module _ (v : Counts) (s : Standings) (t : MarkedCounters) where
 
   -- after a view is noted, with counters for its tombstones
   pub parts_noted : (exists : Bool) → IsKept exists v s t → (w : Counts) (u : Standings) (c : MarkedCounters)
-      → c ≡ changed unmarked (with_each (counts_of t) (unconfirmed_rows (finmap.entries u)) finmap.empty)
+      → c ≡ changed unmarked (with_each (counts_of t) (unconfirmed_pairs (finmap.entries u)) finmap.empty)
       → settled_of true w u c ≡ after_note w u (settled_of exists v s t)
   parts_noted exists kept w u c is =
-      let each = λ (k : Counters). with_each k (unconfirmed_rows (finmap.entries u)) finmap.empty in
+      let each = λ (k : Counters). with_each k (unconfirmed_pairs (finmap.entries u)) finmap.empty in
       let counts : counts_of c ≡ each (counters_of (view_of exists v s (counts_of t))) = ap counts_of is ∙ counts-unmarked (each (counts_of t)) ∙ ap each (parts_counters exists kept) in
       let marks : marked c ≡ [] = ap marked is ∙ marked-unmarked (each (counts_of t)) in
       λ i. record { view = Some (record { version = w; standings = u; counters = counts i }); just_ended = marks i }
 
 -- nothing is noted yet
 pub nothing_noted : settled_of false finmap.empty nobody finmap.empty ≡ record { view = None; just_ended = [] }
-nothing_noted = ap (λ rows. record { view = None; just_ended = marked_rows rows }) entries-empty
+nothing_noted = ap (λ pairs. record { view = None; just_ended = marked_pairs pairs }) entries-empty

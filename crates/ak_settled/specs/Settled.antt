@@ -28,12 +28,12 @@ abbrev pub counters_of : SettledView → Counters
 counters_of None = finmap.empty
 counters_of (Some noted) = noted.counters
 
--- the tombstones of processes that did not say that they stop, among these rows
-abbrev pub unconfirmed_rows : List (UniqueModel × Standing) → List UniqueModel
-unconfirmed_rows rows = map (λ (row : UniqueModel × Bool). row.0) (filter (λ (row : UniqueModel × Bool). not row.1) (tombstone_pairs rows))
+-- the tombstones of processes that did not say that they stop, among these pairs
+abbrev pub unconfirmed_pairs : List (UniqueModel × Standing) → List UniqueModel
+unconfirmed_pairs pairs = map (λ (pair : UniqueModel × Bool). pair.0) (filter (λ (pair : UniqueModel × Bool). not pair.1) (tombstone_pairs pairs))
 
 abbrev pub unconfirmed : Standings → List UniqueModel
-unconfirmed s = unconfirmed_rows (finmap.entries s)
+unconfirmed s = unconfirmed_pairs (finmap.entries s)
 
 -- A settled view is noted: each unconfirmed tombstone keeps its counter, a new one begins at 0.
 abbrev pub noted_as : Counts → Standings → SettledView → SettledView
@@ -82,13 +82,13 @@ abbrev pub is_needed_as : ℕ → ℕ → Standing → Bool
 is_needed_as margin ticks (Member status number) = has_risen status
 is_needed_as margin ticks (Buried confirmed) = not (is_over margin ticks (Some confirmed))
 
--- those that are needed among these rows
-abbrev pub needed_rows : ℕ → Counters → List (UniqueModel × Standing) → List UniqueModel
-needed_rows margin counters rows = map (λ (e : UniqueModel × Standing). e.0) (filter (λ (e : UniqueModel × Standing). is_needed_as margin (counter counters e.0) e.1) rows)
+-- those that are needed among these pairs
+abbrev pub needed_pairs : ℕ → Counters → List (UniqueModel × Standing) → List UniqueModel
+needed_pairs margin counters pairs = map (λ (e : UniqueModel × Standing). e.0) (filter (λ (e : UniqueModel × Standing). is_needed_as margin (counter counters e.0) e.1) pairs)
 
 abbrev pub needed : ℕ → SettledView → UniqueSet
 needed margin None = no_one
-needed margin (Some noted) = set_of (needed_rows margin noted.counters (finmap.entries noted.standings))
+needed margin (Some noted) = set_of (needed_pairs margin noted.counters (finmap.entries noted.standings))
 
 -- the candidate: the oldest member of the settled view
 abbrev pub candidate : SettledView → Option UniqueModel

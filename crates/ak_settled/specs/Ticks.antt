@@ -25,12 +25,12 @@ unmarked n = record { count = n; has_just_ended = false }
 abbrev pub after_one : ℕ → Ticks → Ticks
 after_one margin t = record { count = min (t.count + 1) margin; has_just_ended = t.count + 1 == margin }
 
--- those that are marked, among these rows
-abbrev pub marked_rows : List (UniqueModel × Ticks) → List UniqueModel
-marked_rows rows = map (λ (e : UniqueModel × Ticks). e.0) (filter (λ (e : UniqueModel × Ticks). e.1.has_just_ended) rows)
+-- those that are marked, among these pairs
+abbrev pub marked_pairs : List (UniqueModel × Ticks) → List UniqueModel
+marked_pairs pairs = map (λ (e : UniqueModel × Ticks). e.0) (filter (λ (e : UniqueModel × Ticks). e.1.has_just_ended) pairs)
 
 abbrev pub marked : MarkedCounters → List UniqueModel
-marked counters = marked_rows (finmap.entries counters)
+marked counters = marked_pairs (finmap.entries counters)
 
 -- one more tombstone, with the counter that is kept, or 0
 abbrev pub with_unmarked : Counters → MarkedCounters → UniqueModel → MarkedCounters

@@ -6,8 +6,8 @@ ghost use Rattle.ak_address.specs.Uniques.{with_one, set_of};
 ghost use Rattle.ak_address.specs.Changed.{changed};
 ghost use Rattle.ak_address.specs.Counters.{counter, with_each};
 ghost use Rattle.ak_clock.specs.Version.{Covers};
-ghost use Rattle.ak_settled.specs.Settled.{version_of, standings_of, unconfirmed, unconfirmed_rows, unsettled, after_note, after_tick, is_finished, is_needed_as, needed_rows, needed, candidate};
-ghost use Rattle.ak_settled.specs.Ticks.{counts_of, unmarked, with_unmarked, marked_rows, marked};
+ghost use Rattle.ak_settled.specs.Settled.{version_of, standings_of, unconfirmed, unconfirmed_pairs, unsettled, after_note, after_tick, is_finished, is_needed_as, needed_pairs, needed, candidate};
+ghost use Rattle.ak_settled.specs.Ticks.{counts_of, unmarked, with_unmarked, marked_pairs, marked};
 
 use crate::ticks::Ticks;
 use ak_address::{Table, Unique, Uniques};
@@ -152,11 +152,11 @@ fn count_of(counters: &Table<Ticks>, who: &Unique) -> u32
     }
 }
 
-// The marked one at a row of the table, where there is one.
-fn marked_in_row(counters: &Table<Ticks>, row: usize) -> Option<&Unique>
-    ensures { option_to_list (option_copied result) ≡ marked_rows (option_to_list (slice_get (map.entries counters.now) row)) }
+// The marked one at a pair of the table, where there is one.
+fn marked_in_pair(counters: &Table<Ticks>, pair: usize) -> Option<&Unique>
+    ensures { option_to_list (option_copied result) ≡ marked_pairs (option_to_list (slice_get (map.entries counters.now) pair)) }
 {
-    match counters.at(row) {
+    match counters.at(pair) {
         Some((who, ticks)) => {
             if ticks.has_just_ended {
                 return Some(who);
@@ -171,8 +171,8 @@ fn marked_at(counters: &Table<Ticks>, index: usize) -> Option<&Unique>
     ensures { option_copied result ≡ slice_get (marked counters.now) index }
 {
     let mut left = index;
-    'rows: for row in 0..counters.len() {
-        let found = marked_in_row(counters, row);
+    'pairs: for pair in 0..counters.len() {
+        let found = marked_in_pair(counters, pair);
         if found.is_some() {
             if left == 0 {
                 return found;
@@ -192,17 +192,17 @@ fn counters_for(
     ensures { IfOk result (λ counters. counters ≡ changed unmarked (with_each (counts_of before.now) (unconfirmed members.now) map.empty)) }
 {
     let mut counters = Table::empty(alloc);
-    'rows: for row in 0..members.uniques() {
-        add_counter(alloc, before, unconfirmed_at(members, row), &mut counters)?;
+    'pairs: for pair in 0..members.uniques() {
+        add_counter(alloc, before, unconfirmed_at(members, pair), &mut counters)?;
     }
     Ok(counters)
 }
 
-// The unconfirmed tombstone at a row, where there is one.
-fn unconfirmed_at(members: &Members, row: usize) -> Option<&Unique>
-    ensures { option_to_list (option_copied result) ≡ unconfirmed_rows (option_to_list (slice_get (map.entries members.now) row)) }
+// The unconfirmed tombstone at a pair, where there is one.
+fn unconfirmed_at(members: &Members, pair: usize) -> Option<&Unique>
+    ensures { option_to_list (option_copied result) ≡ unconfirmed_pairs (option_to_list (slice_get (map.entries members.now) pair)) }
 {
-    match members.row(row) {
+    match members.pair(pair) {
         Some((who, Standing::Buried(false))) => Some(who),
         Some((_, Standing::Buried(true))) => None,
         Some((_, Standing::Member(_, _))) => None,
@@ -233,32 +233,32 @@ fn add_counter(
     }
 }
 
-// The processes of the rows that are needed.
+// The processes of the pairs that are needed.
 fn needed_in(
     alloc: Global,
     members: &Members,
     counters: &Table<Ticks>,
     margin: u32,
 ) -> Result<Uniques, AllocError>
-    ensures { IfOk result (λ them. them ≡ set_of (needed_rows margin (counts_of counters.now) (map.entries members.now))) }
+    ensures { IfOk result (λ them. them ≡ set_of (needed_pairs margin (counts_of counters.now) (map.entries members.now))) }
 {
     let mut them = Uniques::empty(alloc);
-    'rows: for row in 0..members.uniques() {
-        add_one(alloc, needed_at(members, counters, margin, row), &mut them)?;
+    'pairs: for pair in 0..members.uniques() {
+        add_one(alloc, needed_at(members, counters, margin, pair), &mut them)?;
     }
     Ok(them)
 }
 
-// The process at a row, where it is needed.
+// The process at a pair, where it is needed.
 fn needed_at<'a>(
     members: &'a Members,
     counters: &Table<Ticks>,
     margin: u32,
-    row: usize,
+    pair: usize,
 ) -> Option<&'a Unique>
-    ensures { option_to_list (option_copied result) ≡ needed_rows margin (counts_of counters.now) (option_to_list (slice_get (map.entries members.now) row)) }
+    ensures { option_to_list (option_copied result) ≡ needed_pairs margin (counts_of counters.now) (option_to_list (slice_get (map.entries members.now) pair)) }
 {
-    match members.row(row) {
+    match members.pair(pair) {
         Some((who, standing)) => {
             if is_needed(standing, count_of(counters, who), margin) {
                 return Some(who);

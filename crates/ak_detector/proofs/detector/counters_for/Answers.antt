@@ -4,12 +4,12 @@ use Rattle.ak_address.specs.Uniques.{in_order}
 use Rattle.ak_address.specs.Counters.{counter}
 use Rattle.ak_address.proofs.CountersLaws.{each_walked}
 use Rattle.ak_member.proofs.Folds.{keeps_all, fold_next, fold_end}
-use Rattle.ak_detector.proofs.DetectorLemmas.{length-in_order, row_there}
+use Rattle.ak_detector.proofs.DetectorLemmas.{length-in_order, pair_there}
 use Rattle.ak_detector.proofs.detector.counters_for.Goals as goal
 
 pub watched-preserved : goal.watched-preserved
 watched-preserved c =
-    fold_next (λ xs. xs) keeps_all (λ t who. map.insert t who (counter c.args.before.now who)) (in_order c.args.watched.now) c.watched.index c.watched.counters _ _ _ (row_there _ _ c.at.ensures) c.in_ok-add_counter.ensures c.watched.invariant
+    fold_next (λ xs. xs) keeps_all (λ t who. map.insert t who (counter c.args.before.now who)) (in_order c.args.watched.now) c.watched.index c.watched.counters _ _ _ (pair_there _ _ c.at.ensures) c.in_ok-add_counter.ensures c.watched.invariant
 
 pub returns : goal.returns
 returns c =

@@ -1,8 +1,11 @@
-use Rattle.std.proofs.Common.{arith, rules, ◌≡◌, ◌<◌, ◌≤◌, ℕ, false, true, List, [], ◌++◌, length, take, drop, subst, sym, ap, ◌∙◌}
+use Rattle.std.proofs.Common.{arith, rules, ◌≡◌, ◌<◌, ◌≤◌, ℕ, false, true, List, [], ◌++◌, length, take, drop, subst, refl, sym, ap, ◌∙◌, Err}
 use Rattle.std.proofs.lemmas.List.{length-take, take_at}
 use Rattle.std.specs.Io.KnownBytes.{Consumes}
 use Rattle.std.proofs.KnownBytes.{Consumes-nil, Consumes-trans}
-use Rattle.ak_driver.specs.InputContracts.{reach, IsExtent}
+use Rattle.std.specs.Prelude.{MatchResult}
+use Rattle.std.proofs.lemmas.Result.{err_from_is_err_and}
+use Rattle.ak_driver.specs.InputContracts.{reach, UnreadCause, IsExtent}
+use Rattle.ak_driver.specs.declared.input.Unread.{Unread}
 use Rattle.ak_driver.proofs.InputLemmas.{rest_falls, reads_whole, reads_prefix, is_past}
 use Rattle.ak_driver.proofs.input.read_all.Goals as goal
 
@@ -15,7 +18,7 @@ reads-init g c =
       size,
       within.0,
       within.1,
-      omega arith,
+      refl,
       subst (Consumes source source) (sym none) (Consumes-nil source),
       subst (λ (l : List ℕ). IsExtent l c.new-extent.result.past c.new-extent.result.lines c.new-extent.result.bytes) (sym none) c.new-extent.ensures.come,
     )
@@ -55,7 +58,7 @@ reads-preserved g c =
       ap length whole ∙ room,
       now.within.0,
       now.within.1,
-      omega (arith, c.reads.invariant.3, c.in-Got.ensures.count),
+      c.in-Got.ensures.cause ∙ c.reads.invariant.3,
       subst (Consumes old new) (sym items) joined,
       subst (λ (l : List ℕ). IsExtent l now.past now.lines now.bytes) (sym items) (c.take_all.ensures.come c.reads.bytes.items c.reads.invariant.5),
     )
@@ -65,3 +68,17 @@ returns-clause-reads g c =
     let past : c.reads.extent.past ≡ true = c.reads-test.false in
     reads_prefix (g.S.Source.remaining c.args.input.now) (g.S.Source.remaining c.reads.input) c.reads.bytes.items c.reads.invariant.4
     (is_past c.reads.extent.past c.reads.bytes.items c.reads.extent.lines c.reads.extent.bytes past c.reads.invariant.5)
+
+pub returns-in-Got-eq0-clause-cause : goal.returns-in-Got-eq0-clause-cause
+returns-in-Got-eq0-clause-cause g c = c.in-Got-eq0.ensures.cause ∙ c.reads.invariant.3
+
+pub returns-in_err-extend_from_slice-in-Got-clause-cause : goal.returns-in_err-extend_from_slice-in-Got-clause-cause
+returns-in_err-extend_from_slice-in-Got-clause-cause g c =
+    let p = err_from_is_err_and c.from_residual-in_err-extend_from_slice-in-Got.result c.from_residual-in_err-extend_from_slice-in-Got.ensures.1 in
+    let old = g.S.Source.faults c.args.input.now in
+    let new = g.S.Source.faults c.read.new.self in
+    subst (λ r. MatchResult r (λ bytes. new ≡ old) (UnreadCause old new)) (sym p.1)
+    (subst (λ (e : Unread). UnreadCause old new e) (sym p.2) (c.in-Got.ensures.cause ∙ c.reads.invariant.3))
+
+pub returns-clause-cause : goal.returns-clause-cause
+returns-clause-cause g c = c.reads.invariant.3

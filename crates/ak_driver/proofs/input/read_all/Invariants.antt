@@ -8,7 +8,7 @@ invariant-reads g l =
     (length l.buffer.items ≡ 65536)
     × (l.extent.lines ≤ 200000)
     × (l.extent.bytes ≤ 4097)
-    × (g.S.Source.faults l.initial.input ≤ g.S.Source.faults l.input)
+    × (g.S.Source.faults l.input ≡ g.S.Source.faults l.initial.input)
     × Consumes (g.S.Source.remaining l.initial.input) (g.S.Source.remaining l.input) l.bytes.items
     × IsExtent l.bytes.items l.extent.past l.extent.lines l.extent.bytes
 

@@ -3,4 +3,4 @@ use Rattle.ak_driver.proofs.replay.out_of_memory.Goals as goal
 
 pub returns-clause-written : goal.returns-clause-written
 returns-clause-written g c =
-    written_after _ _ _ _ _ _ _ _ _ _ c.write_all.ensures.count c.written.ensures.count c.if-not-write_all.ensures.whole c.written.ensures.written
+    written_after _ _ _ _ _ _ _ _ _ _ c.if-not-write_all.ensures.kept c.if-not-write_all.ensures.whole c.written.ensures.written
