@@ -1,9 +1,9 @@
 -- The text of two schedules, from the definitions.
-use Rattle.std.proofs.Common.{◌≡◌, ℕ, ◌+◌, ◌^◌, ◌<◌, ◌≤◌, List, [], ◌∷◌, ◌++◌, length, refl, sym, subst, ap, ◌∙◌, inl, arith, lit<, lit≤, Some, Ok, Bool, true, false, not, ◌&&◌, zero, suc, ◌≢◌, get_or, unwrap_or, is_some, if◌then◌else◌}
+use Rattle.std.proofs.Common.{◌≡◌, ℕ, ◌+◌, ◌^◌, ◌<◌, ◌≤◌, List, [], ◌∷◌, ◌++◌, length, refl, sym, subst, ap, ◌∙◌, inl, inr, arith, lit<, lit≤, Some, Ok, Bool, true, false, not, ◌&&◌, zero, suc, ◌≢◌, get_or, unwrap_or, is_some, if◌then◌else◌}
 use Rattle.std.specs.Prelude.{codes, slice_get, IfSome}
 use Rattle.std.specs.Fmt.{digits, decimal}
 use Rattle.std.specs.Prelude.{nat_le, map as list_map}
-use Rattle.std.specs.List.{AllPairs, list_all}
+use Rattle.std.specs.List.{AllPairs, list_all, concat}
 use Rattle.std.specs.FinMap as map
 use Rattle.ak_address.specs.Uniques.{no_one, with_one}
 use Rattle.ak_address.proofs.TableLaws.{get-empty, entries-insert-empty}
@@ -37,25 +37,26 @@ use Rattle.ak_node.specs.Node.{Outcome, started, nothing, update, closed, step, 
 use Rattle.ak_world.specs.StepText.{step_text}
 use Rattle.ak_report.specs.ActionText.{listed_text, count_text, member_text, tombstone_text, view_text, item}
 use Rattle.ak_world.specs.World.{WorldState, Done, empty_world, happens, stepped}
-use Rattle.ak_driver.specs.ReplayText.{Progress, Judgement, Judged, GoesOn, Replays, at_start, IsReplay, most_lines, most_events}
-use Rattle.ak_driver.specs.ReplayText as replay
+use Rattle.ak_driver.specs.ReplayText.{Progress, Sets, Steps, Ending, Finished, Replays, at_start, IsReplay, most_lines, most_events, header_count}
 use Rattle.ak_driver.specs.Worked.{text_of, and_limits, empty_schedule, empty_text, founding_schedule, founding_text}
 
 -- so many headers are read, and nothing has happened
 abbrev headed : ℕ → SettingsModel → Progress
-headed n settings = record { line = n + 1; headers = n; settings = settings; world = empty_world; steps = 0 }
+headed n settings = record { line = n + 1; headers = n; settings = settings; events = []; world = empty_world }
 
 -- a header line sets its setting, and the replay goes on
-header_line : (n : ℕ) (old new : SettingsModel) (line : List ℕ) (rest : List (List ℕ)) (which : header.Header) (status : ℕ) (text : List ℕ)
-    → n < 9 → slice_get headers n ≡ Some which → SetsHeader which line old new
-    → Replays (headed (n + 1) new) rest status text → Replays (headed n old) (line ∷ rest) status text
-header_line n old new line rest which status text few next sets more = (
-  replay.Sets new,
+header_line : (n : ℕ) (old new : SettingsModel) (line : List ℕ) (rest : List (List ℕ)) (which : header.Header) (steps : List (List ℕ)) (ending : Ending)
+    → n < header_count → slice_get headers n ≡ Some which → SetsHeader which line old new
+    → Replays (headed (n + 1) new) rest steps ending → Replays (headed n old) (line ∷ rest) steps ending
+header_line n old new line rest which steps ending few next sets more = inr (
+  Sets new,
   (
     record { in_limit = omega arith; not_passed = λ passed. no_header which line old new passed sets; heading = few },
-    subst (λ o. IfSome o (λ w. SetsHeader w line old new)) (sym next) sets,
+    record { which = which; next = next; sets = sets; count = refl },
   ),
+  steps,
   more,
+  refl,
 )
 
 -- a number in its canonical text
@@ -84,9 +85,6 @@ with_buffer s = record s { buffer = 2 }
 abbrev with_threshold : SettingsModel → SettingsModel
 with_threshold s = record s { threshold = 1 }
 
-abbrev with_limit : SettingsModel → SettingsModel
-with_limit s = record s { limit = 1 }
-
 -- the settings of both schedules, but for addresses and strategy
 abbrev limited : List AddressModel → Strategy → SettingsModel
 limited listed strategy = record { listed = listed; strategy = strategy; margin = 2; deadline = 9; stable = 9; shards = 10; buffer = 2; threshold = 1; limit = 1 }
@@ -96,10 +94,10 @@ abbrev after_it : List (List ℕ) → List (List ℕ)
 after_it [] = []
 after_it (line ∷ lines) = lines
 
-limit_lines : (s : SettingsModel) (rest : List (List ℕ)) (status : ℕ) (text : List ℕ)
-    → Replays (headed 9 (limited s.listed s.strategy)) rest status text → Replays (headed 2 s) (and_limits rest) status text
+limit_lines : (s : SettingsModel) (rest : List (List ℕ)) (steps : List (List ℕ)) (ending : Ending)
+    → Replays (headed 9 (limited s.listed s.strategy)) rest steps ending → Replays (headed 2 s) (and_limits rest) steps ending
 unfolding digits
-limit_lines s rest status text more =
+limit_lines s rest steps ending more =
     let l3 = after_it (and_limits rest) in
     let l4 = after_it l3 in
     let l5 = after_it l4 in
@@ -112,34 +110,34 @@ limit_lines s rest status text more =
     let s_shards : SettingsModel = with_shards s_stable in
     let s_buffer : SettingsModel = with_buffer s_shards in
     let s_threshold : SettingsModel = with_threshold s_buffer in
-    header_line 2 s s_margin (codes "margin 2") l3 header.TheVariants.Margin status text (lit< tt) refl
+    header_line 2 s s_margin (codes "margin 2") l3 header.TheVariants.Margin steps ending (lit< tt) refl
     (record { short = lit≤ tt; words = (2, setting (codes "margin") 1000000 2 (codes "margin 2") refl (lit≤ tt) (lit≤ tt) (lit< tt), refl) })
-    (header_line 3 s_margin s_deadline (codes "deadline 9") l4 header.TheVariants.Deadline status text (lit< tt) refl
+    (header_line 3 s_margin s_deadline (codes "deadline 9") l4 header.TheVariants.Deadline steps ending (lit< tt) refl
     (record { short = lit≤ tt; words = (9, setting (codes "deadline") 1000000 9 (codes "deadline 9") refl (lit≤ tt) (lit≤ tt) (lit< tt), refl) })
-    (header_line 4 s_deadline s_stable (codes "stable 9") l5 header.TheVariants.Stable status text (lit< tt) refl
+    (header_line 4 s_deadline s_stable (codes "stable 9") l5 header.TheVariants.Stable steps ending (lit< tt) refl
     (record { short = lit≤ tt; words = (9, setting (codes "stable") 1000000 9 (codes "stable 9") refl (lit≤ tt) (lit≤ tt) (lit< tt), refl) })
-    (header_line 5 s_stable s_shards (codes "shards 10") l6 header.TheVariants.Shards status text (lit< tt) refl
+    (header_line 5 s_stable s_shards (codes "shards 10") l6 header.TheVariants.Shards steps ending (lit< tt) refl
     (record { short = lit≤ tt; words = (10, setting (codes "shards") 1000 10 (codes "shards 10") refl (lit≤ tt) (lit≤ tt) (lit< tt), refl) })
-    (header_line 6 s_shards s_buffer (codes "buffer 2") l7 header.TheVariants.Buffer status text (lit< tt) refl
+    (header_line 6 s_shards s_buffer (codes "buffer 2") l7 header.TheVariants.Buffer steps ending (lit< tt) refl
     (record { short = lit≤ tt; words = (2, setting (codes "buffer") 100000 2 (codes "buffer 2") refl (lit≤ tt) (lit≤ tt) (lit< tt), refl) })
-    (header_line 7 s_buffer s_threshold (codes "threshold 1") l8 header.TheVariants.Threshold status text (lit< tt) refl
+    (header_line 7 s_buffer s_threshold (codes "threshold 1") l8 header.TheVariants.Threshold steps ending (lit< tt) refl
     (record { short = lit≤ tt; words = (1, setting (codes "threshold") 1000 1 (codes "threshold 1") refl (lit≤ tt) (lit≤ tt) (lit< tt), refl) })
-    (header_line 8 s_threshold (limited s.listed s.strategy) (codes "limit 1") rest header.TheVariants.Limit status text (lit< tt) refl
+    (header_line 8 s_threshold (limited s.listed s.strategy) (codes "limit 1") rest header.TheVariants.Limit steps ending (lit< tt) refl
     (record { short = lit≤ tt; words = (1, setting (codes "limit") 1000 1 (codes "limit 1") refl (lit≤ tt) (lit≤ tt) (lit< tt), refl) })
     more))))))
 
 -- the first two headers
-first_lines : (listing strategy : List ℕ) (listed : List AddressModel) (quorum : ℕ) (rest : List (List ℕ)) (status : ℕ) (text : List ℕ)
+first_lines : (listing strategy : List ℕ) (listed : List AddressModel) (quorum : ℕ) (rest : List (List ℕ)) (steps : List (List ℕ)) (ending : Ending)
     → length listing ≤ most_bytes → SpellsListing (words listing) listed
     → length strategy ≤ most_bytes → SpellsStrategy (words strategy) (StaticQuorum quorum)
-    → Replays (headed 9 (limited listed (StaticQuorum quorum))) rest status text → Replays at_start (listing ∷ strategy ∷ and_limits rest) status text
-first_lines listing strategy listed quorum rest status text short spelled short' spelled' more =
+    → Replays (headed 9 (limited listed (StaticQuorum quorum))) rest steps ending → Replays at_start (listing ∷ strategy ∷ and_limits rest) steps ending
+first_lines listing strategy listed quorum rest steps ending short spelled short' spelled' more =
     let unset : SettingsModel = first_draft.settings in
-    header_line 0 unset (record unset { listed = listed }) listing (strategy ∷ and_limits rest) header.TheVariants.Listed status text (lit< tt) refl
+    header_line 0 unset (record unset { listed = listed }) listing (strategy ∷ and_limits rest) header.TheVariants.Listed steps ending (lit< tt) refl
     (record { short = short; words = (listed, spelled, refl) })
-    (header_line 1 (record unset { listed = listed }) (record unset { listed = listed; strategy = StaticQuorum quorum }) strategy (and_limits rest) header.TheVariants.Strategy status text (lit< tt) refl
+    (header_line 1 (record unset { listed = listed }) (record unset { listed = listed; strategy = StaticQuorum quorum }) strategy (and_limits rest) header.TheVariants.Strategy steps ending (lit< tt) refl
     (record { short = short'; words = (StaticQuorum quorum, spelled', refl) })
-    (limit_lines (record unset { listed = listed; strategy = StaticQuorum quorum }) rest status text more))
+    (limit_lines (record unset { listed = listed; strategy = StaticQuorum quorum }) rest steps ending more))
 
 -- the two addresses
 abbrev at_a : AddressModel
@@ -173,9 +171,15 @@ strategy_of quorum line is low high = (decimal quorum, is, number quorum 32 low 
 pub empty : IsReplay empty_schedule 0 empty_text
 unfolding digits
 empty =
-    first_lines (codes "listed a:1") (codes "strategy static-quorum 1") (at_a ∷ []) 1 [] 0 empty_text
-    (lit≤ tt) listing_a (lit≤ tt) (strategy_of 1 (codes "strategy static-quorum 1") refl (lit≤ tt) (lit≤ tt))
-    (inl (lit≤ tt, refl, refl))
+    let end : Progress = headed 9 (limited (at_a ∷ []) (StaticQuorum 1)) in (
+      [],
+      Finished end,
+      first_lines (codes "listed a:1") (codes "strategy static-quorum 1") (at_a ∷ []) 1 [] [] (Finished end)
+          (lit≤ tt) listing_a (lit≤ tt) (strategy_of 1 (codes "strategy static-quorum 1") refl (lit≤ tt) (lit≤ tt))
+          (refl, inl (lit≤ tt, refl)),
+      refl,
+      refl,
+    )
 
 -- two different addresses
 two_different : (a b : AddressModel) → a ≢ b → AllPairs (λ x y. x ≢ y) (a ∷ b ∷ [])
@@ -214,15 +218,16 @@ is_b_1 : IsUnique b_1
 is_b_1 = record { address = is_b; uid = lit≤ tt; uid_fits = lit< tt }
 
 -- an event line is a step, and the replay goes on
-event_line : (p : Progress) (line : List ℕ) (rest : List (List ℕ)) (e : Event) (done : Done) (status : ℕ) (more text : List ℕ)
-    → p.line ≤ most_lines → 9 ≤ p.headers → p.steps < most_events → SpellsEvent line e → happens p.settings e p.world ≡ Ok done
-    → Replays (record p { line = p.line + 1; steps = p.steps + 1; world = done.world }) rest status more
-    → text ≡ step_text (length p.world.packets + 1) (p.steps + 1) e done ++ more
-    → Replays p (line ∷ rest) status text
-event_line p line rest e done status more text limit whole few spelled happened goes is = (
-  replay.Steps e done,
+event_line : (p : Progress) (line : List ℕ) (rest : List (List ℕ)) (e : Event) (done : Done) (steps : List (List ℕ)) (ending : Ending)
+    → p.line ≤ most_lines → header_count ≤ p.headers → length p.events < most_events → SpellsEvent line e → happens p.settings e p.world ≡ Ok done
+    → Replays (record p { line = p.line + 1; events = p.events ++ e ∷ []; world = done.world }) rest steps ending
+    → Replays p (line ∷ rest) (step_text (length p.world.packets + 1) (length p.events + 1) e done ∷ steps) ending
+event_line p line rest e done steps ending limit whole few spelled happened goes = inr (
+  Steps e done,
   (record { in_limit = limit; not_passed = λ passed. no_event line e passed spelled; running = whole }, few, spelled, happened),
-  (more, goes, is),
+  steps,
+  goes,
+  refl,
 )
 
 abbrev settled : SettingsModel
@@ -311,24 +316,49 @@ abbrev summary : List ℕ
 summary = text_of (codes "steps 3" ∷ codes "packets 0" ∷ codes "history 1" ∷ codes "margin kept" ∷ codes "doubles none" ∷ [])
 
 abbrev third_with : List ℕ → List ℕ
-third_with view =
-    codes "3 found a:1#1" ++ 10 ∷ [] ++ (item (codes "update 1 joined a:1#1") ++ (item view ++ [])) ++ summary
+third_with view = codes "3 found a:1#1" ++ 10 ∷ [] ++ (item (codes "update 1 joined a:1#1") ++ (item view ++ []))
+
+abbrev founding_with : List ℕ → List ℕ
+founding_with view = concat (text_of (codes "1 start a:1#1" ∷ []) ∷ text_of (codes "2 start b:1#1" ∷ []) ∷ third_with view ∷ []) ++ summary
+
+-- the two starts, and how far the replay has come after each event
+abbrev first_start : Done
+first_start = record { world = one_started; node = Some 0; actions = [] }
+
+abbrev second_start : Done
+second_start = record { world = both_started; node = Some 1; actions = [] }
+
+abbrev after_first : Progress
+after_first = record { line = 11; headers = 9; settings = settled; events = Start a_1 ∷ []; world = one_started }
+
+abbrev after_second : Progress
+after_second = record { line = 12; headers = 9; settings = settled; events = Start a_1 ∷ Start b_1 ∷ []; world = both_started }
+
+abbrev after_third : Progress
+after_third = record { line = 13; headers = 9; settings = settled; events = Start a_1 ∷ Start b_1 ∷ Found a_1 ∷ []; world = founded.world }
+
+abbrev founding_steps : List (List ℕ)
+founding_steps = step_text 1 1 (Start a_1) first_start ∷ step_text 1 2 (Start b_1) second_start ∷ step_text 1 3 (Found a_1) founded ∷ []
+
+founding_replays : Replays (headed 9 settled) (codes "start a:1#1" ∷ codes "start b:1#1" ∷ codes "found a:1#1" ∷ []) founding_steps (Finished after_third)
+unfolding digits
+founding_replays =
+    event_line (headed 9 settled) (codes "start a:1#1") (codes "start b:1#1" ∷ codes "found a:1#1" ∷ []) (Start a_1) first_start _ (Finished after_third)
+    (lit≤ tt) (lit≤ tt) (lit< tt) (canonical (Start a_1) is_a_1) refl
+    (event_line after_first (codes "start b:1#1") (codes "found a:1#1" ∷ []) (Start b_1) second_start _ (Finished after_third)
+    (lit≤ tt) (lit≤ tt) (lit< tt) (canonical (Start b_1) is_b_1) refl
+    (event_line after_second (codes "found a:1#1") [] (Found a_1) founded [] (Finished after_third)
+    (lit≤ tt) (lit≤ tt) (lit< tt) (canonical (Found a_1) is_a_1) (ap (λ o. Ok (stepped 0 o (record both_started { founded = true }))) founds)
+    (refl, inl (lit≤ tt, refl))))
 
 pub founding_text_is : IsReplay founding_schedule 0 founding_text
 unfolding digits
-founding_text_is =
-    first_lines (codes "listed a:1 b:1") (codes "strategy static-quorum 2") (at_a ∷ at_b ∷ []) 2 (codes "start a:1#1" ∷ codes "start b:1#1" ∷ codes "found a:1#1" ∷ []) 0 founding_text
-    (lit≤ tt) listing_ab (lit≤ tt) (strategy_of 2 (codes "strategy static-quorum 2") refl (lit≤ tt) (lit≤ tt))
-    (event_line (headed 9 settled) (codes "start a:1#1") (codes "start b:1#1" ∷ codes "found a:1#1" ∷ []) (Start a_1) (record { world = one_started; node = Some 0; actions = [] }) 0
-    (text_of (codes "2 start b:1#1" ∷ []) ++ third_with (codes "view a:1#1=1 | a:1#1 joining | -")) founding_text
-    (lit≤ tt) (lit≤ tt) (lit< tt) (canonical (Start a_1) is_a_1) refl
-    (event_line (record { line = 11; headers = 9; settings = settled; world = one_started; steps = 1 }) (codes "start b:1#1") (codes "found a:1#1" ∷ []) (Start b_1) (record { world = both_started; node = Some 1; actions = [] }) 0
-    (third_with (codes "view a:1#1=1 | a:1#1 joining | -")) (text_of (codes "2 start b:1#1" ∷ []) ++ third_with (codes "view a:1#1=1 | a:1#1 joining | -"))
-    (lit≤ tt) (lit≤ tt) (lit< tt) (canonical (Start b_1) is_b_1) refl
-    (event_line (record { line = 12; headers = 9; settings = settled; world = both_started; steps = 2 }) (codes "found a:1#1") [] (Found a_1) founded 0
-    summary (third_with (codes "view a:1#1=1 | a:1#1 joining | -"))
-    (lit≤ tt) (lit≤ tt) (lit< tt) (canonical (Found a_1) is_a_1) (ap (λ o. Ok (stepped 0 o (record both_started { founded = true }))) founds)
-    (inl (lit≤ tt, refl, refl))
-    (ap third_with (sym view_is)))
-    refl)
-    refl)
+founding_text_is = (
+  founding_steps,
+  Finished after_third,
+  first_lines (codes "listed a:1 b:1") (codes "strategy static-quorum 2") (at_a ∷ at_b ∷ []) 2 (codes "start a:1#1" ∷ codes "start b:1#1" ∷ codes "found a:1#1" ∷ []) founding_steps (Finished after_third)
+      (lit≤ tt) listing_ab (lit≤ tt) (strategy_of 2 (codes "strategy static-quorum 2") refl (lit≤ tt) (lit≤ tt))
+      founding_replays,
+  refl,
+  ap founding_with (sym view_is),
+)
