@@ -3,6 +3,7 @@ ghost use Rattle.ak_clock.specs.Version.{count};
 ghost use Rattle.ak_schedule.specs.Settings.{SettingsModel};
 ghost use Rattle.ak_schedule.specs.declared.event.Event.{Event};
 ghost use Rattle.ak_node.specs.declared.node.State.{State};
+ghost use Rattle.ak_node.specs.Node.{known};
 ghost use Rattle.ak_world.specs.Fold.{IsFold, IsIn};
 ghost use Rattle.ak_gossip.specs.Gossip.{GossipState};
 ghost use Rattle.ak_history.specs.History.{entries_of, IsNumbered};
@@ -20,7 +21,7 @@ pub fn what_is_known_is_the_fold()
 pub fn nodes_count_their_own_updates()
     ensures numbered { (settings : SettingsModel) (events : List Event) → IsNumbered (run settings events).history }
     ensures counted { (settings : SettingsModel) (events : List Event) (index : ℕ) (n : State) → slice_get (run settings events).nodes index ≡ Some n
-        → count n.gossip.version n.me ≡ entries_of n.me (run settings events).history }
+        → count (known n).version n.me ≡ entries_of n.me (run settings events).history }
     ensures apart { (settings : SettingsModel) (events : List Event) (i j : ℕ) (n m : State) → slice_get (run settings events).nodes i ≡ Some n → slice_get (run settings events).nodes j ≡ Some m → n.me ≡ m.me → i ≡ j }
 {}
 
