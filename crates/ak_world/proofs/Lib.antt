@@ -1,6 +1,11 @@
+pub mod Closed
+pub mod ClosedRuns
 pub mod FoldLemmas
 pub mod FoldRuns
+pub mod HeldInOrder
 pub mod IndexLemmas
+pub mod RememberedLemmas
+pub mod SeenHeld
 pub mod StepLemmas
 pub mod WhatHappened
 pub mod WorldLemmas
