@@ -1,6 +1,7 @@
 -- Each event of a world keeps what is known in it the fold of its history, and a history only grows.
 use Rattle.std.proofs.Common.{◌≡◌, ◌≢◌, ℕ, zero, suc, ◌+◌, ◌-◌, leb, ◌==◌, Bool, true, false, not, if◌then◌else◌, ◌⊎◌, inl, inr, List, [], ◌∷◌, ◌++◌, length, take, slice_get, slice_set, Option, Some, None, Result, Ok, Err, refl, sym, ap, ◌∙◌, subst, arith, true≢false, append_assoc}
 use Rattle.std.proofs.lemmas.Bool.{lt-leb}
+use Rattle.std.proofs.lemmas.Option.{same_Some}
 use Rattle.std.specs.List.{list_any}
 use Rattle.std.specs.Ordering.{is_eq}
 use Rattle.std.specs.FinMap as map
@@ -58,6 +59,10 @@ pub record Sound (nodes : List State) (packets : List Envelope) (history : List 
 
 abbrev pub IsSound : WorldState → Type 0
 IsSound w = Sound w.nodes w.packets w.history
+
+-- a process is one node
+pub one_node : (w : WorldState) → IsSound w → (i j : ℕ) (n m : State) → slice_get w.nodes i ≡ Some n → slice_get w.nodes j ≡ Some m → n.me ≡ m.me → n ≡ m
+one_node w s i j n m at also same = same_Some n m (sym at ∙ ap (slice_get w.nodes) (s.apart i j n m at also same) ∙ also)
 
 -- a world after this history
 pub record Next (history : List Entry) (w : WorldState) : Type 0 where
@@ -221,7 +226,7 @@ pub folds-of_run : (settings : SettingsModel) (events : List Event) (w : WorldSt
 folds-of_run settings events w is_run g is_in = subst (λ (v : WorldState). IsIn g v → IsFold v.history g) (sym is_run) (run_folds settings events g) is_in
 
 -- ---- two worlds of one run
-run-append : (settings : SettingsModel) (w : WorldState) (first more : List Event) → run_from settings w (first ++ more) ≡ run_from settings (run_from settings w first) more
+pub run-append : (settings : SettingsModel) (w : WorldState) (first more : List Event) → run_from settings w (first ++ more) ≡ run_from settings (run_from settings w first) more
 run-append settings w [] more = refl
 run-append settings w (e ∷ first) more = run-append settings (after w (happens settings e w)) first more
 

@@ -4,6 +4,7 @@ pub mod FoldLemmas
 pub mod FoldRuns
 pub mod HeldInOrder
 pub mod IndexLemmas
+pub mod MadeFrom
 pub mod RememberedLemmas
 pub mod SeenHeld
 pub mod StepLemmas
