@@ -8,5 +8,6 @@ pub mod MadeFrom
 pub mod RememberedLemmas
 pub mod SeenHeld
 pub mod StepLemmas
+pub mod UpdateLemmas
 pub mod WhatHappened
 pub mod WorldLemmas

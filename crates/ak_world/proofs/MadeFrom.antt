@@ -1,6 +1,6 @@
 -- Each entry of a history was made by one event, from a version that its author held just before it; and whoever knows the
 -- entry knows all of that.
-use Rattle.std.proofs.Common.{◌≡◌, ℕ, zero, suc, ◌+◌, ◌≤◌, ◌⊎◌, inl, inr, List, [], ◌∷◌, ◌++◌, length, take, Option, Some, None, option_and_then, Result, Ok, Err, slice_get, Contains, IsTrue, refl, sym, ap, ◌∙◌, subst, arith, add-one}
+use Rattle.std.proofs.Common.{◌≡◌, ℕ, zero, suc, ◌+◌, ◌≤◌, ◌<◌, ◌⊎◌, inl, inr, List, [], ◌∷◌, ◌++◌, length, take, Option, Some, None, option_and_then, Result, Ok, Err, slice_get, Contains, IsTrue, refl, sym, ap, ◌∙◌, subst, arith, add-one}
 use Rattle.std.proofs.lemmas.Option.{same_Some}
 use Rattle.ak_address.specs.Unique.{UniqueModel}
 use Rattle.ak_address.proofs.ListLemmas.{contains_rest, first_or_rest, contains_nothing}
@@ -10,19 +10,20 @@ use Rattle.ak_wire.specs.declared.action.Action.{Action}
 use Rattle.ak_wire.specs.Wire.{effects_of}
 use Rattle.ak_gossip.specs.Gossip.{GossipState}
 use Rattle.ak_history.specs.declared.entry.Entry.{Entry}
-use Rattle.ak_history.specs.History.{is_covered}
-use Rattle.ak_history.proofs.HistoryLemmas.{contains_first}
+use Rattle.ak_history.specs.History.{entries_of, IsNumbered, is_covered}
+use Rattle.ak_history.proofs.HistoryLemmas.{contains_first, entries-prefix, number_range}
 use Rattle.ak_schedule.specs.Settings.{SettingsModel}
 use Rattle.ak_schedule.specs.declared.event.Event.{Event}
 use Rattle.ak_node.specs.declared.node.State.{State}
 use Rattle.ak_node.specs.Node.{known}
 use Rattle.ak_world.specs.declared.world.Reason.{Reason}
-use Rattle.ak_world.specs.World.{WorldState, Done, happens, after, run}
+use Rattle.ak_world.specs.World.{WorldState, Done, empty_world, happens, after, run}
 use Rattle.ak_world.specs.Fold.{IsIn}
 use Rattle.ak_world.specs.Held.{Holds, Made}
 use Rattle.ak_world.specs.Remembered.{Remembered, IsClosed, entries_in, with_base, recorded_from, basing, remembers_answer, remembered_from, nothing_remembered, remembered}
 use Rattle.ak_world.proofs.RememberedLemmas.{answer-world, remembered-world, remembered-append}
-use Rattle.ak_world.proofs.FoldRuns.{IsSound, run_sound, empty_sound, one_node}
+use Rattle.ak_world.proofs.FoldRuns.{IsSound, run_sound, happens_next, empty_sound, one_node}
+use Rattle.ak_world.proofs.WorldLemmas.{run-push}
 use Rattle.ak_world.proofs.ClosedRuns.{Closing, run_closing}
 
 -- ---- what is added to what was made
@@ -148,6 +149,75 @@ made_based settings events entry base m = elim (take_next m.time events) [
         let here = answer_new settings r sound entry base author_here a new_here there_here in
         let whole : remembered settings events ≡ remembered_from settings (remembers_answer r a) more = ap (remembered settings) parts ∙ remembered-append settings nothing_remembered first (e ∷ more) in
         subst (λ (q : Remembered). Contains q.based (entry, base)) (sym whole) (remembered_more settings (remembers_answer r a) more (entry, base) here)
+
+-- ---- each entry was made
+-- an entry is new among those that came, or was there
+new_or_old : (added history : List Entry) (entry : Entry) → IsNumbered (added ++ history) → Contains (added ++ history) entry → Contains history entry ⊎ (entries_of entry.author history < entry.number)
+new_or_old [] history entry numbered there = inl there
+new_or_old (e ∷ added) history entry numbered there = elim (first_or_rest e entry (added ++ history) there) [
+  | inl is ↦
+      let number : e.number ≡ entries_of e.author (added ++ history) + 1 = numbered.0 in
+      let more = entries-prefix added history e.author in
+      inr (subst (λ (x : Entry). entries_of x.author history < x.number) (sym is) (omega arith))
+  | inr before ↦ new_or_old added history entry numbered.1 before
+]
+
+not_above : (history : List Entry) (entry : Entry) → IsNumbered history → entries_of entry.author history < entry.number → Contains history entry → ⊥
+not_above history entry numbered above there = let range = number_range history entry numbered there in let most = range.most in omega arith
+
+-- after one more event an entry was there, or the event made it
+module _ (settings : SettingsModel) (events : List Event) (entry : Entry) (time : ℕ) (there : Contains (run settings (take (suc time) events)).history entry) where
+  abbrev IsThere : Type 0
+  IsThere = Contains (run settings (take time events)).history entry
+
+  abbrev WasMade : Type 0
+  WasMade = (base : Counts) × Made settings events entry base
+
+  by_answer : (IsThere → ⊥) → (a : Result Done Reason) → Contains (entries_in (remembers_answer (remembered settings (take time events)) a).based) entry → WasMade
+  by_answer new (Err why) old = absurd (new (subst (λ h. Contains h entry) (entries-is_history settings (take time events)) old))
+  by_answer new (Ok done) made =
+      let r : Remembered = remembered settings (take time events) in
+      let acting = option_and_then (slice_get r.world.nodes) done.node in
+      let h = basing_new acting done.actions r.based entry made (λ old. new (subst (λ h. Contains h entry) (entries-is_history settings (take time events)) old)) in
+      let at = acting_at r.world.nodes done.node h.node h.is_node in
+      let base : Counts = (known h.node).version in
+      (base, record {
+        time = time;
+        enters = record { new = new; there = subst (λ k. Contains (run settings (take k events)).history entry) (sym (add-one time)) there };
+        author = subst (λ (w : WorldState). Holds w entry.author base) (remembered-is_run settings (take time events)) (record { index = at.0; node = h.node; at = at.1; is_who = sym h.author; version_is = refl });
+      })
+
+  made_next : IsThere ⊎ WasMade
+  made_next = elim (take_next time events) [
+    | inl same ↦ inl (subst (λ (l : List Event). Contains (run settings l).history entry) same there)
+    | inr next ↦ by_event next.0 (subst (λ (l : List Event). Contains (run settings l).history entry) next.2 there)
+  ]
+    where
+      by_event : (e : Event) → Contains (run settings (take time events ++ e ∷ [])).history entry → IsThere ⊎ WasMade
+      by_event e there_then =
+          let past = take time events in
+          let r : Remembered = remembered settings past in
+          let next = happens_next settings e (run settings past) (run_sound settings past) in
+          let grown : (run settings (past ++ e ∷ [])).history ≡ next.added ++ (run settings past).history = ap (λ (w : WorldState). w.history) (run-push settings empty_world past e) ∙ next.grown in
+          elim (new_or_old next.added (run settings past).history entry (subst IsNumbered grown (run_sound settings (past ++ e ∷ [])).is_numbered) (subst (λ h. Contains h entry) grown there_then)) [
+            | inl old ↦ inl old
+            | inr above ↦ inr (by_answer (not_above (run settings past).history entry (run_sound settings past).is_numbered above) (happens settings e r.world)
+                (subst (λ (q : Remembered). Contains (entries_in q.based) entry) (remembered-append settings nothing_remembered past (e ∷ [])) (subst (λ h. Contains h entry) (sym (entries-is_history settings (past ++ e ∷ []))) there_then)))
+          ]
+
+made_by_time : (settings : SettingsModel) (events : List Event) (entry : Entry) (time : ℕ) → Contains (run settings (take time events)).history entry → (base : Counts) × Made settings events entry base
+made_by_time settings events entry zero there = absurd (contains_nothing entry there)
+made_by_time settings events entry (suc time) there = elim (made_next settings events entry time there) [
+  | inl old ↦ made_by_time settings events entry time old
+  | inr made ↦ made
+]
+
+take_all : (events : List Event) → take (length events) events ≡ events
+take_all [] = refl
+take_all (e ∷ events) = ap (λ (l : List Event). e ∷ l) (take_all events)
+
+pub each_made : (settings : SettingsModel) (events : List Event) (entry : Entry) → Contains (run settings events).history entry → (base : Counts) × Made settings events entry base
+each_made settings events entry there = made_by_time settings events entry (length events) (subst (λ (l : List Event). Contains (run settings l).history entry) (sym (take_all events)) there)
 
 -- ---- in the words of the run
 known_closed : (r : Remembered) → Closing r → (g : GossipState) → IsIn g r.world → IsClosed r.based g.version
