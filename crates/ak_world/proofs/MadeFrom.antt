@@ -180,12 +180,14 @@ module _ (settings : SettingsModel) (events : List Event) (entry : Entry) (time 
       let acting = option_and_then (slice_get r.world.nodes) done.node in
       let h = basing_new acting done.actions r.based entry made (λ old. new (subst (λ h. Contains h entry) (entries-is_history settings (take time events)) old)) in
       let at = acting_at r.world.nodes done.node h.node h.is_node in
-      let base : Counts = (known h.node).version in
-      (base, record {
-        time = time;
-        enters = record { new = new; there = subst (λ k. Contains (run settings (take k events)).history entry) (sym (add-one time)) there };
-        author = subst (λ (w : WorldState). Holds w entry.author base) (remembered-is_run settings (take time events)) (record { index = at.0; node = h.node; at = at.1; is_who = sym h.author; version_is = refl });
-      })
+      let base : Counts = (known h.node).version in (
+        base,
+        record {
+          time = time;
+          enters = record { new = new; there = subst (λ k. Contains (run settings (take k events)).history entry) (sym (add-one time)) there };
+          author = subst (λ (w : WorldState). Holds w entry.author base) (remembered-is_run settings (take time events)) (record { index = at.0; node = h.node; at = at.1; is_who = sym h.author; version_is = refl });
+        },
+      )
 
   made_next : IsThere ⊎ WasMade
   made_next = elim (take_next time events) [

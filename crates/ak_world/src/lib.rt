@@ -5,6 +5,8 @@
 mod fold_tests;
 mod laws;
 mod print;
+#[cfg(test)]
+mod seen_tests;
 mod world;
 
 pub use laws::{
