@@ -1,5 +1,5 @@
 -- In each world of a run every version that is held or carried is closed, and so is every version from which an entry was made.
-use Rattle.std.proofs.Common.{◌≡◌, ℕ, ◌+◌, Bool, true, false, inl, inr, if◌then◌else◌, List, [], ◌∷◌, length, Option, Some, None, Result, Ok, Err, slice_get, Contains, IsTrue, refl, sym, ap, ◌∙◌, subst}
+use Rattle.std.proofs.Common.{◌≡◌, ℕ, ◌+◌, Bool, true, false, inl, inr, if◌then◌else◌, List, [], ◌∷◌, length, Option, Some, None, Result, Ok, Err, slice_get, Contains, refl, sym, ap, ◌∙◌, subst}
 use Rattle.ak_address.specs.Unique.{UniqueModel}
 use Rattle.ak_clock.specs.Version.{Counts, count, covers, relation_by}
 use Rattle.ak_member.specs.Standing.{is_member}
@@ -30,7 +30,7 @@ use Rattle.ak_node.proofs.StepChanges.{step_changes}
 use Rattle.ak_world.proofs.IndexLemmas.{set_or, last_or}
 use Rattle.ak_world.proofs.WhatHappened.{WasSent, begins, steps, nobody, IsAnswer, happened}
 
--- ---- the rows after a list of updates
+-- ---- the entries after a list of updates
 abbrev pub entry_of : UniqueModel → List Effect → List (Entry × Counts) → Entry
 entry_of me effects based = record { author = me; number = entries_of me (entries_in based) + 1; effects = effects }
 
@@ -104,7 +104,7 @@ pub record Closing (r : Remembered) : Type 0 where
   pub at_bases : (e : Entry) (base : Counts) → Contains r.based (e, base) → IsBounded (entries_in r.based) base × IsClosed r.based base × (count base e.author + 1 ≡ e.number)
 
 module _ (r : Remembered) (s : Closing r) where
-  -- the history is that of the rows
+  -- the history is that of the entries
   numbered : IsNumbered (entries_in r.based)
   numbered = subst IsNumbered (sym s.entries) s.sound.is_numbered
 

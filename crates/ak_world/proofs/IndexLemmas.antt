@@ -3,7 +3,6 @@ use Rattle.std.proofs.Common.{◌≡◌, ◌≢◌, ℕ, zero, suc, ◌⊎◌, i
 use Rattle.std.proofs.lemmas.Option.{same_Some, get_or_from_slice_get, slice_get_within}
 use Rattle.ak_address.proofs.ListLemmas.{contains_rest}
 use Rattle.ak_history.proofs.HistoryLemmas.{contains_first}
-use Rattle.ak_address.specs.Unique.{UniqueModel}
 use Rattle.ak_node.specs.declared.node.State.{State}
 
 pub contains_at : {X : Type 0} (xs : List X) (index : ℕ) (x : X) → slice_get xs index ≡ Some x → Contains xs x

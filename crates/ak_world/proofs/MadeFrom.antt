@@ -1,7 +1,6 @@
 -- Each entry of a history was made by one event, from a version that its author held just before it; and whoever knows the
 -- entry knows all of that.
-use Rattle.std.proofs.Common.{◌≡◌, ℕ, zero, suc, ◌+◌, ◌≤◌, ◌<◌, ◌⊎◌, inl, inr, List, [], ◌∷◌, ◌++◌, length, take, Option, Some, None, option_and_then, Result, Ok, Err, slice_get, Contains, IsTrue, refl, sym, ap, ◌∙◌, subst, arith, add-one}
-use Rattle.std.proofs.lemmas.Option.{same_Some}
+use Rattle.std.proofs.Common.{◌≡◌, ℕ, zero, suc, ◌+◌, ◌<◌, ◌⊎◌, inl, inr, List, [], ◌∷◌, ◌++◌, length, take, Option, Some, None, option_and_then, Result, Ok, Err, slice_get, Contains, IsTrue, refl, sym, ap, ◌∙◌, subst, arith, add-one}
 use Rattle.ak_address.specs.Unique.{UniqueModel}
 use Rattle.ak_address.proofs.ListLemmas.{contains_rest, first_or_rest, contains_nothing}
 use Rattle.ak_clock.specs.Version.{Counts, Covers}
@@ -17,11 +16,11 @@ use Rattle.ak_schedule.specs.declared.event.Event.{Event}
 use Rattle.ak_node.specs.declared.node.State.{State}
 use Rattle.ak_node.specs.Node.{known}
 use Rattle.ak_world.specs.declared.world.Reason.{Reason}
-use Rattle.ak_world.specs.World.{WorldState, Done, empty_world, happens, after, run}
+use Rattle.ak_world.specs.World.{WorldState, Done, empty_world, happens, run}
 use Rattle.ak_world.specs.Fold.{IsIn}
 use Rattle.ak_world.specs.Held.{Holds, Made}
 use Rattle.ak_world.specs.Remembered.{Remembered, IsClosed, entries_in, with_base, recorded_from, basing, remembers_answer, remembered_from, nothing_remembered, remembered}
-use Rattle.ak_world.proofs.RememberedLemmas.{answer-world, remembered-world, remembered-append}
+use Rattle.ak_world.proofs.RememberedLemmas.{remembered-world, remembered-append}
 use Rattle.ak_world.proofs.FoldRuns.{IsSound, run_sound, happens_next, empty_sound, one_node}
 use Rattle.ak_world.proofs.WorldLemmas.{run-push}
 use Rattle.ak_world.proofs.ClosedRuns.{Closing, run_closing}

@@ -1,5 +1,5 @@
 -- Each process in a seen set held exactly that version.
-use Rattle.std.proofs.Common.{◌≡◌, ◌≢◌, ℕ, zero, suc, ◌+◌, max, Bool, true, false, ◌||◌, if◌then◌else◌, ◌⊎◌, inl, inr, List, [], ◌∷◌, ◌++◌, length, take, Option, Some, None, is_some, option_and_then, Result, Ok, Err, slice_get, slice_set, Contains, IsTrue, refl, sym, ap, ◌∙◌, subst, arith, true≢false, append_assoc}
+use Rattle.std.proofs.Common.{◌≡◌, ◌≢◌, ℕ, ◌+◌, max, Bool, true, false, ◌||◌, if◌then◌else◌, inl, inr, List, [], ◌∷◌, ◌++◌, length, take, Option, Some, None, is_some, option_and_then, Result, Ok, Err, slice_get, slice_set, Contains, IsTrue, refl, sym, ap, ◌∙◌, subst, arith, true≢false, append_assoc}
 use Rattle.std.proofs.lemmas.Option.{same_Some}
 use Rattle.std.specs.Prelude.{unwrap_or}
 use Rattle.std.specs.FinMap as map
@@ -276,7 +276,7 @@ known_seen r s g (inr there) = s.at_packets there.0 there.1 g there.2 there.3
 pub remembered_seeing : (settings : SettingsModel) (events : List Event) → IsSeeing (remembered settings events)
 remembered_seeing settings events = run_seeing settings nothing_remembered events (record { at_nodes = λ index n at. absurd (cc); at_packets = λ index p h at carries. absurd (cc) })
 
--- the seen promise
+-- each process in a seen set held exactly that version
 pub seen_held : (settings : SettingsModel) (events : List Event) (g : GossipState) → IsIn g (run settings events) → (u : UniqueModel) → IsTrue (has g.seen u) → Held settings events u g.version
 seen_held settings events g is_in u seen =
     let r : Remembered = remembered settings events in

@@ -1,24 +1,20 @@
 -- Each update of an accepted event has put its entry into the history, under the number that the update tells.
-use Rattle.std.proofs.Common.{◌≡◌, ℕ, ◌+◌, ◌<◌, Bool, inl, inr, List, [], ◌∷◌, Option, Some, None, Result, Ok, Err, slice_get, slice_set, Contains, refl, sym, ap, ◌∙◌, subst, arith}
+use Rattle.std.proofs.Common.{◌≡◌, ℕ, ◌+◌, Bool, inl, inr, List, [], ◌∷◌, Option, Some, Ok, slice_get, Contains, sym, ap, ◌∙◌, subst, arith}
 use Rattle.std.specs.Prelude.{IsSomeAnd}
 use Rattle.ak_address.specs.Unique.{UniqueModel}
 use Rattle.ak_address.proofs.ListLemmas.{first_or_rest, contains_nothing}
-use Rattle.ak_clock.specs.Version.{count}
 use Rattle.ak_member.specs.declared.effect.Effect.{Effect}
 use Rattle.ak_history.specs.declared.entry.Entry.{Entry}
 use Rattle.ak_history.specs.History.{entries_of}
 use Rattle.ak_history.proofs.HistoryLemmas.{contains_first, number_range}
 use Rattle.ak_schedule.specs.Settings.{SettingsModel}
 use Rattle.ak_schedule.specs.declared.event.Event.{Event}
-use Rattle.ak_wire.specs.declared.action.Action.{Action}
 use Rattle.ak_wire.specs.declared.action.Action.TheVariants.{Update}
-use Rattle.ak_wire.specs.Wire.{updates_of}
 use Rattle.ak_node.specs.declared.node.State.{State}
 use Rattle.ak_node.specs.declared.node.NodeEvent.{NodeEvent}
-use Rattle.ak_node.specs.Node.{Outcome, known, step}
+use Rattle.ak_node.specs.Node.{Outcome, step}
 use Rattle.ak_node.specs.Change.{Change, Keeps, Updates, Accepts, made_by}
 use Rattle.ak_node.proofs.StepChanges.{step_changes, update_made}
-use Rattle.ak_world.specs.declared.world.Reason.{Reason}
 use Rattle.ak_world.specs.World.{WorldState, Done, recorded, stepped, happens, run}
 use Rattle.ak_world.specs.StepText.{acting}
 use Rattle.ak_world.specs.Held.{Enters}

@@ -18,7 +18,7 @@ pub record Holds (w : WorldState) (who : UniqueModel) (version : Counts) : Type 
   pub is_who : node.me ≡ who
   pub version_is : (known node).version ≡ version
 
--- a process held exactly this version after some of the first events: at the end of one of its steps
+-- a process held exactly this version after some of the first events: from the end of one of its steps on
 pub record Held (settings : SettingsModel) (events : List Event) (who : UniqueModel) (version : Counts) : Type 0 where
   pub time : ℕ
   pub holds : Holds (run settings (take time events)) who version

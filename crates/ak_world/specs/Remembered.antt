@@ -1,6 +1,6 @@
 -- A world with what no node keeps: which versions each process held at the ends of its steps, and which version the author
--- of each entry had just before it made the entry.
-use Rattle.std.specs.Prelude.{◌≡◌, ℕ, ◌+◌, List, [], ◌∷◌, ◌++◌, map, slice_get, Option, Some, None, option_and_then, Result, Ok, Err, IsTrue, Contains}
+-- of each entry had just before it made the entry. No contract speaks of it: it is what the laws on held versions are proved with.
+use Rattle.std.specs.Prelude.{◌+◌, List, [], ◌∷◌, map, slice_get, Option, Some, None, option_and_then, Result, Ok, Err, IsTrue, Contains}
 use Rattle.ak_address.specs.Unique.{UniqueModel}
 use Rattle.ak_clock.specs.Version.{Counts, Covers}
 use Rattle.ak_schedule.specs.Settings.{SettingsModel}
@@ -55,10 +55,12 @@ remembers done r =
       based = basing (option_and_then (slice_get r.world.nodes) done.node) done.actions r.based;
     }
 
+-- a refused event changes nothing
 abbrev pub remembers_answer : Remembered → Result Done Reason → Remembered
 remembers_answer r (Ok done) = remembers done r
 remembers_answer r (Err why) = r
 
+-- what is remembered after a list of events, in their order
 abbrev pub remembered_from : SettingsModel → Remembered → List Event → Remembered
 remembered_from settings r [] = r
 remembered_from settings r (e ∷ events) = remembered_from settings (remembers_answer r (happens settings e r.world)) events
@@ -69,6 +71,6 @@ nothing_remembered = record { world = empty_world; held = []; based = [] }
 abbrev pub remembered : SettingsModel → List Event → Remembered
 remembered settings events = remembered_from settings nothing_remembered events
 
--- a version covers all that the author of an entry knew that it covers
+-- where a version covers an entry, it covers the version from which the author made it
 abbrev pub IsClosed : List (Entry × Counts) → Counts → Type 0
 IsClosed based v = (e : Entry) (base : Counts) → Contains based (e, base) → IsTrue (is_covered v e) → Covers v base
