@@ -1,8 +1,8 @@
 -- Entries and their numbers, and which entries versions cover.
-use Rattle.std.proofs.Common.{◌≡◌, ◌≢◌, ℕ, ◌+◌, ◌≤◌, ◌<◌, max, leb, Bool, true, false, ◌||◌, if◌then◌else◌, inl, inr, List, [], ◌∷◌, ◌++◌, Contains, refl, sym, ap, ◌∙◌, subst, arith, le-leb}
+use Rattle.std.proofs.Common.{◌≡◌, ◌≢◌, ℕ, zero, suc, ◌+◌, ◌≤◌, ◌<◌, max, leb, Bool, true, false, ◌||◌, if◌then◌else◌, ◌⊎◌, inl, inr, List, [], ◌∷◌, ◌++◌, Contains, refl, sym, ap, ◌∙◌, subst, arith, le-leb}
 use Rattle.std.proofs.lemmas.Bool.{leb-true, leb-false, lt-leb}
 use Rattle.std.specs.Ordering.{is_eq}
-use Rattle.ak_address.proofs.ListLemmas.{first_or_rest, contains_nothing}
+use Rattle.ak_address.proofs.ListLemmas.{contains_rest, first_or_rest, contains_nothing}
 use Rattle.ak_address.specs.Unique.{UniqueModel, unique_cmp}
 use Rattle.ak_address.proofs.TableLaws.{key_itself, other_key, same_or_apart}
 use Rattle.ak_clock.specs.Version.{Counts, count, merged, bumped}
