@@ -1,3 +1,4 @@
+pub mod Covering
 pub mod HistoryLemmas
 pub mod RowsShown
 pub mod StandingsShown

@@ -1,10 +1,10 @@
 -- What a walk along the members finds, the cases of a join, and what is true of every node after each of its steps: it knows
 -- itself where it knows anybody, and counts no more of its own updates than it had steps.
-use Rattle.std.proofs.Common.{◌≡◌, inl, inr, ℕ, zero, suc, ◌+◌, ◌<◌, ◌≤◌, Bool, true, false, ◌&&◌, ◌||◌, List, [], ◌∷◌, ◌++◌, length, drop, option_to_list, Option, Some, None, is_some, slice_get, Result, Ok, Err, if◌then◌else◌, not, nat_le, nat_lt, ◌^◌, refl, sym, ap, ◌∙◌, subst, arith, true≢false}
+use Rattle.std.proofs.Common.{◌≡◌, inl, inr, ℕ, zero, suc, ◌+◌, ◌<◌, ◌≤◌, Bool, true, false, ◌||◌, List, [], ◌∷◌, ◌++◌, length, drop, option_to_list, Option, Some, None, is_some, slice_get, if◌then◌else◌, not, nat_le, ◌^◌, refl, sym, ap, ◌∙◌, subst, arith, true≢false}
 use Rattle.std.proofs.lemmas.Option.{get_or_from_slice_get, slice_get_within}
 use Rattle.std.proofs.lemmas.List.Folds.{list_any_at, list_any-append}
 use Rattle.std.specs.List.{list_any}
-use Rattle.std.specs.Prelude.{IsTrue, ◌↔◌}
+use Rattle.std.specs.Prelude.{IsTrue}
 use Rattle.std.proofs.lemmas.Bool.{leb-false}
 use Rattle.std.specs.FinMap as map
 use Rattle.ak_address.specs.Unique.{UniqueModel, unique_cmp}
@@ -13,7 +13,6 @@ use Rattle.ak_clock.specs.Version.{count, relation}
 use Rattle.ak_clock.specs.declared.version.Relation.{Relation}
 use Rattle.ak_clock.specs.declared.version.Relation.TheVariants as relations
 use Rattle.ak_clock.proofs.VersionLaws.{count-empty, count-merged, count-bumped_author}
-use Rattle.ak_member.specs.declared.effect.Effect.{Effect}
 use Rattle.ak_member.specs.declared.effect.Effect.TheVariants.{Joined}
 use Rattle.ak_wire.specs.declared.envelope.Message.{Message}
 use Rattle.ak_wire.specs.declared.envelope.Message.TheVariants as message
@@ -21,7 +20,7 @@ use Rattle.ak_node.specs.declared.node.State.{State}
 use Rattle.ak_node.specs.declared.node.NodeEvent.{NodeEvent}
 use Rattle.ak_wire.specs.declared.action.Action.{Action}
 use Rattle.ak_wire.specs.Wire.{updates_of}
-use Rattle.ak_gossip.specs.Gossip.{GossipState, nothing_known, IsGossip, MayUpdate, is_known, accepted, noted, same, both, seen_by, most_uniques}
+use Rattle.ak_gossip.specs.Gossip.{GossipState, nothing_known, IsGossip, MayUpdate, is_known, accepted, noted, same, both, seen_by}
 use Rattle.ak_gossip.proofs.GossipLaws.{joining}
 use Rattle.ak_gossip.proofs.InvariantLemmas.{known_second, known_after_effects}
 use Rattle.ak_member.specs.declared.status.Status.{Status}

@@ -17,25 +17,49 @@ use Rattle.ak_wire.specs.declared.envelope.Message.{Message}
 use Rattle.ak_wire.specs.declared.envelope.Message.TheVariants as message
 use Rattle.ak_wire.specs.declared.action.Action.{Action}
 use Rattle.ak_wire.specs.declared.action.Action.TheVariants as action
-use Rattle.ak_wire.specs.Wire.{sent, gossip_of, updates_of}
+use Rattle.ak_wire.specs.Wire.{sent, gossip_of, effects_of, put, updates_of}
 use Rattle.ak_wire.proofs.Sending.{sent-append, updates-append}
 use Rattle.ak_schedule.specs.Settings.{is_listed}
 use Rattle.ak_node.specs.declared.node.State.{State}
 use Rattle.ak_node.specs.declared.node.NodeEvent.{NodeEvent}
 use Rattle.ak_node.specs.declared.node.NodeEvent.TheVariants as event
-use Rattle.ak_node.specs.Node.{Outcome, known, nothing, refused, update, and_sends, to_process, is_member, has_member_beside, most_at_join, on_join, found, join, is_answered, is_gone, on_received, on_gossip, on_message, is_for, rule, is_other, step}
+use Rattle.ak_node.specs.Node.{Outcome, known, nothing, refused, update, and_sends, to_process, to_address, is_member, has_member_beside, most_at_join, on_join, found, join, is_answered, is_gone, on_received, on_gossip, on_message, is_for, rule, is_other, step}
 use Rattle.ak_node.specs.Change.{Keeps, Updates, Accepts, changed, Brings, IsCause, IsLawful, Changes}
 
 no_more : {X : Type 0} (xs : List X) → xs ++ [] ≡ xs
 no_more [] = refl
 no_more (x ∷ xs) = ap (λ l. x ∷ l) (no_more xs)
 
-prefix_or_last : (xs : List Envelope) (y p : Envelope) → Contains (xs ++ y ∷ []) p → Contains xs p ⊎ (p ≡ y)
+prefix_or_last : {X : Type 0} (xs : List X) (y p : X) → Contains (xs ++ y ∷ []) p → Contains xs p ⊎ (p ≡ y)
 prefix_or_last [] y p there = elim (first_or_rest y p [] there) [ inl is ↦ inr is | inr none ↦ absurd (contains_nothing p none) ]
 prefix_or_last (x ∷ xs) y p there = elim (first_or_rest x p (xs ++ y ∷ []) there) [
   | inl is ↦ inl (subst (Contains (x ∷ xs)) (sym is) (zero, omega arith, refl))
   | inr rest ↦ elim (prefix_or_last xs y p rest) [ inl before ↦ inl (contains_rest x p xs before) | inr last ↦ inr last ]
 ]
+
+-- actions that have an update make it
+contains_put : {X : Type 0} (o : Option X) (xs : List X) (x : X) → Contains xs x → Contains (put o xs) x
+contains_put None xs x there = there
+contains_put (Some y) xs x there = contains_rest y x xs there
+
+pub update_made : (actions : List Action) (number : ℕ) (effects : List Effect) → Contains actions (action.Update number effects) → Contains (updates_of actions) effects
+update_made [] number effects there = absurd (contains_nothing _ there)
+update_made (a ∷ actions) number effects there = elim (first_or_rest a (action.Update number effects) actions there) [
+  | inl is ↦ subst (λ x. Contains (put (effects_of x) (updates_of actions)) effects) is (zero, omega arith, refl)
+  | inr rest ↦ contains_put (effects_of a) (updates_of actions) effects (update_made actions number effects rest)
+]
+
+no_update : (actions : List Action) (number : ℕ) (effects : List Effect) → updates_of actions ≡ [] → Contains actions (action.Update number effects) → ⊥
+no_update actions number effects none there = contains_nothing effects (subst (λ l. Contains l effects) none (update_made actions number effects there))
+
+-- an update is no action that makes none
+other_action : (a : Action) (number : ℕ) (effects : List Effect) → effects_of a ≡ None → action.Update number effects ≡ a → ⊥
+other_action a number effects none is = true≢false (ap (λ x. is_some (effects_of x)) is ∙ ap is_some none)
+
+-- the number of an update
+abbrev number_in : Action → ℕ
+number_in (action.Update number effects) = number
+number_in a = 0
 
 module _ (e : NodeEvent) (n : State) where
   changes_if : (b : Bool) {o p : Outcome} → (b ≡ true → Changes e n o) → (b ≡ false → Changes e n p) → Changes e n (if b then o else p)
@@ -53,6 +77,7 @@ module _ (e : NodeEvent) (n : State) where
     lawful = tt;
     knows = same;
     made = none;
+    numbered = λ number effects there. absurd (no_update actions number effects none there);
     same_me = alike.0;
     same_settings = alike.1;
     same_steps = alike.2;
@@ -72,12 +97,24 @@ module _ (e : NodeEvent) (n : State) where
     lawful = lawful;
     knows = λ i. changed (alike.0 i) (Updates effects) (same i);
     made = refl;
+    numbered = λ number written there. elim (first_or_rest (action.Update (count (known m).version m.me + 1) effects) (action.Update number written) [] there) [
+      | inl is ↦ ap number_in is ∙ (λ i. count (same i).version (alike.0 i) + 1)
+      | inr none ↦ absurd (contains_nothing _ none)
+    ];
     same_me = alike.0;
     same_settings = alike.1;
     same_steps = alike.2;
     from = λ p there. absurd (contains_nothing p there);
     carried = λ p g there is. absurd (contains_nothing p there);
   }
+
+  -- an action after those of an outcome that makes no update
+  earlier_numbered : (o : Outcome) → Changes e n o → (a : Action) → effects_of a ≡ None
+      → (number : ℕ) (effects : List Effect) → Contains (o.1 ++ a ∷ []) (action.Update number effects) → number ≡ count (known n).version n.me + 1
+  earlier_numbered o c a none number effects there = elim (prefix_or_last o.1 a (action.Update number effects) there) [
+    | inl before ↦ c.numbered number effects before
+    | inr last ↦ absurd (other_action a number effects none last)
+  ]
 
   sending : (what : GossipState → Message) (to : UniqueModel) (o : Outcome) → ((g h : GossipState) → gossip_of (what g) ≡ Some h → h ≡ g) → Changes e n o → Changes e n (and_sends what to o)
   sending what to o carries c =
@@ -88,6 +125,7 @@ module _ (e : NodeEvent) (n : State) where
         lawful = c.lawful;
         knows = c.knows;
         made = updates-append o.1 (to_process o.0 to (what (known o.0)) ∷ []) ∙ no_more (updates_of o.1) ∙ c.made;
+        numbered = λ number effects there. earlier_numbered o c (to_process o.0 to (what (known o.0))) refl number effects there;
         same_me = c.same_me;
         same_settings = c.same_settings;
         same_steps = c.same_steps;
@@ -112,6 +150,7 @@ module _ (e : NodeEvent) (n : State) where
     lawful = tt;
     knows = refl;
     made = refl;
+    numbered = λ number effects there. absurd (no_update (to_address n target message.Join ∷ []) number effects refl there);
     same_me = refl;
     same_settings = refl;
     same_steps = refl;
@@ -152,6 +191,7 @@ module _ (e : NodeEvent) (n : State) where
       lawful = (brings, there, most);
       knows = refl;
       made = refl;
+      numbered = λ number effects none. absurd (contains_nothing _ none);
       same_me = refl;
       same_settings = refl;
       same_steps = refl;
@@ -193,6 +233,7 @@ closed_changes e n true o c = record {
   lawful = c.lawful;
   knows = c.knows;
   made = updates-append o.1 (action.View ∷ []) ∙ no_more (updates_of o.1) ∙ c.made;
+  numbered = earlier_numbered e n o c action.View refl;
   same_me = c.same_me;
   same_settings = c.same_settings;
   same_steps = c.same_steps;

@@ -1,12 +1,13 @@
 -- What one step does to what a node knows, as data: it keeps it, makes one update of its own, or accepts one gossip; and why
 -- a node may write an effect. All that is proved of a world's nodes and packets uses of a step no more than this.
-use Rattle.std.specs.Prelude.{◌≡◌, ◌⊎◌, ◌≤◌, List, [], ◌∷◌, Some, IsTrue, Contains}
+use Rattle.std.specs.Prelude.{◌≡◌, ◌⊎◌, ℕ, ◌+◌, ◌≤◌, List, [], ◌∷◌, Some, IsTrue, Contains}
 use Rattle.ak_address.specs.Unique.{UniqueModel}
 use Rattle.ak_clock.specs.Version.{count, relation}
 use Rattle.ak_member.specs.declared.effect.Effect.{Effect}
 use Rattle.ak_member.specs.declared.effect.Effect.TheVariants.{Joined, Rise, Removed, Observed}
 use Rattle.ak_gossip.specs.Gossip.{GossipState, is_known, updated, accepted, noted}
 use Rattle.ak_wire.specs.declared.envelope.Envelope.{Envelope}
+use Rattle.ak_wire.specs.declared.action.Action.TheVariants.{Update}
 use Rattle.ak_wire.specs.Wire.{sent, updates_of, gossip_of}
 use Rattle.ak_node.specs.declared.node.State.{State}
 use Rattle.ak_node.specs.declared.node.NodeEvent.{NodeEvent}
@@ -48,13 +49,14 @@ IsLawful e n Keeps = Unit {0}
 IsLawful e n (Updates effects) = (IsTrue (is_known (known n).view.standings n.me) ⊎ (effects ≡ Joined n.me ∷ [])) × ((x : Effect) → Contains effects x → IsCause e n x)
 IsLawful e n (Accepts incoming) = Brings e incoming × IsTrue (is_known incoming.view.standings n.me) × (count incoming.version n.me ≤ count (known n).version n.me)
 
--- What a step or a part of one did: the change of what is known, which is lawful, and what was sent: packets from the node, and
--- a gossip in one is what the node knows then.
+-- What a step or a part of one did: the change of what is known, which is lawful; each update has the next number of the
+-- node's own; and what was sent: packets from the node, and a gossip in one is what the node knows then.
 pub record Changes (e : NodeEvent) (n : State) (o : Outcome) : Type 0 where
   pub change : Change
   pub lawful : IsLawful e n change
   pub knows : known o.0 ≡ changed n.me change (known n)
   pub made : updates_of o.1 ≡ made_by change
+  pub numbered : (number : ℕ) (effects : List Effect) → Contains o.1 (Update number effects) → number ≡ count (known n).version n.me + 1
   pub same_me : o.0.me ≡ n.me
   pub same_settings : o.0.settings ≡ n.settings
   pub same_steps : o.0.steps ≡ n.steps

@@ -77,9 +77,7 @@ fn is_member_beside(who: &Unique, members: &Members, index: usize) -> bool
     ensures { result ≡ list_any (λ m. is_eq (address_cmp m.0.address who.now.address)) (standing.member_pairs (option_to_list (slice_get (map.entries members.now) index))) }
 {
     match members.pair(index) {
-        Some((other, Standing::Member(_, _))) => {
-            other.address.compare(&who.address).is_eq()
-        }
+        Some((other, Standing::Member(_, _))) => { other.address.compare(&who.address).is_eq() }
         Some((_, Standing::Buried(_))) => false,
         None => false,
     }

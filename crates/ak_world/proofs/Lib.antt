@@ -1,4 +1,13 @@
+pub mod Closed
+pub mod ClosedRuns
 pub mod FoldLemmas
 pub mod FoldRuns
+pub mod HeldInOrder
+pub mod IndexLemmas
+pub mod MadeFrom
+pub mod RememberedLemmas
+pub mod SeenHeld
 pub mod StepLemmas
+pub mod UpdateLemmas
+pub mod WhatHappened
 pub mod WorldLemmas

@@ -1,8 +1,8 @@
 -- Lemmas of the definitions of a world: what a list of actions does by parts, how many nodes a run has and how many
 -- events each was given, and which node a process is.
-use Rattle.std.proofs.Common.{◌≡◌, is_ok, OnOk, ℕ, zero, suc, ◌+◌, ◌<◌, ◌≤◌, ◌^◌, leb, ltb, Bool, true, false, cond, not, ◌||◌, List, [], ◌∷◌, ◌++◌, set, length, Option, Some, None, is_some, option_map, Contains, IsTrue, ◌↔◌, ◌⊎◌, inl, inr, ⊎_elim, position, slice_get, slice_set, Result, Ok, Err, if◌then◌else◌, refl, sym, ap, ◌∙◌, subst, arith, append_assoc, one-add, le-leb, true≢false, length-append, take, get_or}
+use Rattle.std.proofs.Common.{◌≡◌, is_ok, OnOk, ℕ, zero, suc, ◌+◌, ◌<◌, ◌≤◌, ◌^◌, leb, ltb, Bool, true, false, cond, not, ◌||◌, List, [], ◌∷◌, ◌++◌, set, length, Option, Some, None, is_some, option_map, position, slice_get, Result, Ok, Err, if◌then◌else◌, refl, sym, ap, ◌∙◌, subst, arith, append_assoc, one-add, le-leb, true≢false, length-append, take, get_or}
 use Rattle.std.proofs.Math.ListN.{length-set}
-use Rattle.std.proofs.lemmas.Option.{same_Some, slice_get-map, slice_get-get_or}
+use Rattle.std.proofs.lemmas.Option.{slice_get-map, slice_get-get_or}
 use Rattle.std.proofs.lemmas.Bool.{leb-false, lt-leb}
 use Rattle.std.proofs.lemmas.Bool.Decides.{nat_tests}
 use Rattle.std.proofs.lemmas.List.{take_more, map-set}
@@ -12,7 +12,7 @@ use Rattle.std.specs.List.{list_any, prefix_len, position_or_len}
 use Rattle.ak_address.specs.Unique.{AddressModel, UniqueModel, address_cmp}
 use Rattle.ak_schedule.specs.Settings.{SettingsModel, is_listed}
 use Rattle.ak_schedule.specs.declared.event.Event.{Event}
-use Rattle.ak_schedule.specs.declared.event.Event.TheVariants.{Start, Found, Join, Tick, Deliver, Leave, Down, Offer, Stop}
+use Rattle.ak_schedule.specs.declared.event.Event.TheVariants.{Start, Join}
 use Rattle.ak_history.specs.declared.entry.Entry.{Entry}
 use Rattle.ak_member.specs.declared.effect.Effect.{Effect}
 use Rattle.ak_wire.specs.declared.envelope.Envelope.{Envelope}
@@ -32,6 +32,8 @@ use Rattle.ak_node.specs.NodeContracts.{NodeModel}
 use Rattle.ak_world.specs.World.{WorldState, Done, recorded, with_update, gives, acts, arrives, delivers, starts, stepped, is_process, is_in_use, happens, after, run_from, run, empty_world, node_of, receiver_of, packet_at}
 use Rattle.ak_wire.specs.Wire.{sent, effects_of}
 use Rattle.ak_wire.proofs.Sending.{sent-append}
+use Rattle.ak_world.proofs.IndexLemmas.{set_at, push_at}
+use Rattle.ak_world.proofs.WhatHappened.{begins, steps, nobody, IsAnswer, happened}
 use Rattle.ak_world.specs.WorldContracts.{states, IsReady, Went, IsAccepted, Scenes}
 
 -- ---- what actions send and record, by parts
@@ -122,22 +124,6 @@ is_some-position p xs = some_if (ltb (position_or_len p xs) (length xs)) (positi
 step_steps : (e : NodeEvent) (n : State) → (step e n).0.steps ≡ n.steps + 1
 step_steps e n = (step_changes e n).same_steps
 
--- what is true of each node stays true where one is replaced, and where one is added
-set_each : (P : State → Type 0) (xs : List State) (index : ℕ) (x : State) → ((j : ℕ) (m : State) → slice_get xs j ≡ Some m → P m) → P x
-    → (j : ℕ) (m : State) → slice_get (slice_set xs index x) j ≡ Some m → P m
-set_each P [] index x each here j m is = each j m is
-set_each P (y ∷ ys) zero x each here zero m is = subst P (same_Some x m is) here
-set_each P (y ∷ ys) zero x each here (suc j) m is = each (suc j) m is
-set_each P (y ∷ ys) (suc index) x each here zero m is = each zero m is
-set_each P (y ∷ ys) (suc index) x each here (suc j) m is = set_each P ys index x (λ i. each (suc i)) here j m is
-
-push_each : (P : State → Type 0) (xs : List State) (x : State) → ((j : ℕ) (m : State) → slice_get xs j ≡ Some m → P m) → P x
-    → (j : ℕ) (m : State) → slice_get (xs ++ x ∷ []) j ≡ Some m → P m
-push_each P [] x each here zero m is = subst P (same_Some x m is) here
-push_each P [] x each here (suc j) m is = each j m is
-push_each P (y ∷ ys) x each here zero m is = each zero m is
-push_each P (y ∷ ys) x each here (suc j) m is = push_each P ys x (λ i. each (suc i)) here j m is
-
 -- at most 64 nodes, each with at most k events
 record IsYoung (k : ℕ) (w : WorldState) : Type 0 where
   few : length w.nodes ≤ 64
@@ -149,67 +135,29 @@ older j k w le young = record {
   steps = λ index n is. let below : n.steps ≤ j = young.steps index n is in omega arith;
 }
 
-young_if : (k : ℕ) (w : WorldState) (b : Bool) (x y : Result Done reason.Reason) → IsYoung k (after w x) → (b ≡ false → IsYoung k (after w y)) → IsYoung k (after w (if b then x else y))
-young_if k w true x y p q = p
-young_if k w false x y p q = q refl
-
-gives_young : (k : ℕ) (e : NodeEvent) (index : ℕ) (o : Option State) (w v : WorldState) → slice_get v.nodes index ≡ o → IsYoung k v → IsYoung (k + 1) w → IsYoung (k + 1) (after w (gives e index o v))
-gives_young k e index (Some n) w v is young old = record {
-  few = let same = length-set v.nodes index (step e n).0 in omega (arith, same, young.few);
-  steps = set_each (λ m. m.steps ≤ k + 1) v.nodes index (step e n).0 (older k (k + 1) v (omega arith) young).steps
-      (let counted = step_steps e n in let below : n.steps ≤ k = young.steps index n is in omega (arith, counted));
-}
-gives_young k e index None w v is young old = old
-
-acts_young : (k : ℕ) (e : NodeEvent) (o : Option ℕ) (w v : WorldState) → IsYoung k v → IsYoung (k + 1) w → IsYoung (k + 1) (after w (acts e o v))
-acts_young k e (Some index) w v young old = gives_young k e index (slice_get v.nodes index) w v refl young old
-acts_young k e None w v young old = old
-
-arrives_young : (k : ℕ) (e : Envelope) (o : Option ℕ) (w : WorldState) → IsYoung k w → IsYoung (k + 1) w → IsYoung (k + 1) (after w (arrives e o w))
-arrives_young k e (Some index) w young old = gives_young k (event.TheVariants.Packet e) index (slice_get w.nodes index) w w refl young old
-arrives_young k e None w young old = old
-
-delivers_young : (k : ℕ) (o : Option Envelope) (w : WorldState) → IsYoung k w → IsYoung (k + 1) w → IsYoung (k + 1) (after w (delivers o w))
-delivers_young k (Some e) w young old = arrives_young k e (receiver_of e w) w young old
-delivers_young k None w young old = old
-
 below_64 : (n : ℕ) → leb 64 n ≡ false → n + 1 ≤ 64
 below_64 n h = let below = leb-false 64 n h in omega (arith, below)
 
-starts_young : (k : ℕ) (settings : SettingsModel) (u : UniqueModel) (w : WorldState) → IsYoung (k + 1) w → leb 64 (length w.nodes) ≡ false → IsYoung (k + 1) (starts settings u w).world
-starts_young k settings u w old room = record {
-  few = subst (λ n. n ≤ 64) (sym (length-append w.nodes (started u settings ∷ []))) (below_64 (length w.nodes) room);
-  steps = push_each (λ m. m.steps ≤ k + 1) w.nodes (started u settings) old.steps (omega arith);
-}
-
-starts_if : (k : ℕ) (w : WorldState) (a b c d : Bool) (done : Done) → IsYoung k w → (d ≡ false → IsYoung k done.world)
-    → IsYoung k (after w (if a then Err reason.TheVariants.Unlisted else (if b then Err reason.TheVariants.UniqueUsed else (if c then Err reason.TheVariants.AddressInUse else (if d then Err reason.TheVariants.TooManyStarts else Ok done)))))
-starts_if k w true b c d done old new = old
-starts_if k w false true c d done old new = old
-starts_if k w false false true d done old new = old
-starts_if k w false false false true done old new = old
-starts_if k w false false false false done old new = new refl
-
-happens_young : (k : ℕ) (settings : SettingsModel) (e : Event) (w : WorldState) → IsYoung k w → IsYoung (k + 1) w → IsYoung (k + 1) (after w (happens settings e w))
-happens_young k settings (Start u) w young old =
-    starts_if (k + 1) w (not (is_listed settings.listed u.address)) (list_any (is_process u) w.nodes) (is_in_use u.address w) (leb 64 (length w.nodes)) (starts settings u w) old
-    (starts_young k settings u w old)
-happens_young k settings (Found u) w young old =
-    young_if (k + 1) w w.founded (Err reason.TheVariants.SecondFound) (acts event.TheVariants.Found (node_of u w) (record w { founded = true })) old (λ a. acts_young k event.TheVariants.Found (node_of u w) w (record w { founded = true }) (record { few = young.few; steps = young.steps }) old)
-happens_young k settings (Join u target) w young old =
-    young_if (k + 1) w (not (is_listed settings.listed target)) (Err reason.TheVariants.Unlisted) (acts (event.TheVariants.Join target) (node_of u w) w) old (λ a. acts_young k (event.TheVariants.Join target) (node_of u w) w w young old)
-happens_young k settings (Deliver number) w young old = delivers_young k (packet_at w number) w young old
-happens_young k settings (Tick u word) w young old = old
-happens_young k settings (Leave u who) w young old = old
-happens_young k settings (Down u who) w young old = old
-happens_young k settings (Offer u entity payload) w young old = old
-happens_young k settings (Stop u) w young old = old
+answered_young : (k : ℕ) (settings : SettingsModel) (w : WorldState) (a : Result Done reason.Reason) → IsAnswer settings w a → IsYoung k w → IsYoung (k + 1) (after w a)
+answered_young k settings w (Err why) is young = older k (k + 1) w (omega arith) young
+answered_young k settings w (Ok done) is young = elim is as (λ d h. IsYoung (k + 1) d.world) [
+  | begins u unknown free listed few ↦ record {
+    few = subst (λ n. n ≤ 64) (sym (length-append w.nodes (started u settings ∷ []))) (below_64 (length w.nodes) few);
+    steps = push_at (λ j (m : State). m.steps ≤ k + 1) w.nodes (started u settings) (older k (k + 1) w (omega arith) young).steps (omega arith);
+  }
+  | steps e index n founded at was_sent ↦ record {
+    few = let same = length-set w.nodes index (step e n).0 in omega (arith, same, young.few);
+    steps = set_at (λ j (m : State). m.steps ≤ k + 1) w.nodes index (step e n).0 (λ j m is elsewhere. (older k (k + 1) w (omega arith) young).steps j m is)
+        (let counted = step_steps e n in let below : n.steps ≤ k = young.steps index n at in omega (arith, counted));
+  }
+  | nobody ↦ older k (k + 1) w (omega arith) young
+]
 
 run_young : (k : ℕ) (settings : SettingsModel) (w : WorldState) (events : List Event) → IsYoung k w → IsYoung (k + length events) (run_from settings w events)
 run_young k settings w [] young = older k (k + 0) w (omega arith) young
 run_young k settings w (e ∷ events) young =
     older (k + 1 + length events) (k + suc (length events)) _ (omega arith)
-    (run_young (k + 1) settings (after w (happens settings e w)) events (happens_young k settings e w young (older k (k + 1) w (omega arith) young)))
+    (run_young (k + 1) settings (after w (happens settings e w)) events (answered_young k settings w (happens settings e w) (happened settings w e) young))
 
 empty_young : IsYoung 0 empty_world
 empty_young = record { few = omega arith; steps = λ index n is. absurd (cc) }
@@ -342,9 +290,9 @@ join-answer settings u target w l pl = ap (λ (x : Bool). if not x then Err reas
 -- a packet that reaches no process, and one that reaches a node
 pub dead-delivery : (w : WorldState) (number : ℕ) (e : Envelope) (s : Step) → packet_at w number ≡ Some e → receiver_of e w ≡ None → s.node ≡ None → s.first_packet ≡ length w.packets + 1 → s.first_packet < 2 ^ 64
     → s.actions ≡ [] → Went w (delivers (packet_at w number) w) s w
-dead-delivery w number e s packet nobody none first_is few no_actions = record {
+dead-delivery w number e s packet unreached none first_is few no_actions = record {
   done = record { world = w; node = None; actions = [] };
-  happened = ap (λ (o : Option Envelope). delivers o w) packet ∙ ap (λ (o : Option ℕ). arrives e o w) nobody;
+  happened = ap (λ (o : Option Envelope). delivers o w) packet ∙ ap (λ (o : Option ℕ). arrives e o w) unreached;
   world = refl;
   shown = record { node = none; first_packet = first_is; actions = no_actions };
   numbers =

@@ -10,6 +10,7 @@ use Rattle.ak_wire.specs.declared.envelope.Envelope.{Envelope}
 use Rattle.ak_wire.specs.Wire.{kind_text}
 use Rattle.ak_report.specs.ActionText.{item, actions_text}
 use Rattle.ak_node.specs.declared.node.State.{State}
+use Rattle.ak_node.specs.Node.{known}
 use Rattle.ak_world.specs.World.{WorldState, Done, packet_at}
 
 -- what a delivered packet was, or that it reached nobody
@@ -32,7 +33,7 @@ delivery_text (event.TheVariants.Stop u) w n = []
 
 -- what the node knows after the step; a dead delivery shows none
 abbrev pub shown : Option State → GossipState
-shown (Some n) = n.gossip
+shown (Some n) = (known n)
 shown None = nothing_known
 
 abbrev pub acting : Done → Option State

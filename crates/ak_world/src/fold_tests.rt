@@ -20,7 +20,7 @@ const HEADERS: [&str; 9] = [
     "limit 1",
 ];
 
-fn settings(alloc: Global) -> Result<Settings, Fail> {
+pub(crate) fn settings(alloc: Global) -> Result<Settings, Fail> {
     let mut draft = Draft::new(alloc);
     'headers: for line in HEADERS {
         if draft.header(alloc, line.as_bytes())? {
@@ -35,7 +35,10 @@ fn same(view: &View, gossip: &Gossip) -> bool {
     let one = &view.members;
     let other = gossip.members();
     for index in 0..one.uniques() {
-        if let (Some((who, standing)), Some((whose, known))) = (one.pair(index), other.pair(index)) {
+        if let (Some((who, standing)), Some((whose, known))) = (
+            one.pair(index),
+            other.pair(index),
+        ) {
             if !who.compare(whose).is_eq() || standing != known {
                 return false;
             }
@@ -67,7 +70,7 @@ fn folds(alloc: Global, world: &World) -> Result<bool, AllocError> {
     Ok(true)
 }
 
-fn apply_line(alloc: Global, world: &mut World, line: &str) -> Result<(), Fail>
+pub(crate) fn apply_line(alloc: Global, world: &mut World, line: &str) -> Result<(), Fail>
     requires { length world.old.events < 1000 }
     ensures { OnOk result (length world.new.events ≡ length world.old.events + 1) }
 {

@@ -1,12 +1,20 @@
-ghost use Rattle.std.specs.Prelude.{◌≡◌, ℕ, ◌+◌, List, ◌++◌, slice_get, Some};
-ghost use Rattle.ak_clock.specs.Version.{count};
+ghost use Rattle.std.specs.Prelude.{◌≡◌, ℕ, ◌+◌, ◌≤◌, List, ◌++◌, take, slice_get, Some, Ok, Contains, IsTrue, IsSomeAnd};
+ghost use Rattle.ak_address.specs.Unique.{UniqueModel};
+ghost use Rattle.ak_address.specs.Uniques.{has};
+ghost use Rattle.ak_clock.specs.Version.{Counts, count, Covers};
+ghost use Rattle.ak_member.specs.declared.effect.Effect.{Effect};
+ghost use Rattle.ak_wire.specs.declared.action.Action.TheVariants.{Update};
 ghost use Rattle.ak_schedule.specs.Settings.{SettingsModel};
 ghost use Rattle.ak_schedule.specs.declared.event.Event.{Event};
 ghost use Rattle.ak_node.specs.declared.node.State.{State};
+ghost use Rattle.ak_node.specs.Node.{known};
 ghost use Rattle.ak_world.specs.Fold.{IsFold, IsIn};
 ghost use Rattle.ak_gossip.specs.Gossip.{GossipState};
-ghost use Rattle.ak_history.specs.History.{entries_of, IsNumbered};
-ghost use Rattle.ak_world.specs.World.{run};
+ghost use Rattle.ak_history.specs.declared.entry.Entry.{Entry};
+ghost use Rattle.ak_history.specs.History.{entries_of, IsNumbered, is_covered};
+ghost use Rattle.ak_world.specs.World.{Done, happens, run};
+ghost use Rattle.ak_world.specs.StepText.{acting};
+ghost use Rattle.ak_world.specs.Held.{Holds, Held, Enters, Made};
 
 /// After any events, what each node knows and what each packet carries is the fold of the history: its members with
 /// their statuses, its tombstones and its rows are those that its version shows, and its version counts no entry that was
@@ -20,11 +28,39 @@ pub fn what_is_known_is_the_fold()
 pub fn nodes_count_their_own_updates()
     ensures numbered { (settings : SettingsModel) (events : List Event) → IsNumbered (run settings events).history }
     ensures counted { (settings : SettingsModel) (events : List Event) (index : ℕ) (n : State) → slice_get (run settings events).nodes index ≡ Some n
-        → count n.gossip.version n.me ≡ entries_of n.me (run settings events).history }
+        → count (known n).version n.me ≡ entries_of n.me (run settings events).history }
     ensures apart { (settings : SettingsModel) (events : List Event) (i j : ℕ) (n m : State) → slice_get (run settings events).nodes i ≡ Some n → slice_get (run settings events).nodes j ≡ Some m → n.me ≡ m.me → i ≡ j }
 {}
 
 /// In one run, at the same time or at different times, equal versions have equal members, tombstones and rows.
 pub fn equal_versions_have_equal_members()
     ensures { (settings : SettingsModel) (first more : List Event) (g f : GossipState) → IsIn g (run settings first) → IsIn f (run settings (first ++ more)) → g.version ≡ f.version → g.view ≡ f.view }
+{}
+
+/// The number that an update tells is that of its entry: after any events, each update among the actions of an accepted
+/// event has put the acting node's entry, with this number and these effects, into the history, where it was not before.
+pub fn updates_number_their_entries()
+    ensures { (settings : SettingsModel) (events : List Event) (event : Event) (done : Done) → happens settings event (run settings events) ≡ Ok done
+        → (number : ℕ) (effects : List Effect) → Contains done.actions (Update number effects)
+        → IsSomeAnd (acting done) (λ n. Enters (run settings events).history done.world.history (record { author = n.me; number = number; effects = effects })) }
+{}
+
+/// After any events, each process in the seen set of a node or of a gossip in a packet held exactly that version at the end
+/// of one of its steps (Akka's Cluster Specification, "Gossip Convergence").
+pub fn who_has_seen_a_version_held_it()
+    ensures { (settings : SettingsModel) (events : List Event) (g : GossipState) → IsIn g (run settings events) → (who : UniqueModel) → IsTrue (has g.seen who) → Held settings events who g.version }
+{}
+
+/// After any events, each entry of the history was made by one of them, from a version that its author held just before.
+/// Whoever knows the entry, a node or a packet, knows all that its author knew then.
+pub fn who_knows_an_entry_knows_what_its_author_knew()
+    ensures made { (settings : SettingsModel) (events : List Event) (entry : Entry) → Contains (run settings events).history entry → (base : Counts) × Made settings events entry base }
+    ensures closed { (settings : SettingsModel) (events : List Event) (g : GossipState) → IsIn g (run settings events) → (entry : Entry) (base : Counts) → Made settings events entry base
+        → IsTrue (is_covered g.version entry) → Covers g.version base }
+{}
+
+/// Of two versions that one process held in a run, the later covers the earlier.
+pub fn later_versions_cover_earlier_ones()
+    ensures { (settings : SettingsModel) (events : List Event) (i j : ℕ) (who : UniqueModel) (earlier later : Counts) → i ≤ j
+        → Holds (run settings (take i events)) who earlier → Holds (run settings (take j events)) who later → Covers later earlier }
 {}

@@ -5,10 +5,14 @@
 mod fold_tests;
 mod laws;
 mod print;
+#[cfg(test)]
+mod seen_tests;
 mod world;
 
 pub use laws::{
-    equal_versions_have_equal_members, nodes_count_their_own_updates, what_is_known_is_the_fold,
+    equal_versions_have_equal_members, later_versions_cover_earlier_ones,
+    nodes_count_their_own_updates, updates_number_their_entries, what_is_known_is_the_fold,
+    who_has_seen_a_version_held_it, who_knows_an_entry_knows_what_its_author_knew,
 };
 pub use print::{print_step, print_summary};
 pub use world::{Reason, Refused, Step, World};

@@ -1,10 +1,15 @@
-ghost use Rattle.std.specs.Prelude.{◌≡◌, ℕ, ◌+◌, ◌-◌, ◌<◌, ◌^◌, ◌++◌, ◌∷◌, [], true, false, length, take, slice_get, IfOk, OnOk, OnErr, Option, None, Some, Result, Ok, Err};
+ghost use Rattle.std.specs.Prelude.{◌≡◌, ℕ, ◌+◌, ◌-◌, ◌<◌, ◌≤◌, ◌^◌, ◌++◌, ◌∷◌, [], true, false, length, take, slice_get, IfOk, OnOk, OnErr, Option, None, Some, Result, Ok, Err, IsTrue};
 ghost use Rattle.std.specs.Option.{option_copied, option_map};
 ghost use Rattle.ak_wire.specs.Wire.{sent};
 ghost use Rattle.ak_world.specs.World as rules;
 ghost use Rattle.std.specs.List.{list_any, position};
 ghost use Rattle.std.specs.Ordering.{is_eq};
-ghost use Rattle.ak_address.specs.Unique.{address_cmp};
+ghost use Rattle.ak_address.specs.Unique.{UniqueModel, address_cmp};
+ghost use Rattle.ak_address.specs.Uniques.{has};
+ghost use Rattle.ak_clock.specs.Version.{Counts, Covers};
+ghost use Rattle.ak_history.specs.declared.entry.Entry.{Entry};
+ghost use Rattle.ak_history.specs.History.{is_covered};
+ghost use Rattle.ak_world.specs.Held.{Holds, Held, Made};
 ghost use Rattle.ak_world.specs.Fold.{IsFold, IsIn};
 ghost use Rattle.ak_gossip.specs.Gossip.{GossipState};
 ghost use Rattle.ak_node.specs.Node.{is_for};
@@ -378,6 +383,10 @@ impl World {
     /// tombstones and its rows are those that its version shows. So equal versions have equal members, statuses,
     /// tombstones and rows, whenever and wherever they are held: after any two numbers of accepted events, in any two
     /// nodes or packets.
+    ///
+    /// Each process in the seen set of a node or of a gossip in a packet held exactly that version at the end of one of its
+    /// steps so far. Whoever knows an entry, a node or a packet, knows all that its author knew when it made the entry. Of
+    /// two versions that one process held, the later covers the earlier.
     pub fn apply(&mut self, alloc: Global, event: &Event) -> Result<Step, Refused>
         requires { length self.old.events < 2 ^ 62 }
         ensures applied { Applies event.now self.old result self.new }
@@ -385,6 +394,9 @@ impl World {
         ensures run { self.new.spent ≡ false → self.new.state ≡ rules.run self.new.settings self.new.events }
         ensures folded { self.new.spent ≡ false → (g : GossipState) → IsIn g self.new.state → IsFold self.new.state.history g }
         ensures equal { self.new.spent ≡ false → (i j : ℕ) (g f : GossipState) → IsIn g (rules.run self.new.settings (take i self.new.events)) → IsIn f (rules.run self.new.settings (take j self.new.events)) → g.version ≡ f.version → g.view ≡ f.view }
+        ensures seen { self.new.spent ≡ false → (g : GossipState) → IsIn g self.new.state → (who : UniqueModel) → IsTrue (has g.seen who) → Held self.new.settings self.new.events who g.version }
+        ensures closed { self.new.spent ≡ false → (g : GossipState) → IsIn g self.new.state → (entry : Entry) (base : Counts) → Made self.new.settings self.new.events entry base → IsTrue (is_covered g.version entry) → Covers g.version base }
+        ensures ordered { self.new.spent ≡ false → (i j : ℕ) (who : UniqueModel) (earlier later : Counts) → i ≤ j → Holds (rules.run self.new.settings (take i self.new.events)) who earlier → Holds (rules.run self.new.settings (take j self.new.events)) who later → Covers later earlier }
     {
         if self.is_spent {
             return Err(Refused::NoMemory);

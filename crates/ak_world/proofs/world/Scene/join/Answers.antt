@@ -1,8 +1,8 @@
-use Rattle.std.proofs.Common.{◌≡◌, ℕ, Option, Some, None, position, slice_get, refl, sym, ap, ◌∙◌}
+use Rattle.std.proofs.Common.{ℕ, Option, Some, None, position, slice_get, refl, sym, ap, ◌∙◌}
 use Rattle.ak_address.specs.Unique.{AddressModel}
 use Rattle.ak_node.specs.declared.node.NodeEvent as event
 use Rattle.ak_node.specs.NodeContracts.{NodeModel}
-use Rattle.ak_world.specs.World.{acts, gives, node_of, is_process}
+use Rattle.ak_world.specs.World.{acts, gives, is_process}
 use Rattle.ak_world.specs.WorldContracts.{state_of}
 use Rattle.ak_world.proofs.WorldLemmas.{found-node, join-answer, same-answer, accepted-too, given-accepted, position-within}
 use Rattle.ak_world.proofs.world.Scene.join.Goals as goal

@@ -4,6 +4,9 @@ use Rattle.ak_schedule.specs.declared.event.Event.{Event}
 use Rattle.ak_world.specs.World.{run}
 use Rattle.ak_world.specs.WorldContracts.{WorldModel, IsReady, state_of}
 use Rattle.ak_world.proofs.FoldRuns.{folds-of_run, views_at_times}
+use Rattle.ak_world.proofs.SeenHeld.{seen-of_run}
+use Rattle.ak_world.proofs.MadeFrom.{closed-of_run}
+use Rattle.ak_world.proofs.HeldInOrder.{held_in_order}
 use Rattle.ak_world.proofs.WorldLemmas.{ready_run, run-went, at-ok}
 use Rattle.ak_world.proofs.world.World.apply.Goals as goal
 
@@ -36,7 +39,7 @@ returns-then-is_ok-clause-folded c =
 pub returns-in-Err-Invalid-clause-folded : goal.returns-in-Err-Invalid-clause-folded
 returns-in-Err-Invalid-clause-folded c =
     let is_run : c.self.inside.is_spent ≡ false → state_of c.happens.new.self ≡ run c.happens.new.self.settings c.self.inside.accepted.items = grind (arith, common_steps) in
-    λ alive g is_in. folds-of_run c.happens.new.self.settings c.self.inside.accepted.items (state_of c.happens.new.self) (is_run alive) g is_in
+    λ alive. folds-of_run c.happens.new.self.settings c.self.inside.accepted.items (state_of c.happens.new.self) (is_run alive)
 
 pub returns-then-is_ok-clause-equal : goal.returns-then-is_ok-clause-equal
 returns-then-is_ok-clause-equal c =
@@ -45,3 +48,29 @@ returns-then-is_ok-clause-equal c =
 pub returns-in-Err-Invalid-clause-equal : goal.returns-in-Err-Invalid-clause-equal
 returns-in-Err-Invalid-clause-equal c =
     λ alive. views_at_times c.happens.new.self.settings c.self.inside.accepted.items
+
+pub returns-then-is_ok-clause-seen : goal.returns-then-is_ok-clause-seen
+returns-then-is_ok-clause-seen c =
+    λ alive. seen-of_run c.happens.new.self.settings c.keep_event.new.accepted.items (state_of c.happens.new.self) (returns-then-is_ok-clause-run c alive)
+
+pub returns-in-Err-Invalid-clause-seen : goal.returns-in-Err-Invalid-clause-seen
+returns-in-Err-Invalid-clause-seen c =
+    let is_run : c.self.inside.is_spent ≡ false → state_of c.happens.new.self ≡ run c.happens.new.self.settings c.self.inside.accepted.items = grind (arith, common_steps) in
+    λ alive. seen-of_run c.happens.new.self.settings c.self.inside.accepted.items (state_of c.happens.new.self) (is_run alive)
+
+pub returns-then-is_ok-clause-closed : goal.returns-then-is_ok-clause-closed
+returns-then-is_ok-clause-closed c =
+    λ alive. closed-of_run c.happens.new.self.settings c.keep_event.new.accepted.items (state_of c.happens.new.self) (returns-then-is_ok-clause-run c alive)
+
+pub returns-in-Err-Invalid-clause-closed : goal.returns-in-Err-Invalid-clause-closed
+returns-in-Err-Invalid-clause-closed c =
+    let is_run : c.self.inside.is_spent ≡ false → state_of c.happens.new.self ≡ run c.happens.new.self.settings c.self.inside.accepted.items = grind (arith, common_steps) in
+    λ alive. closed-of_run c.happens.new.self.settings c.self.inside.accepted.items (state_of c.happens.new.self) (is_run alive)
+
+pub returns-then-is_ok-clause-ordered : goal.returns-then-is_ok-clause-ordered
+returns-then-is_ok-clause-ordered c =
+    λ alive. held_in_order c.happens.new.self.settings c.keep_event.new.accepted.items
+
+pub returns-in-Err-Invalid-clause-ordered : goal.returns-in-Err-Invalid-clause-ordered
+returns-in-Err-Invalid-clause-ordered c =
+    λ alive. held_in_order c.happens.new.self.settings c.self.inside.accepted.items

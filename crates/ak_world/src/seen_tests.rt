@@ -1,0 +1,199 @@
+ghost use Rattle.std.specs.Prelude.{◌<◌, length};
+
+use crate::fold_tests::{apply_line, settings};
+use crate::world::World;
+use ak_address::{Unique, Uniques, parse_unique};
+use ak_clock::{Relation, Version};
+use ak_wire::Message;
+use std::alloc::{AllocError, Global};
+use std::test::Fail;
+
+// A process, and a version that it held.
+#[derive(Drop)]
+struct Holding {
+    who: Unique,
+    version: Version,
+}
+
+// The process held exactly this version.
+fn held(past: &[Holding], who: &Unique, version: &Version) -> bool {
+    for holding in past {
+        if holding.who.compare(who).is_eq() && holding.version.compare(version) == Relation::Same {
+            return true;
+        }
+    }
+    false
+}
+
+// Each process of a seen set held exactly the version that it is told to have seen.
+fn all_held(past: &[Holding], seen: &Uniques, version: &Version) -> bool {
+    for index in 0..seen.len() {
+        if let Some(who) = seen.at(index) {
+            if !held(past, who, version) {
+                return false;
+            }
+        }
+    }
+    true
+}
+
+fn nodes_tell_the_truth(past: &[Holding], world: &World) -> bool {
+    for number in 0..4 {
+        if let Some(node) = world.node(number) {
+            if !all_held(past, node.gossip().seen(), node.gossip().version()) {
+                return false;
+            }
+        }
+    }
+    true
+}
+
+fn packets_tell_the_truth(past: &[Holding], world: &World) -> bool {
+    for number in 1..20 {
+        if let Some(envelope) = world.packet(number) {
+            if let Message::Welcome(gossip) | Message::Gossip(gossip) = &envelope.message {
+                if !all_held(past, gossip.seen(), gossip.version()) {
+                    return false;
+                }
+            }
+        }
+    }
+    true
+}
+
+// Each node holds what it knows now.
+fn hold(alloc: Global, world: &World, past: &mut Vec<Holding>) -> Result<(), AllocError> {
+    for number in 0..4 {
+        if let Some(node) = world.node(number) {
+            let who = node.me().copy(alloc)?;
+            let version = node.gossip().version().copy(alloc)?;
+            past.push(Holding { who, version })?;
+        }
+    }
+    Ok(())
+}
+
+// How many have seen what each node knows.
+fn seen_at(world: &World) -> [usize; 3] {
+    let mut seen = [0; 3];
+    for number in 0..3 {
+        if let Some(node) = world.node(number) {
+            seen[number as usize] = node.gossip().seen().len();
+        }
+    }
+    seen
+}
+
+// The same after these events, where no seen set told an untruth after any of them.
+fn seen_after(alloc: Global, lines: &[&str]) -> Result<[usize; 3], Fail>
+    requires { length lines.now < 1000 }
+{
+    let mut world = World::new(alloc, settings(alloc)?);
+    let mut past = Vec::new(alloc);
+    'lines: for line in lines {
+        apply_line(alloc, &mut world, *line)?;
+        hold(alloc, &world, &mut past)?;
+        if !nodes_tell_the_truth(&past, &world) || !packets_tell_the_truth(&past, &world) {
+            return Err("a process in a seen set did not hold the version")?;
+        }
+    }
+    Ok(seen_at(&world))
+}
+
+const FIRST_JOIN: [&str; 7] = [
+    "start a:1#1",
+    "start b:1#1",
+    "found a:1#1",
+    "join b:1#1 a:1",
+    "deliver 1",
+    "deliver 2",
+    "deliver 3",
+];
+
+// a and b each admit c, and a merges: nobody but a is known to know both updates, until b hears of it.
+const TWO_UPDATES_MERGE: [&str; 14] = [
+    "start a:1#1",
+    "start b:1#1",
+    "start c:1#1",
+    "found a:1#1",
+    "join b:1#1 a:1",
+    "deliver 1",
+    "deliver 2",
+    "join c:1#1 a:1",
+    "join c:1#1 b:1",
+    "deliver 4",
+    "deliver 5",
+    "deliver 2",
+    "deliver 8",
+    "deliver 9",
+];
+
+// Packets come again, and after a admitted c an old gossip that both a and b have seen changes nothing at a.
+const OLD_GOSSIP_COMES_AGAIN: [&str; 14] = [
+    "start a:1#1",
+    "start b:1#1",
+    "start c:1#1",
+    "found a:1#1",
+    "join b:1#1 a:1",
+    "deliver 1",
+    "deliver 2",
+    "deliver 3",
+    "deliver 2",
+    "deliver 1",
+    "deliver 5",
+    "join c:1#1 a:1",
+    "deliver 6",
+    "deliver 4",
+];
+
+#[test]
+fn who_is_in_a_seen_set_held_the_version(rt: HostRuntime) -> Result<(), Fail> {
+    let alloc = rt.alloc();
+    let first = seen_after(alloc, &FIRST_JOIN)?;
+    assert_eq!(rt; first, [2, 2, 0]);
+    let merged = seen_after(alloc, &TWO_UPDATES_MERGE)?;
+    assert_eq!(rt; merged, [1, 2, 0]);
+    let again = seen_after(alloc, &OLD_GOSSIP_COMES_AGAIN)?;
+    assert_eq!(rt; again, [1, 2, 0]);
+    Ok(())
+}
+
+// The process of this name, when it held a version that counts so many entries of one author.
+fn held_by(alloc: Global, name: &str, author: &Unique, count: u64) -> Result<Holding, Fail>
+    requires { count < 10 }
+{
+    let who = parse_unique(alloc, name.as_bytes())?;
+    let mut version = Version::empty(alloc);
+    version.reach(alloc, author, count)?;
+    Ok(Holding { who, version })
+}
+
+// a held what it made, twice; b heard of the first alone.
+fn past_of_two(alloc: Global, author: &Unique) -> Result<Vec<Holding>, Fail> {
+    let mut past = Vec::new(alloc);
+    past.push(held_by(alloc, "a:1#1", author, 1)?)?;
+    past.push(held_by(alloc, "a:1#1", author, 2)?)?;
+    past.push(held_by(alloc, "b:1#1", author, 1)?)?;
+    Ok(past)
+}
+
+// Whether both may be in the seen set of a version that counts so many entries.
+fn both_may_have_seen(alloc: Global, count: u64) -> Result<bool, Fail>
+    requires { count < 10 }
+{
+    let author = parse_unique(alloc, b"a:1#1")?;
+    let past = past_of_two(alloc, &author)?;
+    let other = held_by(alloc, "b:1#1", &author, count)?;
+    let mut seen = Uniques::empty(alloc);
+    seen.insert(alloc, &author)?;
+    seen.insert(alloc, &other.who)?;
+    Ok(all_held(&past, &seen, &other.version))
+}
+
+#[test]
+fn an_untrue_seen_set_is_found(rt: HostRuntime) -> Result<(), Fail> {
+    assert!(rt; both_may_have_seen(rt.alloc(), 1)?);
+    assert!(rt; !both_may_have_seen(rt.alloc(), 2)?);
+    assert!(rt; !both_may_have_seen(rt.alloc(), 3)?);
+    Ok(())
+}
