@@ -8,7 +8,7 @@ use Rattle.ak_clock.proofs.VersionLaws.{count-empty, count-bumped_others, covers
 use Rattle.ak_gossip.specs.Gossip.{same}
 use Rattle.ak_history.specs.declared.entry.Entry.{Entry}
 use Rattle.ak_history.specs.History.{entries_of, IsNumbered, IsBounded, is_covered}
-use Rattle.ak_address.proofs.ListLemmas.{first_or_rest, contains_nothing}
+use Rattle.ak_address.proofs.Elements.{first_or_rest, contains_nothing}
 use Rattle.ak_history.proofs.HistoryLemmas.{number_range, later_uncovered}
 use Rattle.ak_history.proofs.Covering.{covered_by_either}
 use Rattle.ak_world.specs.Remembered.{IsClosed, entries_in}

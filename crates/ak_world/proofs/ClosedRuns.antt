@@ -8,7 +8,7 @@ use Rattle.ak_address.specs.Uniques.{with_one}
 use Rattle.ak_gossip.specs.Gossip.{GossipState, same, both, accepted, noted, seen_by}
 use Rattle.ak_history.specs.declared.entry.Entry.{Entry}
 use Rattle.ak_history.specs.History.{entries_of, IsNumbered, IsBounded}
-use Rattle.ak_address.proofs.ListLemmas.{first_or_rest, contains_nothing}
+use Rattle.ak_address.proofs.Elements.{first_or_rest, contains_nothing}
 use Rattle.ak_history.proofs.HistoryLemmas.{bounded-prefix}
 use Rattle.ak_schedule.specs.Settings.{SettingsModel}
 use Rattle.ak_schedule.specs.declared.event.Event.{Event}

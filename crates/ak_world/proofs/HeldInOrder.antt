@@ -7,7 +7,7 @@ use Rattle.ak_clock.specs.Version.{Counts, covers, relation_by, Covers}
 use Rattle.ak_clock.proofs.VersionLaws.{covers_itself, covers_along, covers_from_test, covers_equal, bumped_covers, merged_covers_first}
 use Rattle.ak_member.specs.Standing.{is_member}
 use Rattle.ak_gossip.specs.Gossip.{GossipState, same, both, accepted, noted, seen_by}
-use Rattle.ak_address.proofs.ListLemmas.{first_or_rest}
+use Rattle.ak_address.proofs.Elements.{first_or_rest}
 use Rattle.ak_schedule.specs.Settings.{SettingsModel}
 use Rattle.ak_schedule.specs.declared.event.Event.{Event}
 use Rattle.ak_node.specs.declared.node.State.{State}

@@ -1,7 +1,7 @@
 -- What stands at an index of a list after one element is replaced, and after some more.
 use Rattle.std.proofs.Common.{◌≡◌, ◌≢◌, ℕ, zero, suc, ◌⊎◌, inl, inr, List, [], ◌∷◌, ◌++◌, length, slice_get, slice_set, Some, Contains, refl, sym, ap, ◌∙◌, subst, arith}
 use Rattle.std.proofs.lemmas.Option.{same_Some, get_or_from_slice_get, slice_get_within}
-use Rattle.ak_address.proofs.ListLemmas.{contains_rest}
+use Rattle.ak_address.proofs.Elements.{contains_rest}
 use Rattle.ak_history.proofs.HistoryLemmas.{contains_first}
 use Rattle.ak_node.specs.declared.node.State.{State}
 

@@ -2,7 +2,7 @@
 -- entry knows all of that.
 use Rattle.std.proofs.Common.{◌≡◌, ℕ, zero, suc, ◌+◌, ◌<◌, ◌⊎◌, inl, inr, List, [], ◌∷◌, ◌++◌, length, take, Option, Some, None, option_and_then, Result, Ok, Err, slice_get, Contains, IsTrue, refl, sym, ap, ◌∙◌, subst, arith, add-one}
 use Rattle.ak_address.specs.Unique.{UniqueModel}
-use Rattle.ak_address.proofs.ListLemmas.{contains_rest, first_or_rest, contains_nothing}
+use Rattle.ak_address.proofs.Elements.{contains_rest, first_or_rest, contains_nothing}
 use Rattle.ak_clock.specs.Version.{Counts, Covers}
 use Rattle.ak_member.specs.declared.effect.Effect.{Effect}
 use Rattle.ak_wire.specs.declared.action.Action.{Action}

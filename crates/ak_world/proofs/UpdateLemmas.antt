@@ -2,7 +2,7 @@
 use Rattle.std.proofs.Common.{◌≡◌, ℕ, ◌+◌, Bool, inl, inr, List, [], ◌∷◌, Option, Some, Ok, slice_get, Contains, sym, ap, ◌∙◌, subst, arith}
 use Rattle.std.specs.Prelude.{IsSomeAnd}
 use Rattle.ak_address.specs.Unique.{UniqueModel}
-use Rattle.ak_address.proofs.ListLemmas.{first_or_rest, contains_nothing}
+use Rattle.ak_address.proofs.Elements.{first_or_rest, contains_nothing}
 use Rattle.ak_member.specs.declared.effect.Effect.{Effect}
 use Rattle.ak_history.specs.declared.entry.Entry.{Entry}
 use Rattle.ak_history.specs.History.{entries_of}

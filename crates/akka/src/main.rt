@@ -12,8 +12,12 @@ use std::process::ExitCode;
 const SIZES: [usize; 3] = [256, 1 << 16, 1 << 22];
 
 // The word at an index after the program's name, and None past the last one. Of a word that is longer than
-// any buffer its first bytes do, since no command is so long.
+// any buffer its first bytes do, since no command is so long. That there is none is found without memory: a program
+// started without words has nothing to hold.
 fn word<R: Env>(rt: &R, alloc: Global, index: usize) -> Result<Option<Text>, AllocError> {
+    if let Err(FillError::NotPresent) = rt.arg(index, &mut []) {
+        return Ok(None);
+    }
     let mut longest = Text::from_bytes(alloc, b"")?;
     for size in SIZES {
         let mut buffer = vec![in alloc; 0; size]?;
