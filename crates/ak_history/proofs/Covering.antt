@@ -6,7 +6,7 @@ use Rattle.ak_member.specs.declared.effect.Effect.{Effect}
 use Rattle.ak_history.specs.declared.entry.Entry.{Entry}
 use Rattle.ak_history.specs.History.{IsNumbered, IsBounded, is_covered}
 use Rattle.ak_history.specs.Shown.{Did}
-use Rattle.ak_address.proofs.ListLemmas.{contains_nothing, contains_rest, first_or_rest}
+use Rattle.ak_address.proofs.Elements.{contains_nothing, contains_rest, first_or_rest}
 use Rattle.ak_history.proofs.HistoryLemmas.{covered-merged, later_uncovered}
 
 pub covered_by_more : (v w : Counts) (e : Entry) → Covers w v → is_covered v e ≡ true → is_covered w e ≡ true
