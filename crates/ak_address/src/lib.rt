@@ -18,8 +18,7 @@ pub use laws::{
     merges_are_pointwise, orders_are_total, quorums_share_an_address, spellings_are_words,
     spellings_have_one_value, texts_are_spellings,
 };
-pub use parse::{
-    AddressFault, is_address, is_unique, parse_address, parse_number, parse_unique};
+pub use parse::{AddressFault, is_address, is_unique, parse_address, parse_number, parse_unique};
 pub use print::{print_number, print_wide_number};
 pub use table::{Duplicate, Merge, Raise, Table};
 pub use text::Text;

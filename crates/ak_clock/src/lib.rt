@@ -8,7 +8,7 @@ mod version;
 mod version_tests;
 
 pub use laws::{
-    bump_raises_one_count, covering_is_an_order, merges_in_any_order, merge_is_the_least_cover,
+    bump_raises_one_count, covering_is_an_order, merge_is_the_least_cover, merges_in_any_order,
     reaching_raises_one_count, relations_are_exact,
 };
 pub use version::{BOUND, Relation, Version};

@@ -95,7 +95,10 @@ fn counts_are_reached(rt: HostRuntime) -> Result<(), Fail> {
     for (least, wanted) in [(0, 2), (2, 2), (5, 5)] {
         let mut version = seen(alloc, (2, 1))?;
         version.reach(alloc, &who, least)?;
-        assert_eq!(rt; [pair(&version, 0), pair(&version, 1)], [(1, wanted), (2, 1)]);
+        assert_eq!(rt;
+            [pair(&version, 0), pair(&version, 1)],
+            [(1, wanted), (2, 1)]
+        );
     }
     Ok(())
 }

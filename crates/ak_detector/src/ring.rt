@@ -43,7 +43,12 @@ fn add_side(
 }
 
 // The member at a pair, where there is one on that side of the node.
-fn other_at<'a>(members: &'a Members, pair: usize, me: &Unique, is_after: bool) -> Option<&'a Unique>
+fn other_at<'a>(
+    members: &'a Members,
+    pair: usize,
+    me: &Unique,
+    is_after: bool,
+) -> Option<&'a Unique>
     ensures { option_to_list (option_copied result) ≡ side_pairs is_after me.now (option_to_list (slice_get (map.entries members.now) pair)) }
 {
     match members.pair(pair) {

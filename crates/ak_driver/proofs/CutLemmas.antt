@@ -240,7 +240,7 @@ replays_longer p (line ∷ next ∷ lines) (other ∷ longer) steps ending withi
     on_later : (p : Progress) (line other next : List ℕ) (lines longer steps : List (List ℕ)) (ending : Ending) → StopsWithin (p.line + 1) (next ∷ lines)
         → Extends (line ∷ next ∷ lines) (other ∷ longer)
         → ((q : Progress) (more : List (List ℕ)) → q.line ≤ most_lines + 1 → StopsWithin q.line (next ∷ lines) → Replays q (next ∷ lines) more ending
-          → Replays q longer more ending × (ending_status ending ≡ 4))
+        → Replays q longer more ending × (ending_status ending ≡ 4))
         → Replays p (line ∷ next ∷ lines) steps ending → Replays p (other ∷ longer) steps ending × (ending_status ending ≡ 4)
     on_later p line other next lines longer steps ending later e on (inl r) =
         (inl (r.0, subst (λ (l : List ℕ). IsRefused p l r.0) e.0 r.1, r.2, r.3), ap ending_status r.3)

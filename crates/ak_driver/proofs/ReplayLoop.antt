@@ -84,6 +84,7 @@ along_turn bytes old now p q line rest others out after text a e t grown =
           ∙ ap (λ (o : List ℕ). concat a.steps ++ o) t.text_is
           ∙ sym (concat-append a.steps added);
     }
+
 -- what was printed is written
 pub along_flush : (bytes : List ℕ) (old now later : Option (List ℕ)) (p : Progress) (rest : List (List ℕ)) (out none : List ℕ)
     → Along bytes old now p rest out → Appends now later out → none ≡ [] → Along bytes old later p rest none

@@ -121,7 +121,7 @@ Replays p [] steps ending = (steps ≡ []) × EndsAs p ending
 Replays p (line ∷ lines) steps ending =
     ((code : Code) × IsRefused p line code × (steps ≡ []) × (ending ≡ Stopped code p.line))
     ⊎ ((judgement : Judgement) × Judged p line judgement
-      × (rest : List (List ℕ)) × Replays (turn p judgement).0 lines rest ending × (steps ≡ (turn p judgement).1 ++ rest))
+    × (rest : List (List ℕ)) × Replays (turn p judgement).0 lines rest ending × (steps ≡ (turn p judgement).1 ++ rest))
 
 -- what is printed at the end, and the status
 abbrev pub ending_text : Ending → List ℕ

@@ -12,8 +12,8 @@ ghost use Rattle.ak_driver.specs.StatusContracts.{AsksReplay, ReplayCause, Writt
 
 use ak_address::Text;
 pub use ak_outside::Status;
-pub use laws::{replays_are_determined, worked_schedules};
 use ak_outside::{Sink, Source};
+pub use laws::{replays_are_determined, replays_reach_runs, worked_schedules};
 pub use replay::run_replay;
 use replay::written;
 use std::alloc::Global;

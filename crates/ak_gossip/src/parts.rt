@@ -8,7 +8,7 @@ ghost use Rattle.ak_gossip.specs.Parts.{state_of_status, state_of, number_of, ro
 ghost use Rattle.ak_gossip.specs.PartsWalk.{standing_of, ascend_from, is_above, ascend_after, has_there, with_counts, with_known, with_standings, with_seen, with_process, with_indices, with_part_row, with_part_rows};
 
 use crate::gossip::{Gossip, MOST_UNIQUES};
-use crate::part::{Part, Parts, Indices};
+use crate::part::{Indices, Part, Parts};
 use ak_address::{Unique, Uniques};
 use ak_clock::{BOUND, Version};
 use ak_member::{Members, Standing, Status};

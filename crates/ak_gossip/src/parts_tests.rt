@@ -1,5 +1,5 @@
 use crate::gossip::Gossip;
-use crate::part::{Part, Parts, Indices};
+use crate::part::{Indices, Part, Parts};
 use crate::parts::parts_valid;
 use ak_address::{Address, Text, Unique, Uniques};
 use ak_member::Status;

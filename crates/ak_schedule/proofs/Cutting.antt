@@ -45,8 +45,8 @@ spaces_before : (xs : List ℕ) (i : ℕ) → Some i ≡ position (λ b. not (b 
 spaces_before xs i h =
     let at = position_at (λ b. not (b == 32)) xs i h in
     All-from_get_or (λ b. b ≡ 32) (take i xs) 0 (λ j l.
-      let before : j < i = omega (arith, l, length-take-le i xs (omega (arith, at.1))) in
-      get_or-take i xs j 0 before ∙ eqb-true (get_or xs j 0) 32 (not_false (get_or xs j 0 == 32) (fails_before_first (λ b. not (b == 32)) xs j 0 (omega (arith, before, at.0)))))
+    let before : j < i = omega (arith, l, length-take-le i xs (omega (arith, at.1))) in
+    get_or-take i xs j 0 before ∙ eqb-true (get_or xs j 0) 32 (not_false (get_or xs j 0 == 32) (fails_before_first (λ b. not (b == 32)) xs j 0 (omega (arith, before, at.0)))))
   where
     not_false : (b : Bool) → not b ≡ false → b ≡ true
     not_false true h = refl

@@ -17,9 +17,10 @@ mod tests;
 pub use draft::Draft;
 pub use event::Event;
 pub use fault::LineFault;
-pub use laws::{headers_spell_settings, 
-    a_carriage_return_is_dropped, lines_are_read_one_way, lines_end_at_line_feeds,
-    passed_over_lines_spell_nothing, printed_events_are_read, words_stand_between_spaces,
+pub use laws::{
+    a_carriage_return_is_dropped, headers_spell_settings, lines_are_read_one_way,
+    lines_end_at_line_feeds, passed_over_lines_spell_nothing, printed_events_are_read,
+    words_stand_between_spaces,
 };
 pub use line::{MOST_BYTES, is_passed_over, next_line, next_word};
 pub use print::print_event;

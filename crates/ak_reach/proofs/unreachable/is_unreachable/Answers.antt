@@ -1,4 +1,4 @@
-use Rattle.std.proofs.Common.{ℕ, Bool, false, Option, Some, None, is_some, option_map, refl, sym, ap, ◌≡◌}
+use Rattle.std.proofs.Common.{ℕ, Bool, false, Option, Some, None, is_some, option_map, sym, ap, ◌≡◌}
 use Rattle.std.specs.FinMap as map
 use Rattle.ak_address.specs.Unique.{UniqueModel}
 use Rattle.ak_member.specs.declared.status.Status.{Status}
