@@ -137,3 +137,110 @@ fn a_failed_write_leaves_a_prefix(rt: HostRuntime) -> Result<(), Fail> {
     assert!(rt; whole.starts_with(&prefix));
     Ok(())
 }
+
+// The number of the read that comes after these bytes, of which a read gives seven.
+fn read_after(text: &[u8]) -> u64 {
+    (text.len().div_ceil(7) as u64).saturating_add(1)
+}
+
+// These lines, and then a comment of 4,096 bytes and one byte more.
+fn long_line(alloc: Global, before: &[u8], last: u8) -> Result<Vec<u8>, AllocError> {
+    let mut text = before.to_vec(alloc)?;
+    text.extend_from_slice(&vec![in alloc; b'#'; 4096]?)?;
+    text.push(last)?;
+    Ok(text)
+}
+
+// A line of 4,096 bytes may end in CR, so the next read is asked, and fails. A longer one is refused with no other read,
+// after the steps before it, even if it is a comment.
+#[test]
+fn a_long_line_ends_the_reading(rt: HostRuntime) -> Result<(), Fail> {
+    let alloc = rt.alloc();
+    let words: [&[u8]; 1] = [b"replay"];
+    let running = schedule(alloc, b"start a:1#1\nfound a:1#1\n")?;
+    let table: [(&[u8], u8, Status, &[u8], u64); 6] = [
+        (b"", b'\r', Status::Read, b"error 5 read\n", 1),
+        (b"", b'#', Status::Schedule, b"error 4 S2 line 1\n", 0),
+        (HEADERS, b'\r', Status::Read, b"error 5 read\n", 1),
+        (HEADERS, b'#', Status::Schedule, b"error 4 S1 line 10\n", 0),
+        (&running, b'\r', Status::Read, b"error 5 read\n", 1),
+        (
+            &running,
+            b'#',
+            Status::Schedule,
+            b"1 start a:1#1\n2 found a:1#1\n  update 1 joined a:1#1\n  view a:1#1=1 | a:1#1 joining | -\nerror 4 S1 line 12\n",
+            0,
+        ),
+    ];
+    'rows: for (before, last, want, printed, faults) in table {
+        let text = long_line(alloc, before, last)?;
+        let (status, written, reads, _) = outcome(alloc, &words, &text, &[read_after(&text)], &[])?;
+        assert_eq!(rt; status, want);
+        assert_eq!(rt; written.as_slice(), printed);
+        assert_eq!(rt; reads, faults);
+    }
+    Ok(())
+}
+
+// A read that fails in the middle, or in place of the end, is the last, and no step is printed. After the end no read is asked.
+#[test]
+fn a_failed_read_is_the_last(rt: HostRuntime) -> Result<(), Fail> {
+    let alloc = rt.alloc();
+    let words: [&[u8]; 1] = [b"replay"];
+    let refused = schedule(alloc, b"start a:1#1\ntock a:1#1\n")?;
+    let texts: [(&[u8], Status, &[u8]); 2] = [
+        (HEADERS, Status::Done, SUMMARY),
+        (
+            &refused,
+            Status::Schedule,
+            b"1 start a:1#1\nerror 4 S1 line 11\n",
+        ),
+    ];
+    'texts: for (text, want, printed) in texts {
+        let end = read_after(text);
+        'numbers: for first in [2, end] {
+            let failing = [first, first.saturating_add(1)];
+            let (status, written, reads, _) = outcome(alloc, &words, text, &failing, &[])?;
+            assert_eq!(rt; status, Status::Read);
+            assert_eq!(rt; written.as_slice(), b"error 5 read\n".as_slice());
+            assert_eq!(rt; reads, 1);
+        }
+        let (status, written, reads, _) = outcome(
+            alloc,
+            &words,
+            text,
+            &[end.saturating_add(1)],
+            &[],
+        )?;
+        assert_eq!(rt; status, want);
+        assert_eq!(rt; written.as_slice(), printed);
+        assert_eq!(rt; reads, 0);
+    }
+    Ok(())
+}
+
+// More steps than are written at once stand before a refusal, each of them once.
+#[test]
+fn all_steps_stand_before_a_refusal(rt: HostRuntime) -> Result<(), Fail> {
+    let alloc = rt.alloc();
+    let words: [&[u8]; 1] = [b"replay"];
+    let mut text = schedule(alloc, b"start a:1#1\n")?;
+    for _ in 0..5000 {
+        text.extend_from_slice(b"join a:1#1 a:1\n")?;
+    }
+    let (status, whole, _, _) = outcome(alloc, &words, &text, &[], &[])?;
+    assert_eq!(rt; status, Status::Done);
+
+    text.extend_from_slice(b"tock a:1#1\n")?;
+    let (status, printed, _, _) = outcome(alloc, &words, &text, &[], &[])?;
+    assert_eq!(rt; status, Status::Schedule);
+    let Some(steps) = printed.strip_suffix(b"error 4 S1 line 5011\n".as_slice()) else {
+        panic!(rt; "no refusal is printed");
+    };
+    let Some(summary) = whole.strip_prefix(steps) else {
+        panic!(rt; "other steps are printed");
+    };
+    assert!(rt; steps.len() > 65536);
+    assert!(rt; summary.starts_with(b"steps 5001\n"));
+    Ok(())
+}
