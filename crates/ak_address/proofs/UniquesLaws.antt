@@ -1,15 +1,14 @@
 -- What a set of processes has after a change, and at each index.
-use Rattle.std.proofs.Common.{◌≡◌, ℕ, ◌<◌, Bool, true, false, cond, not, ◌&&◌, ◌||◌, List, [], ◌∷◌, slice_get, Option, Some, None, is_some, unwrap_or, option_map, refl, sym, ap, ◌∙◌, true≢false}
-use Rattle.std.specs.declared.cmp.Ordering.TheVariants.{Less}
+use Rattle.std.proofs.Common.{◌≡◌, ℕ, Bool, true, false, cond, not, ◌&&◌, ◌||◌, List, [], ◌∷◌, slice_get, Option, Some, None, is_some, unwrap_or, option_map, refl, sym, ap, ◌∙◌, true≢false}
 use Rattle.std.specs.Ordering.{eq_by_cmp}
 use Rattle.std.specs.FinMap as map
 use Rattle.std.specs.List.{list_any}
 use Rattle.std.proofs.lemmas.Option.{slice_get-map}
 use Rattle.ak_address.specs.Unique.{UniqueModel, unique_cmp}
 use Rattle.ak_address.specs.Table.{merged_at}
-use Rattle.ak_address.specs.Uniques.{UniqueSet, no_one, has, with_one, without_one, those, in_order, union, set_of}
+use Rattle.ak_address.specs.Uniques.{UniqueSet, no_one, has, with_one, those, in_order, union, set_of}
 use Rattle.ak_address.proofs.OrderLemmas.{unique_exact}
-use Rattle.ak_address.proofs.TableLaws.{same_key, same_table, get-empty, get-insert, get-remove, get_at, index_of_get, keys_rise, get-merged_tables}
+use Rattle.ak_address.proofs.TableLaws.{same_key, same_table, get-empty, get-insert, get_at, index_of_get, get-merged_tables}
 
 -- nothing is all that can stand at a process
 found_there : (a : Option (Unit {0})) → is_some a ≡ true → a ≡ Some tt
@@ -42,9 +41,6 @@ has-no_one q = ap is_some (get-empty q)
 pub has-with_one : (s : UniqueSet) (k q : UniqueModel) → has (with_one s k) q ≡ (eq_by_cmp unique_cmp q k || has s q)
 has-with_one s k q = ap is_some (get-insert s k tt q) ∙ put_in (eq_by_cmp unique_cmp q k) (map.get s q)
 
-pub has-without_one : (s : UniqueSet) (k q : UniqueModel) → has (without_one s k) q ≡ (not (eq_by_cmp unique_cmp q k) && has s q)
-has-without_one s k q = ap is_some (get-remove s k q) ∙ removed_pair (eq_by_cmp unique_cmp q k) (map.get s q)
-
 pub has-those : (s : UniqueSet) (p : UniqueModel → Bool) (q : UniqueModel) → has (those s p) q ≡ (has s q && p q)
 has-those s p q = ap is_some (map.get-retain_keys s p q (λ x t. ap p (sym (unique_exact q x t)))) ∙ passed (p q) (map.get s q)
 
@@ -76,10 +72,6 @@ pub index_of_has : (s : UniqueSet) (u : UniqueModel) → has s u ≡ true → (i
 index_of_has s u h =
     let p = index_of_get s u tt (found_there (map.get s u) h) in
     (p.0, slice_get-map (λ pair. pair.0) (map.entries s) p.0 ∙ ap (option_map (λ pair. pair.0)) p.1)
-
--- and the indices are in the order of processes
-pub uniques_rise : (s : UniqueSet) (i j : ℕ) (u v : UniqueModel) → i < j → slice_get (in_order s) i ≡ Some u → slice_get (in_order s) j ≡ Some v → unique_cmp u v ≡ Less
-uniques_rise s i j u v lt is js = keys_rise s i j (u, tt) (v, tt) lt (pair_at s i u is) (pair_at s j v js)
 
 either : (a b : Option (Unit {0})) → is_some (merged_at (λ _ _. tt) a b) ≡ (is_some a || is_some b)
 either None b = refl

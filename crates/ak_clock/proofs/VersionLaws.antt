@@ -194,10 +194,6 @@ merged-assoc u v w = same_table _ _ (λ x.
 pub merged-idem : (v : Counts) → merged v v ≡ v
 merged-idem v = same_table _ _ (λ u. get-merged_tables max v v u ∙ twice (map.get v u))
 
--- what is covered adds nothing
-pub merged_with_covered : (v w : Counts) → IsVersion v → IsVersion w → Covers v w → merged v w ≡ v
-merged_with_covered v w p q over = same_version (merged v w) v (merged_is_version v w p q) p (λ u. omega (arith, count-merged v w u, over u))
-
 pub bumped_covers : (v : Counts) (a : UniqueModel) → Covers (bumped v a) v
 bumped_covers v a u = elim (same_or_apart u a) [
   | inl same ↦ subst (λ k. count v k ≤ count (bumped v a) k) (sym same) (omega (arith, count-bumped_author v a))
@@ -243,9 +239,6 @@ test_from_covers v w over = all_pass (λ (pair : UniqueModel × ℕ). leb pair.1
     let here : count w pair.0 ≡ pair.1 = ap (λ o. unwrap_or o 0) (get_at w i pair is) in
     let least : pair.1 ≤ count v pair.0 = omega (arith, over pair.0) in
     le-leb pair.1 (count v pair.0) least)
-
-pub covers_test : (v w : Counts) → (covers v w ≡ true) ↔ Covers v w
-covers_test v w = (covers_from_test v w, test_from_covers v w)
 
 test_is_false : (v w : Counts) → ¬ (Covers v w) → covers v w ≡ false
 test_is_false v w never = elim (covers v w) as (λ b. covers v w ≡ b → b ≡ false) [ true ↦ λ is. absurd (never (covers_from_test v w is)) | false ↦ λ _. refl ] refl

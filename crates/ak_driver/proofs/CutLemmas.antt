@@ -4,12 +4,11 @@ use Rattle.std.specs.Prelude.{map}
 use Rattle.std.specs.List.{slice_split, onto_first, Contains}
 use Rattle.std.proofs.lemmas.List.Splits.{length-slice_split, slice_split-cons_yes, slice_split-cons_no}
 use Rattle.ak_schedule.specs.Line.{lines, begun, without_cr, most_bytes}
-use Rattle.ak_schedule.specs.Settings.{SettingsModel}
 use Rattle.ak_schedule.proofs.Cutting.{begun_more}
 use Rattle.ak_driver.specs.InputContracts.{IsPast}
 use Rattle.ak_driver.specs.declared.replay.Code.{Code}
 use Rattle.ak_driver.specs.declared.replay.Code.TheVariants.{Malformed, BadHeader, PastLimit, Invalid}
-use Rattle.ak_driver.specs.ReplayText.{Progress, Judgement, Passes, Sets, Steps, Ending, Stopped, Judged, IsRefused, Replays, ReplaysAs, IsReplay, IsFirstSteps, WantsHeader, WantsEvent, turn, ending_status, most_lines, header_count, at_start}
+use Rattle.ak_driver.specs.ReplayText.{Progress, Judgement, Passes, Sets, Steps, Ending, Judged, IsRefused, Replays, ReplaysAs, IsReplay, IsFirstSteps, WantsHeader, WantsEvent, turn, ending_status, most_lines, at_start}
 
 -- ---- the parts of two texts, one after the other
 abbrev pub parts_of : List ℕ → List (List ℕ)

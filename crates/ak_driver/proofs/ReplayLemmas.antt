@@ -10,7 +10,7 @@ use Rattle.ak_driver.specs.declared.replay.Stage.TheVariants.{Heading, Running}
 use Rattle.ak_world.specs.StepText.{step_text}
 use Rattle.ak_world.specs.World.{empty_world}
 use Rattle.ak_world.specs.WorldContracts.{WorldModel}
-use Rattle.ak_driver.specs.ReplayText.{Progress, Sets, Steps, IsRefused, most_lines, most_events, header_count}
+use Rattle.ak_driver.specs.ReplayText.{Progress, Sets, Steps, most_lines, most_events, header_count}
 use Rattle.ak_driver.specs.ReplayContracts.{progress, IsReady, Turns, TurnAnswers, HeadingAnswers, RunningAnswers}
 
 -- ---- a header line

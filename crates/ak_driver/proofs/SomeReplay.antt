@@ -1,18 +1,17 @@
 -- Each schedule has a replay: its steps and its end.
-use Rattle.std.proofs.Common.{◌≡◌, ℕ, ◌+◌, ◌<◌, ◌≤◌, List, [], ◌∷◌, ◌++◌, Option, Some, None, Result, Ok, Err, slice_get, length, refl, subst, inl, inr, ◌⊎◌, arith}
+use Rattle.std.proofs.Common.{◌≡◌, ℕ, ◌<◌, ◌≤◌, List, [], ◌∷◌, ◌++◌, Option, Some, None, Result, Ok, Err, slice_get, length, refl, subst, inl, inr, ◌⊎◌, arith}
 use Rattle.std.proofs.lemmas.Option.{slice_get-get_or}
 use Rattle.ak_schedule.specs.declared.event.Event.{Event}
 use Rattle.ak_schedule.specs.declared.settings.Header as header
 use Rattle.ak_schedule.specs.Line.{lines, IsPassedOver}
 use Rattle.ak_schedule.specs.Settings.{SettingsModel}
 use Rattle.ak_schedule.specs.Schedule.{headers, SetsHeader, SpellsEvent}
-use Rattle.ak_schedule.specs.Draft.{ReadsHeader}
 use Rattle.ak_schedule.proofs.Deciding.{Tells, Finds, at_most, below, passed_over, set_header, spelled_event}
 use Rattle.ak_world.specs.declared.world.Reason.{Reason}
 use Rattle.ak_world.specs.World.{Done, happens}
 use Rattle.ak_driver.specs.declared.replay.Code.{Code}
 use Rattle.ak_driver.specs.declared.replay.Code.TheVariants.{Malformed, BadHeader, PastLimit, Invalid}
-use Rattle.ak_driver.specs.ReplayText.{Progress, Judgement, Passes, Sets, Steps, Ending, Finished, Stopped, Judged, IsRefused, WantsHeader, WantsEvent, HasRoom, SetsNext, Replays, IsReplay, turn, at_start, ending_status, ending_text, most_lines, most_events, header_count}
+use Rattle.ak_driver.specs.ReplayText.{Progress, Judgement, Passes, Sets, Steps, Ending, Finished, Stopped, Judged, IsRefused, WantsHeader, WantsEvent, HasRoom, SetsNext, Replays, IsReplay, turn, at_start, ending_status, most_lines, most_events, header_count}
 
 -- ---- each line is accepted or refused
 abbrev pub Found : Progress → List ℕ → Type 0

@@ -1,6 +1,6 @@
 -- The text of two schedules, from the definitions.
-use Rattle.std.proofs.Common.{◌≡◌, ℕ, ◌+◌, ◌^◌, ◌<◌, ◌≤◌, List, [], ◌∷◌, ◌++◌, length, refl, sym, subst, ap, ◌∙◌, inl, inr, arith, lit<, lit≤, Some, Ok, Bool, true, false, not, ◌&&◌, zero, suc, ◌≢◌, get_or, unwrap_or, is_some, if◌then◌else◌}
-use Rattle.std.specs.Prelude.{codes, slice_get, IfSome}
+use Rattle.std.proofs.Common.{◌≡◌, ℕ, ◌+◌, ◌^◌, ◌<◌, ◌≤◌, List, [], ◌∷◌, ◌++◌, length, refl, sym, ap, ◌∙◌, inl, inr, arith, lit<, lit≤, Some, Ok, Bool, true, false, not, ◌&&◌, zero, suc, ◌≢◌, get_or, unwrap_or, is_some, if◌then◌else◌}
+use Rattle.std.specs.Prelude.{codes, slice_get}
 use Rattle.std.specs.Fmt.{digits, decimal}
 use Rattle.std.specs.Prelude.{nat_le, map as list_map}
 use Rattle.std.specs.List.{AllPairs, list_all, concat}

@@ -22,7 +22,7 @@ use Rattle.ak_member.specs.declared.status.Status.TheVariants.{Joining, Up, Leav
 use Rattle.ak_member.specs.Standing.{Standings, rank, greater_status, older_number, merged_standing, merged_standings, known, member_of, is_member}
 use Rattle.ak_member.specs.View.{Row, RowTable, later_row, merged_rows, after_effect, after_effects, after_observed, observed}
 use Rattle.ak_member.proofs.StandingLaws.{rank-greater_status}
-use Rattle.ak_gossip.specs.Gossip.{GossipState, most_uniques, is_known, IsNumber, IsStanding, IsRow, IsGossip, nothing_known, seen_by, updated, MayUpdate, same, both}
+use Rattle.ak_gossip.specs.Gossip.{GossipState, most_uniques, is_known, IsNumber, IsStanding, IsRow, IsGossip, nothing_known, updated, MayUpdate, same, both}
 
 -- ---- standings
 -- the number of a member by the rank of its status
@@ -212,13 +212,6 @@ pub noted_kept : (me : UniqueModel) (g : GossipState) → IsGossip g → IsGossi
 noted_kept me g p = by_member (is_member g.view.standings me) refl
   where
     by_member : (b : Bool) → is_member g.view.standings me ≡ b → IsGossip (record g { seen = if b then with_one g.seen me else g.seen })
-    by_member true is = seen_kept g (with_one g.seen me) p (with_me me g p is)
-    by_member false is = p
-
-pub seen_by_kept : (me : UniqueModel) (g : GossipState) → IsGossip g → IsGossip (seen_by me g)
-seen_by_kept me g p = by_member (is_member g.view.standings me) refl
-  where
-    by_member : (b : Bool) → is_member g.view.standings me ≡ b → IsGossip (if b then record g { seen = with_one g.seen me } else g)
     by_member true is = seen_kept g (with_one g.seen me) p (with_me me g p is)
     by_member false is = p
 

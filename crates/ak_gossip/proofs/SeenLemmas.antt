@@ -3,7 +3,7 @@ use Rattle.std.proofs.Common.{◌≡◌, ℕ, zero, suc, ◌+◌, ◌<◌, ◌�
 use Rattle.std.proofs.lemmas.Option.{get_or_from_slice_get, slice_get_within}
 use Rattle.std.proofs.lemmas.List.{length-map, take_all}
 use Rattle.std.proofs.lemmas.List.Folds.{list_any_more, list_any_at}
-use Rattle.std.proofs.lemmas.Bool.{le-ltb, lt-ltb}
+use Rattle.std.proofs.lemmas.Bool.{le-ltb}
 use Rattle.std.specs.List.{list_any}
 use Rattle.std.specs.Ordering.{eq_by_cmp}
 use Rattle.std.specs.FinMap as map
@@ -157,6 +157,3 @@ len-merged_tables-most f m n = omega (arith, len-with_pairs f m (map.entries n),
 -- few enough are no excess, more are
 pub few_of : (n : ℕ) → n ≤ most_uniques → None ≡ excess_of n
 few_of n few = sym (ap (λ b. if b then Some n else None) (le-ltb _ _ few))
-
-pub excess_is : (n : ℕ) → most_uniques < n → Some n ≡ excess_of n
-excess_is n many = sym (ap (λ b. if b then Some n else None) (lt-ltb _ _ many))

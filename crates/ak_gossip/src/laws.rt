@@ -13,7 +13,7 @@ ghost use Rattle.ak_gossip.specs.Parts.{parts_of, AreParts};
 
 /// Who has seen what is known, after a gossip with the same version came: those who had seen it here, those who had
 /// seen it there and are members here, and the node itself where it is a member.
-pub fn same_versions_join_the_seen()
+pub fn same_versions_merge_the_seen()
     ensures { (me : UniqueModel) (own incoming : GossipState) (who : UniqueModel) → IsTrue (has (seen_by me (same own incoming)).seen who) ↔ (IsTrue (has own.seen who) ⊎ (IsTrue (has incoming.seen who) × IsTrue (is_member own.view.standings who)) ⊎ ((who ≡ me) × IsTrue (is_member own.view.standings me))) }
 {}
 

@@ -13,7 +13,7 @@ mod tests;
 pub use gossip::{Gossip, GossipFault, Received};
 pub use laws::{
     gossips_are_their_parts, joining_may_be_made, merged_gossips_know_both,
-    same_versions_join_the_seen,
+    same_versions_merge_the_seen,
 };
 pub use part::{Indices, Part, Parts};
 pub use parts::parts_valid;

@@ -60,9 +60,6 @@ least-append : (xs ys : List (UniqueModel × ℕ)) → least_pair (xs ++ ys) ≡
 least-append [] ys = refl
 least-append (x ∷ xs) ys = ap (older_pair x) (least-append xs ys) ∙ earlier_grouped x (least_pair xs) (least_pair ys)
 
-of_least : (a b : Option (UniqueModel × ℕ)) (xs : List (UniqueModel × ℕ)) → a ≡ least_pair xs → earlier a b ≡ earlier (least_pair xs) b
-of_least a b xs e = ap (λ o. earlier o b) e
-
 itself : (a : Option (UniqueModel × ℕ)) → least_pair (option_to_list a) ≡ a
 itself None = refl
 itself (Some x) = refl

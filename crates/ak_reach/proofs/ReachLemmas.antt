@@ -1,6 +1,6 @@
 -- Which observers report a process, and which processes are reported.
 use Rattle.std.proofs.Common.{◌≡◌, ℕ, zero, suc, ◌+◌, ◌≤◌, Bool, true, false, ◌||◌, ◌&&◌, cond, if◌then◌else◌, nat_lt, IsTrue, ◌↔◌, List, [], ◌∷◌, length, drop, slice_get, Option, Some, None, is_some, refl, sym, ap, ◌∙◌, arith, true≢false}
-use Rattle.std.proofs.lemmas.Bool.{leb-true, leb-false, le-ltb, lt-ltb}
+use Rattle.std.proofs.lemmas.Bool.{leb-true, le-ltb}
 use Rattle.std.proofs.Math.ListN.{drop_of_length-le}
 use Rattle.std.proofs.lemmas.Option.{same_Some}
 use Rattle.std.specs.List.{list_any}
@@ -36,13 +36,6 @@ row_stays rows observer row new = by_row (map.get rows observer) refl new
       where
         stays : (own : Row) → is_as_new (Some own) row.number ≡ true → nat_lt own.number row.number ≡ false
         stays own new = let le = leb-true row.number own.number new in le-ltb own.number row.number le
-
-pub row_comes : (rows : RowTable) (observer : UniqueModel) (row : Row) → is_as_new (map.get rows observer) row.number ≡ false → map.insert rows observer row ≡ with_row rows observer row
-row_comes rows observer row old = ap (map.insert rows observer) (by_row (map.get rows observer) old)
-  where
-    by_row : (o : Option Row) → is_as_new o row.number ≡ false → row ≡ value_with later_row o row
-    by_row None old = refl
-    by_row (Some own) old = let lt = leb-false row.number own.number old in ap (λ b. if b then row else own) (sym (lt-ltb own.number row.number lt))
 
 -- ---- walks
 next : (n : ℕ) → suc n ≡ n + 1

@@ -1,5 +1,5 @@
 -- Which addresses are listed.
-use Rattle.std.proofs.Common.{◌≡◌, ◌||◌, ◌<◌, ◌+◌, Bool, true, false, List, [], ◌∷◌, suc, refl, sym, ap, ◌∙◌, arith, true≢false}
+use Rattle.std.proofs.Common.{◌≡◌, ◌||◌, true, List, [], ◌∷◌, suc, refl, sym, ap, ◌∙◌, arith, true≢false}
 use Rattle.std.proofs.lemmas.List.Folds.{list_any_at}
 use Rattle.std.specs.Prelude.{IsTrue, ◌↔◌}
 use Rattle.std.specs.List.{Contains}

@@ -23,15 +23,6 @@ pub record SpelledSoFar (names rest : List (List ℕ)) (listed : List AddressMod
   pub addresses : AllByRecursion IsAddress listed
   pub different : AllPairs (λ a b. a ≢ b) listed
 
-pub spelled_none : (names : List (List ℕ)) (listed : List AddressModel) → listed ≡ [] → SpelledSoFar names names listed
-spelled_none names listed none = rw none (record {
-  onward = λ tail spelt. spelt;
-  back = λ all spelt. (all, refl, spelt);
-  room = omega arith;
-  addresses = tt;
-  different = λ i j d below within. absurd (omega arith);
-})
-
 pub spelled_more : (names rest after : List (List ℕ)) (name : List ℕ) (listed : List AddressModel) (a : AddressModel)
     → rest ≡ name ∷ after → SpelledSoFar names rest listed → SpellsNext name listed a → SpelledSoFar names after (listed ++ a ∷ [])
 spelled_more names rest after name listed a cut before next = record {
@@ -60,16 +51,6 @@ spelled_all names rest listed none so_far some = (
   where
     append_nil : (xs : List AddressModel) → xs ++ [] ≡ xs
     append_nil xs = search rules
-
-pub spelled_nothing : (names rest : List (List ℕ)) (listed : List AddressModel) → rest ≡ [] → SpelledSoFar names rest listed → length listed ≡ 0 → (all : List AddressModel) → SpellsAddresses names all → ⊥
-spelled_nothing names rest listed none so_far empty all spelt =
-    let split = so_far.back all spelt.0 in
-    let nothing : AllZip SpellsAddress [] split.0 = subst (λ (ws : List (List ℕ)). AllZip SpellsAddress ws split.0) none split.2 in
-    absurd (omega (arith, ap length split.1, length-append listed split.0, no_tail split.0 nothing, spelt.1.count.from))
-  where
-    no_tail : (tail : List AddressModel) → AllZip SpellsAddress [] tail → length tail ≡ 0
-    no_tail [] h = refl
-    no_tail (a ∷ tail) h = absurd h
 
 -- where the next name may not follow, no list is spelled
 pub spelled_no_further : (names rest after : List (List ℕ)) (name : List ℕ) (listed : List AddressModel) → rest ≡ name ∷ after → SpelledSoFar names rest listed

@@ -3,7 +3,7 @@ use Rattle.ak_schedule.specs.Kind.{kind_name}
 use Rattle.ak_schedule.specs.declared.kind.Kind as kind
 use Rattle.ak_schedule.specs.Schedule.{SpellsWords}
 use Rattle.ak_address.specs.Spelling.{SpellsUnique}
-use Rattle.std.proofs.Common.{◌∷◌, ap, codes, refl}
+use Rattle.std.proofs.Common.{◌∷◌, ap, codes}
 use Rattle.ak_schedule.specs.declared.event.Event.TheVariants.{Tick}
 use Rattle.ak_schedule.proofs.EventWords.{refused, tick_at}
 use Rattle.ak_schedule.proofs.read.read_tick.Goals as goal

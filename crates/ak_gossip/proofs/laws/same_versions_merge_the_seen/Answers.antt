@@ -1,5 +1,5 @@
 use Rattle.ak_gossip.proofs.GossipLaws.{same_seen}
-use Rattle.ak_gossip.proofs.laws.same_versions_join_the_seen.Goals as goal
+use Rattle.ak_gossip.proofs.laws.same_versions_merge_the_seen.Goals as goal
 
 pub returns : goal.returns
 returns c = same_seen
