@@ -154,6 +154,6 @@ pub len-merged_tables-most : {X : Type 0} (f : X → X → X) (m n : map.FinMap 
 unfolding merged_tables
 len-merged_tables-most f m n = omega (arith, len-with_pairs f m (map.entries n), map.len-entries n)
 
--- few enough are no excess, more are
+-- few enough are no excess
 pub few_of : (n : ℕ) → n ≤ most_uniques → None ≡ excess_of n
 few_of n few = sym (ap (λ b. if b then Some n else None) (le-ltb _ _ few))
