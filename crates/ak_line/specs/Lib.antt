@@ -1,0 +1,17 @@
+pub mod Name
+pub mod Line
+pub mod Shards
+pub mod Moves
+pub mod Promised
+pub mod Floors
+pub mod Placed
+pub mod Reported
+pub mod Hosted
+pub mod Safe
+pub mod Local
+pub mod BallotOrder
+pub mod Grows
+pub mod Rules
+pub mod Slots
+pub mod Numbers
+pub mod Example
