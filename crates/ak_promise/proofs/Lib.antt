@@ -1,1 +1,3 @@
 pub mod BallotOrder
+pub mod PromiseLemmas
+pub mod PromiseLaws

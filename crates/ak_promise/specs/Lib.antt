@@ -1,1 +1,2 @@
 pub mod Ballot
+pub mod Promise

@@ -4,6 +4,13 @@
 
 mod ballot;
 mod laws;
+mod promise;
+#[cfg(test)]
+mod promise_tests;
 
 pub use ballot::Ballot;
-pub use laws::ballots_are_ordered;
+pub use laws::{
+    answers_are_exact, ballots_are_ordered, floors_only_grow, last_ballots_never_fall,
+    promises_bind,
+};
+pub use promise::{Answer, Promise};
