@@ -51,9 +51,13 @@ Answers Granted p b finished = Binds p b ⊎ (IsNew p b × IsFree p b finished)
 Answers Old p b finished = ¬ (Binds p b) × ¬ (IsNew p b)
 Answers Busy p b finished = IsNew p b × ¬ (IsFree p b finished)
 
+-- the ballot is promised
+abbrev pub bound : BallotModel → PromiseModel → PromiseModel
+bound b p = record p { last = Some b; released = false }
+
 -- what each answer leaves
 abbrev pub after_ask : Answer → BallotModel → PromiseModel → PromiseModel
-after_ask Granted b p = record p { last = Some b; released = false }
+after_ask Granted b p = bound b p
 after_ask Old b p = p
 after_ask Busy b p = p
 
@@ -65,6 +69,14 @@ Releases false p b = p.last ≢ Some b
 abbrev pub after_release : Bool → Counts → PromiseModel → PromiseModel
 after_release true v p = record p { released = true; floor = merged p.floor v }
 after_release false v p = p
+
+-- the last ballot, if there is one, is released with a version, whichever it is
+abbrev pub freed_after : Option BallotModel → Counts → PromiseModel → PromiseModel
+freed_after None v p = p
+freed_after (Some c) v p = after_release true v p
+
+abbrev pub freed : Counts → PromiseModel → PromiseModel
+freed v p = freed_after p.last v p
 
 -- ---- the same, computed
 -- by how the ballot stands to the last one, whether that is released, and whether it does not bind against this one

@@ -1,6 +1,6 @@
-ghost use Rattle.std.specs.Prelude.{◌≡◌, ◌≢◌, ◌||◌, IfOk, IsOk, OnErr, Some, option_copied};
+ghost use Rattle.std.specs.Prelude.{◌≡◌, ◌≢◌, ◌||◌, true, IfOk, IsOk, OnOk, OnErr, Some, option_copied};
 ghost use Rattle.std.specs.Ordering.{is_eq};
-ghost use Rattle.ak_promise.specs.Promise.{unpromised, Answers, after_ask, answer_after, answer_to, Releases, after_release, is_last, is_some_ballot, answer_by};
+ghost use Rattle.ak_promise.specs.Promise.{unpromised, bound, freed, Answers, after_ask, answer_after, answer_to, Releases, after_release, is_last, is_some_ballot, answer_by};
 ghost use Rattle.ak_address.specs.Unique.{unique_cmp};
 
 use crate::ballot::Ballot;
@@ -91,6 +91,26 @@ impl Promise {
         answer
     }
 
+    /// Promises the ballot, whatever was promised before: so a node promises a ballot to itself. Takes no memory.
+    pub fn bind(&mut self, ballot: Ballot)
+        ensures { self.new ≡ bound ballot self.old }
+    {
+        self.last = Some(ballot);
+        self.released = false;
+    }
+
+    /// Releases the last ballot, whichever it is, with a version: the floor covers the version from now on. Where nothing was
+    /// promised nothing changes. After an error the promise is as it was.
+    pub fn release_last(&mut self, alloc: Global, version: &Version) -> Result<(), AllocError>
+        ensures ok { OnOk result (self.new ≡ freed version.now self.old) }
+        ensures err { OnErr result (self.new ≡ self.old) }
+    {
+        if self.last.is_some() {
+            return self.let_go(alloc, version);
+        }
+        Ok(())
+    }
+
     /// Releases a ballot with a version: where it is the last one, that is released and the floor covers the version from now
     /// on, and the answer is true. Any other ballot changes nothing and takes no memory. After an error the promise is as it was.
     pub fn release(
@@ -105,11 +125,20 @@ impl Promise {
         ensures other { self.old.last ≢ Some ballot.now → IsOk result }
     {
         if is_ballot(self.last.as_ref(), ballot) {
-            self.floor.merge(alloc, version)?;
-            self.released = true;
+            self.let_go(alloc, version)?;
             return Ok(true);
         }
         Ok(false)
+    }
+
+    // The last ballot is released, and the floor covers the version.
+    fn let_go(&mut self, alloc: Global, version: &Version) -> Result<(), AllocError>
+        ensures ok { OnOk result (self.new ≡ after_release true version.now self.old) }
+        ensures err { OnErr result (self.new ≡ self.old) }
+    {
+        self.floor.merge(alloc, version)?;
+        self.released = true;
+        Ok(())
     }
 }
 

@@ -107,3 +107,16 @@ fn a_promise_binds_until_it_is_released(rt: HostRuntime) -> Result<(), Fail> {
     }
     Ok(())
 }
+
+#[test]
+fn a_node_promises_to_itself(rt: HostRuntime) -> Result<(), Fail> {
+    let mut promise = Promise::none(rt.alloc());
+    promise.release_last(rt.alloc(), &version(rt.alloc(), 2)?)?;
+    assert!(rt; !promise.released() && promise.floor().len() == 0);
+    promise.bind(ballot(rt.alloc(), 7, b'a')?);
+    assert!(rt; is_last(rt.alloc(), &promise, 7, b'a')? && !promise.released());
+    promise.release_last(rt.alloc(), &version(rt.alloc(), 2)?)?;
+    assert!(rt; is_last(rt.alloc(), &promise, 7, b'a')? && promise.released());
+    assert_eq!(rt; promise.floor().len(), 1);
+    Ok(())
+}
