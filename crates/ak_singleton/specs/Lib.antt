@@ -1,0 +1,3 @@
+pub mod Singleton
+pub mod SingletonView
+pub mod Rules
