@@ -1,6 +1,5 @@
 -- The tests of the rules decide what they say.
-use Rattle.std.proofs.Common.{◌≡◌, ◌≢◌, ℕ, ◌<◌, ◌&&◌, ◌||◌, ◌⊎◌, ◌↔◌, inl, inr, Bool, true, false, not, Option, None, Some, is_some, IsTrue, IsSome, IfSome, List, Contains, slice_get, Ordering, Less, Equal, Greater, is_eq, is_gt, Decides, if◌then◌else◌, refl, sym, ap, ◌∙◌, subst, true≢false}
-use Rattle.std.specs.FinMap as map
+use Rattle.std.proofs.Common.{◌≡◌, ◌≢◌, ℕ, ◌<◌, ◌||◌, ◌⊎◌, ◌↔◌, inl, inr, Bool, true, false, not, Option, None, Some, is_some, IsTrue, IfSome, Ordering, Less, Equal, Greater, is_eq, is_gt, Decides, if◌then◌else◌, refl, sym, ap, ◌∙◌, subst, true≢false}
 use Rattle.std.specs.List.{list_all}
 use Rattle.std.specs.Cmp.{Equal-is}
 use Rattle.std.proofs.lemmas.Option.{same_Some}
@@ -191,8 +190,7 @@ covers_is v w = (covers_from_test v w, test_from_covers v w)
 
 pub activation_is : (me : UniqueModel) (settled : SettledView) (margin : ℕ) (s : SingletonModel) → Decides (may_activate me settled margin s) (MayActivate me settled margin s)
 activation_is me settled margin s =
-    let d = Decides-and _ _ (Decides-and _ _ (Decides-and _ _ (asking_is s.phase) (candidate_is settled me)) (all_granted_is s.granted (needed margin settled))) (covers_is (version_of settled) s.floor) in
-    (
+    let d = Decides-and _ _ (Decides-and _ _ (Decides-and _ _ (asking_is s.phase) (candidate_is settled me)) (all_granted_is s.granted (needed margin settled))) (covers_is (version_of settled) s.floor) in (
       (λ is. let x = d.0 is in record { asking = x.0.0.0; oldest = x.0.0.1; granted = x.0.1; floor = x.1 }),
       λ x. d.1 (((x.asking, x.oldest), x.granted), x.floor),
     )

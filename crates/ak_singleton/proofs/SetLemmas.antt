@@ -1,12 +1,11 @@
 -- Walks along a set of processes.
-use Rattle.std.proofs.Common.{◌≡◌, ℕ, ◌+◌, Bool, true, false, cond, not, ◌&&◌, ◌||◌, List, [], ◌∷◌, length, drop, slice_get, option_to_list, refl, sym, ap, ◌∙◌}
-use Rattle.std.specs.List.{filter, list_all, list_any}
-use Rattle.std.specs.Ordering.{eq_by_cmp}
+use Rattle.std.proofs.Common.{◌≡◌, ℕ, ◌+◌, Bool, ◌&&◌, List, length, drop, slice_get, option_to_list, sym, ap, ◌∙◌}
+use Rattle.std.specs.List.{filter, list_all}
 use Rattle.std.specs.FinMap as map
 use Rattle.std.proofs.lemmas.Map.Entries.{length-keys_of}
 use Rattle.std.proofs.lemmas.List.Folds.{list_all-append}
-use Rattle.ak_address.specs.Unique.{UniqueModel, unique_cmp}
-use Rattle.ak_address.specs.Uniques.{UniqueSet, has, those, how_many, in_order, set_of}
+use Rattle.ak_address.specs.Unique.{UniqueModel}
+use Rattle.ak_address.specs.Uniques.{UniqueSet, those, how_many, in_order, set_of}
 use Rattle.ak_address.proofs.CountersLaws.{among-filter, has-set_of}
 use Rattle.ak_address.proofs.UniquesLaws.{same_uniques, has-those}
 use Rattle.ak_member.proofs.MemberLemmas.{kept_from}

@@ -1,10 +1,10 @@
 -- Whom a tick reaches, and that new ballots are higher.
-use Rattle.std.proofs.Common.{◌≡◌, ℕ, ◌+◌, ◌<◌, ◌&&◌, ◌||◌, ◌↔◌, Bool, true, false, not, Some, IsTrue, Greater, Less, refl, sym, ap, ◌∙◌, subst, arith, true≢false}
+use Rattle.std.proofs.Common.{◌≡◌, ℕ, ◌+◌, ◌<◌, ◌&&◌, ◌||◌, ◌↔◌, Bool, true, false, not, Some, IsTrue, Greater, refl, sym, ap, ◌∙◌, subst, arith, true≢false}
 use Rattle.std.specs.Ordering.{ordering_then, ordering_reverse, eq_by_cmp}
 use Rattle.std.specs.Cmp.{nat_cmp_is}
 use Rattle.std.proofs.lemmas.Option.{same_Some}
 use Rattle.ak_address.specs.Unique.{UniqueModel, unique_cmp}
-use Rattle.ak_address.specs.Uniques.{UniqueSet, no_one, has, with_one}
+use Rattle.ak_address.specs.Uniques.{UniqueSet, no_one, has}
 use Rattle.ak_address.proofs.TableLaws.{same_key, key_itself}
 use Rattle.ak_address.proofs.UniquesLaws.{has-no_one, has-with_one, has-those}
 use Rattle.ak_promise.specs.Ballot.{BallotModel, ballot_cmp}

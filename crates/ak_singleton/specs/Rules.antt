@@ -1,5 +1,5 @@
 -- When each rule applies, in words (this project's choice).
-use Rattle.std.specs.Prelude.{◌≡◌, ◌≢◌, ℕ, ◌<◌, ◌⊎◌, Bool, true, false, Some, IsSome, IsTrue}
+use Rattle.std.specs.Prelude.{◌≡◌, ◌≢◌, ℕ, ◌<◌, ◌⊎◌, true, false, Some, IsSome, IsTrue}
 use Rattle.std.specs.declared.cmp.Ordering.TheVariants.{Greater}
 use Rattle.ak_address.specs.Unique.{UniqueModel}
 use Rattle.ak_address.specs.Uniques.{has}

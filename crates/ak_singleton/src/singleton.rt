@@ -191,12 +191,7 @@ impl Singleton {
     }
 
     // Asks those that have not granted.
-    fn ask_others(
-        &self,
-        alloc: Global,
-        settled: &Settled,
-        margin: u32,
-    ) -> Result<Steps, AllocError>
+    fn ask_others(&self, alloc: Global, settled: &Settled, margin: u32) -> Result<Steps, AllocError>
         ensures { IfOk result (λ steps. steps ≡ record { ask = needed_but margin settled.now.view self.now.granted; release = no_one; hand_over_to = None }) }
     {
         let ask = needed_but(alloc, settled, margin, &self.granted)?;
@@ -450,11 +445,7 @@ fn may_open(promise: &Promise, me: &Unique, settled: &Settled, margin: u32) -> b
 }
 
 // The process's ballot after the last one.
-fn own_ballot(
-    alloc: Global,
-    last: Option<&Ballot>,
-    me: &Unique,
-) -> Result<Ballot, AllocError>
+fn own_ballot(alloc: Global, last: Option<&Ballot>, me: &Unique) -> Result<Ballot, AllocError>
     requires { IfSome (option_copied last) (λ b. b.term < BOUND) }
     ensures { IfOk result (λ ballot. ballot ≡ record { term = next_term (option_copied last.entry); unique = me.now }) }
 {
