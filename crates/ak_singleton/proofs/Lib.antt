@@ -1,3 +1,4 @@
 pub mod SetLemmas
 pub mod RulesMeant
 pub mod SingletonLaws
+pub mod AsMoves

@@ -18,7 +18,7 @@ use Rattle.ak_singleton.proofs.RulesMeant.{outdone_is}
 pub has-needed_but : (margin : ℕ) (settled : SettledView) (others : UniqueSet) (who : UniqueModel) → has (needed_but margin settled others) who ≡ (has (needed margin settled) who && not (has others who))
 has-needed_but margin settled others who = has-those (needed margin settled) (λ w. not (has others w)) who
 
-has-only : (me who : UniqueModel) → has (only me) who ≡ eq_by_cmp unique_cmp who me
+pub has-only : (me who : UniqueModel) → has (only me) who ≡ eq_by_cmp unique_cmp who me
 has-only me who = has-with_one no_one me who ∙ or_false (eq_by_cmp unique_cmp who me) (has no_one who) (has-no_one who)
   where
     or_false : (a b : Bool) → b ≡ false → (a || b) ≡ a
