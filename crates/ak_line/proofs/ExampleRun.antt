@@ -8,7 +8,7 @@ use Rattle.ak_line.specs.Numbers.{HasCome, numbers, AreAllowed, cluster_after}
 use Rattle.ak_line.specs.Example.{me, alone, moves}
 use Rattle.ak_line.proofs.Names.{name_tells}
 use Rattle.ak_line.proofs.AtNumbers.{one_home_at}
-use Rattle.ak_line.proofs.Puts.{contains_first}
+use Rattle.ak_address.proofs.Elements.{contains_first}
 
 only_me : (z : Name) (v : ℕ) → HasCome (if is_name z me then Some 1 else None) v → Contains (me ∷ []) z
 only_me z v = by_name (name_tells z me)

@@ -7,7 +7,8 @@ use Rattle.ak_line.specs.Shards.{Mark}
 use Rattle.ak_line.specs.Moves.{Node, Trial, Activation, Said, Ask, Granted, Released, HandedOver, Names, HostShard, HandOff, ShardStopped, Packet, Cluster, set, puts, says, IsLive}
 use Rattle.ak_line.specs.Promised.{LivesIn, Lives, Promised}
 use Rattle.ak_line.specs.Floors.{Follows, Floors}
-use Rattle.ak_line.proofs.Puts.{first_or_rest, at_set, from_set}
+use Rattle.ak_address.proofs.Elements.{first_or_rest}
+use Rattle.ak_line.proofs.Puts.{at_set, from_set}
 use Rattle.ak_line.proofs.Kept.{is_last}
 
 module _ {V : Type 0} (l : Line V) (line : IsLine V l) (above : BallotModel → BallotModel → Type 0) (strict : IsStrict above) where

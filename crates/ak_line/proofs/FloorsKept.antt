@@ -8,7 +8,8 @@ use Rattle.ak_line.specs.Shards.{Mark, Placement, put_at, own_placement, assigne
 use Rattle.ak_line.specs.Moves.{Node, Trial, Phase, Younger, Asking, Active, Ended, Activation, Ask, Granted, Released, HandedOver, Names, HostShard, HandOff, ShardStopped, Cluster, Move, ballot_of, set, puts, promises, with_grant, with_latest, Sent, IsLive, IsNew, IsFree, Allowed, after}
 use Rattle.ak_line.specs.Promised.{LivesIn, Promised}
 use Rattle.ak_line.specs.Floors.{Follows, Floors}
-use Rattle.ak_line.proofs.Puts.{first_or_rest, contains_nothing, at_set}
+use Rattle.ak_address.proofs.Elements.{first_or_rest, contains_nothing}
+use Rattle.ak_line.proofs.Puts.{at_set}
 use Rattle.ak_line.proofs.Kept.{new_above, is_last, close_put, promise_put, asker_promised, closing_live, one_live, granted_live, kept}
 use Rattle.ak_line.proofs.FloorPuts.{heard_before, floors_put, floors_said, floors_plain}
 

@@ -12,7 +12,7 @@ use Rattle.ak_line.specs.Floors.{Floors, Latest}
 use Rattle.ak_line.specs.Placed.{Reached, Placed}
 use Rattle.ak_line.specs.Reported.{Reported}
 use Rattle.ak_line.specs.Hosted.{Hosted}
-use Rattle.ak_line.proofs.Puts.{contains_rest, first_or_rest}
+use Rattle.ak_address.proofs.Elements.{contains_rest, first_or_rest}
 use Rattle.ak_line.proofs.Kept.{new_unpromised, one_live}
 use Rattle.ak_line.proofs.FloorsKept.{not_acted}
 use Rattle.ak_line.proofs.LatestKept.{noted, noted_from}

@@ -10,7 +10,8 @@ use Rattle.ak_line.specs.Promised.{Promised}
 use Rattle.ak_line.specs.Floors.{Latest}
 use Rattle.ak_line.specs.Placed.{Reached, Placed}
 use Rattle.ak_line.specs.Hosted.{Touched, IsStale, Hosted}
-use Rattle.ak_line.proofs.Puts.{first_or_rest, at_set, from_set}
+use Rattle.ak_address.proofs.Elements.{first_or_rest}
+use Rattle.ak_line.proofs.Puts.{at_set, from_set}
 
 module _ {V : Type 0} (l : Line V) (line : IsLine V l) (above : BallotModel → BallotModel → Type 0) (strict : IsStrict above) (w : Cluster V) (p : Promised l above w) (q : Latest l above w) (k : Placed l above w) (h : Hosted l above w) where
   -- who has to do with shards was reached by some activation
@@ -34,7 +35,7 @@ module _ {V : Type 0} (l : Line V) (line : IsLine V l) (above : BallotModel → 
       let own : Home = record { node = z; number = ((w.node z).marks s).number } in
       (x.0, x.1, (k.home x.0 s own x.2).1, λ b at runs_b other. absurd (other (ap (λ (c : Home). c.node) (same_Some b own (sym at ∙ x.2)))))
 
-  -- ---- what may become of a shard's entry in the latest table
+  -- ---- what may become of a shard's placement in the latest table
   pub record Turns (s : ℕ) (old new : Placement) : Type 0 where
     pub last : old.last ≤ new.last
     -- the home stays, or no running node hosts the shard or may come to host it by the old home

@@ -7,7 +7,8 @@ use Rattle.ak_line.specs.Line.{Line, IsLine, IsStrict}
 use Rattle.ak_line.specs.Shards.{Mark, Placement, put_at, own_placement, assigned, freed, yielded}
 use Rattle.ak_line.specs.Moves.{Trial, Phase, Younger, Asking, Active, Ended, Activation, Node, Said, Ask, Granted, Released, HandedOver, Names, HostShard, HandOff, ShardStopped, Packet, Cluster, Move, ballot_of, set, puts, says, promises, with_grant, with_latest, Sent, IsLive, IsNew, IsFree, IsNamed, Allowed, after}
 use Rattle.ak_line.specs.Promised.{Descends, newest, LivesIn, Lives, HasCensus, Promised}
-use Rattle.ak_line.proofs.Puts.{contains_first, contains_rest, first_or_rest, contains_nothing, at_set, from_set, put_kept}
+use Rattle.ak_address.proofs.Elements.{contains_first, contains_rest, first_or_rest, contains_nothing}
+use Rattle.ak_line.proofs.Puts.{at_set, from_set, put_kept}
 
 module _ {V : Type 0} (l : Line V) (line : IsLine V l) (above : BallotModel → BallotModel → Type 0) (strict : IsStrict above) where
   -- ---- one packet more

@@ -6,7 +6,8 @@ use Rattle.ak_line.specs.Line.{Line, IsLine, IsStrict}
 use Rattle.ak_line.specs.Name.{Name, put_name}
 use Rattle.ak_line.specs.Moves.{Node, Said, Packet, Cluster, Move, ballot_of, actor, set, Sent, Allowed, after, AllAllowed, after_all}
 use Rattle.ak_line.specs.Local.{changed, spoken, Named, Guard, AllLocal, changed_all, Speaks, Mirrors}
-use Rattle.ak_line.proofs.Puts.{contains_first, contains_rest, at_set}
+use Rattle.ak_address.proofs.Elements.{contains_first, contains_rest}
+use Rattle.ak_line.proofs.Puts.{at_set}
 use Rattle.ak_line.proofs.Names.{at_name}
 use Rattle.ak_line.proofs.OneHome.{safe_after}
 

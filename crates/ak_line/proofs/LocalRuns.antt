@@ -6,7 +6,7 @@ use Rattle.ak_line.specs.Line.{Line}
 use Rattle.ak_line.specs.Shards.{Home, Placement, put_at, freed}
 use Rattle.ak_line.specs.Moves.{Node, Trial, Active, Said, Move, actor}
 use Rattle.ak_line.specs.Local.{changed, Guard, AllLocal, changed_all}
-use Rattle.ak_line.proofs.Puts.{contains_first, contains_rest, contains_nothing, first_or_rest}
+use Rattle.ak_address.proofs.Elements.{contains_first, contains_rest, contains_nothing, first_or_rest}
 use Rattle.ak_line.proofs.PlacedPuts.{at_put}
 
 module _ {V : Type 0} (l : Line V) (above : BallotModel → BallotModel → Type 0) (heard : Name → Said V → Type 0) (stopped : Name → Type 0) (i : Name) where
@@ -80,7 +80,7 @@ module _ {V : Type 0} (l : Line V) (above : BallotModel → BallotModel → Type
   after_frees n t [] = refl
   after_frees n t (pair ∷ pairs) = after_frees (record n { table = put_at pair.0 (freed (n.table pair.0)) n.table }) t pairs
 
-  -- a shard that is not among them keeps its entry
+  -- a shard that is not among them keeps its placement
   pub freed_other : (pairs : List (ℕ × Home)) (e : ℕ → Placement) (s : ℕ) → ((pair : ℕ × Home) → Contains pairs pair → s ≡ pair.0 → ⊥) → freed_table pairs e s ≡ e s
   freed_other [] e s none = refl
   freed_other (pair ∷ pairs) e s none =

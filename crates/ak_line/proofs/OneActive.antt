@@ -5,7 +5,7 @@ use Rattle.ak_promise.specs.Ballot.{BallotModel}
 use Rattle.ak_line.specs.Line.{Line, IsLine, IsStrict}
 use Rattle.ak_line.specs.Moves.{Trial, Active, Cluster, Move, runs, unstarted, AllAllowed, after, after_all}
 use Rattle.ak_line.specs.Promised.{Promised}
-use Rattle.ak_line.proofs.Puts.{contains_nothing}
+use Rattle.ak_address.proofs.Elements.{contains_nothing}
 use Rattle.ak_line.proofs.Kept.{kept}
 use Rattle.ak_line.proofs.OneSingleton.{one_singleton}
 

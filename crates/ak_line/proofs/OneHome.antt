@@ -11,7 +11,7 @@ use Rattle.ak_line.specs.Placed.{Placed}
 use Rattle.ak_line.specs.Reported.{Reported}
 use Rattle.ak_line.specs.Hosted.{Hosted}
 use Rattle.ak_line.specs.Safe.{Safe, OneHome, InTable, OnlyHosted}
-use Rattle.ak_line.proofs.Puts.{contains_nothing}
+use Rattle.ak_address.proofs.Elements.{contains_nothing}
 use Rattle.ak_line.proofs.Kept.{kept}
 use Rattle.ak_line.proofs.FloorsKept.{floors_kept}
 use Rattle.ak_line.proofs.LatestKept.{latest_is_kept}

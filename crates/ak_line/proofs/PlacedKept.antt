@@ -10,7 +10,8 @@ use Rattle.ak_line.specs.Moves.{Node, Trial, Phase, Asking, Active, Ended, Activ
 use Rattle.ak_line.specs.Promised.{Promised}
 use Rattle.ak_line.specs.Floors.{Floors, Latest}
 use Rattle.ak_line.specs.Placed.{Reached, Acted, Placed}
-use Rattle.ak_line.proofs.Puts.{contains_first, contains_rest, at_set}
+use Rattle.ak_address.proofs.Elements.{contains_first, contains_rest}
+use Rattle.ak_line.proofs.Puts.{at_set}
 use Rattle.ak_line.proofs.Kept.{granted_live, one_live}
 use Rattle.ak_line.proofs.FloorsKept.{not_acted}
 use Rattle.ak_line.proofs.LatestKept.{noted}

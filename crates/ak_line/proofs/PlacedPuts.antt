@@ -8,7 +8,8 @@ use Rattle.ak_line.specs.Line.{Line, IsLine, IsStrict}
 use Rattle.ak_line.specs.Shards.{Mark, Home, put_at, own_placement, yielded}
 use Rattle.ak_line.specs.Moves.{Node, Trial, Activation, Said, Ask, Granted, Released, HandedOver, Names, HostShard, HandOff, ShardStopped, Packet, Cluster, set, puts, says, Sent, IsLive}
 use Rattle.ak_line.specs.Placed.{Reached, Acted, Placed}
-use Rattle.ak_line.proofs.Puts.{first_or_rest, at_set}
+use Rattle.ak_address.proofs.Elements.{first_or_rest}
+use Rattle.ak_line.proofs.Puts.{at_set}
 
 pub at_put : {X : Type 0} (P : X → Type 0) (i : ℕ) (x : X) (xs : ℕ → X) (j : ℕ) → (j ≡ i → P x) → ((j ≡ i → ⊥) → P (xs j)) → P (put_at i x xs j)
 at_put P i x xs j here there = elim (eqb_tells j i) [
@@ -16,7 +17,7 @@ at_put P i x xs j here there = elim (eqb_tells j i) [
   | inr other ↦ subst (λ b. P (if b then x else xs j)) (sym other.0) (there other.1)
 ]
 
--- the home of an entry that is built from the own mark
+-- the home of a placement that is built from the own mark
 pub own_home : (i : Name) (m : Mark) (h : Home) → (own_placement i m).home ≡ Some h → (m.hosts ≡ true) × (h ≡ record { node = i; number = m.number })
 own_home i m h is = by_case m.hosts refl is
   where

@@ -1,25 +1,13 @@
 -- What is true of promises stays true where one node is changed so that it has its part of it, and where one packet more is sent.
-use Rattle.std.proofs.Common.{◌≡◌, zero, suc, true, false, if◌then◌else◌, ◌⊎◌, inl, inr, List, [], ◌∷◌, Some, None, Contains, refl, sym, ap, ◌∙◌, subst, arith, true≢false}
+use Rattle.std.proofs.Common.{◌≡◌, true, false, if◌then◌else◌, ◌⊎◌, inl, inr, List, [], ◌∷◌, Some, None, Contains, refl, sym, ap, ◌∙◌, subst, true≢false}
 use Rattle.std.proofs.lemmas.Option.{same_Some}
+use Rattle.ak_address.proofs.Elements.{contains_first}
 use Rattle.ak_line.specs.Name.{Name}
 use Rattle.ak_line.proofs.Names.{name_tells}
 use Rattle.ak_promise.specs.Ballot.{BallotModel}
 use Rattle.ak_line.specs.Line.{Line, IsLine}
 use Rattle.ak_line.specs.Moves.{Trial, Younger, Asking, Active, Activation, Node, Released, HandedOver, Packet, Cluster, ballot_of, set, puts, Sent, IsLive, IsUnheard}
 use Rattle.ak_line.specs.Promised.{Descends, newest, LivesIn, Lives, HasCensus, Promised}
-
-pub contains_first : {X : Type 0} (x : X) (xs : List X) → Contains (x ∷ xs) x
-contains_first x xs = (0, omega arith, refl)
-
-pub contains_rest : {X : Type 0} (y x : X) (xs : List X) → Contains xs x → Contains (y ∷ xs) x
-contains_rest y x xs there = (suc there.0, let lt = there.1 in omega arith, there.2)
-
-pub first_or_rest : {X : Type 0} (y x : X) (xs : List X) → Contains (y ∷ xs) x → (x ≡ y) ⊎ Contains xs x
-first_or_rest y x xs (zero, lt, is) = inl (sym is)
-first_or_rest y x xs (suc k, lt, is) = inr (k, omega arith, is)
-
-pub contains_nothing : {X : Type 0} (x : X) → Contains [] x → ⊥
-contains_nothing x there = let lt = there.1 in omega arith
 
 module _ {V : Type 0} (l : Line V) (line : IsLine V l) (above : BallotModel → BallotModel → Type 0) where
   pub at_set : (P : Node V → Type 0) (i : Name) (n : Node V) (nodes : Name → Node V) (j : Name) → (j ≡ i → P n) → ((j ≡ i → ⊥) → P (nodes j)) → P (set l above i n nodes j)

@@ -10,7 +10,8 @@ use Rattle.ak_line.specs.Promised.{Lives, Promised}
 use Rattle.ak_line.specs.Floors.{Floors}
 use Rattle.ak_line.specs.Placed.{Acted, Placed}
 use Rattle.ak_line.specs.Reported.{Agrees, Reported}
-use Rattle.ak_line.proofs.Puts.{first_or_rest, contains_nothing, at_set}
+use Rattle.ak_address.proofs.Elements.{first_or_rest, contains_nothing}
+use Rattle.ak_line.proofs.Puts.{at_set}
 use Rattle.ak_line.proofs.Kept.{new_unpromised, one_live}
 use Rattle.ak_line.proofs.FloorsKept.{not_acted}
 use Rattle.ak_line.proofs.PlacedPuts.{own_home, own_home_is}

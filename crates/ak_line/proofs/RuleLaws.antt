@@ -37,15 +37,15 @@ module _ (asks : Type 0) (asking : Bool) (d : Decides asking asks) (z : Name) (m
   by_home h true false at hosts asked less = inl (sym at, λ _. (h, at, λ a. unbeaten z m.number h less))
   by_home h false b at hosts unasked test = inl (sym at, λ _. (h, at, λ a. absurd (true≢false (sym (d.1 a) ∙ unasked))))
 
-  by_entry : (o : Option Home) → e.home ≡ o → m.hosts ≡ true → Cases (claimed asking z m.number o)
-  by_entry None none hosts = inr (refl, hosts, λ h is. absurd (differ h (sym none ∙ is)))
+  by_placement : (o : Option Home) → e.home ≡ o → m.hosts ≡ true → Cases (claimed asking z m.number o)
+  by_placement None none hosts = inr (refl, hosts, λ h is. absurd (differ h (sym none ∙ is)))
     where
       differ : (h : Home) → None ≡ Some h → ⊥
       differ h is = absurd (cc)
-  by_entry (Some h) at hosts = by_home h asking (beats z m.number h) at hosts refl refl
+  by_placement (Some h) at hosts = by_home h asking (beats z m.number h) at hosts refl refl
 
   by_report : (b : Bool) → m.hosts ≡ b → Cases (if b then claimed asking z m.number e.home else e.home)
-  by_report true hosts = by_entry e.home refl hosts
+  by_report true hosts = by_placement e.home refl hosts
   by_report false silent = inl (refl, λ hosts. absurd (true≢false (sym hosts ∙ silent)))
 
   pub learnt_learns : Learns asks z m e (learnt asking z m e)

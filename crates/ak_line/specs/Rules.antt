@@ -1,4 +1,4 @@
--- What a table learns from a report of one shard, as a function of the entry: the rule of a grant.
+-- What a table learns from a report of one shard, as a function of the placement: the rule of a grant.
 use Rattle.std.specs.Prelude.{ℕ, ◌==◌, max, ltb, ◌&&◌, ◌||◌, Bool, if◌then◌else◌, Option, Some, None}
 use Rattle.std.specs.Ordering.{is_lt}
 use Rattle.ak_address.specs.Unique.{unique_cmp}
@@ -14,6 +14,6 @@ abbrev pub claimed : Bool → Name → ℕ → Option Home → Option Home
 claimed asking z n None = Some (record { node = z; number = n })
 claimed asking z n (Some h) = if asking && beats z n h then Some (record { node = z; number = n }) else Some h
 
--- the entry after a report
+-- the placement after a report
 abbrev pub learnt : Bool → Name → Mark → Placement → Placement
 learnt asking z m e = record { last = max e.last m.number; home = if m.hosts then claimed asking z m.number e.home else e.home }

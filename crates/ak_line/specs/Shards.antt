@@ -29,7 +29,7 @@ unplaced s = record { last = 0; home = None }
 abbrev pub put_at : {X : Type 0} → ℕ → X → (ℕ → X) → ℕ → X
 put_at i x xs j = if j == i then x else xs j
 
--- an entry built from the asker's own mark
+-- a placement built from the asker's own mark
 abbrev pub own_placement : Name → Mark → Placement
 own_placement i m = record { last = m.number; home = if m.hosts then Some (record { node = i; number = m.number }) else None }
 
@@ -45,7 +45,7 @@ freed e = record e { home = None }
 abbrev pub yielded : ℕ → Mark → Mark
 yielded n m = record { number = max m.number n; hosts = m.hosts && ltb n m.number }
 
--- what an entry becomes where a node's report of the shard is learnt: the last number covers the reported one; a node that hosts
+-- what a placement becomes where a node's report of the shard is learnt: the last number covers the reported one; a node that hosts
 -- the shard becomes its home where it had none, and while asking also where its number is not the lesser (of equal ones either stays)
 pub record Learns (asks : Type 0) (z : Name) (m : Mark) (old new : Placement) : Type 0 where
   pub keeps : old.last ≤ new.last
