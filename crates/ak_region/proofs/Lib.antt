@@ -1,0 +1,3 @@
+pub mod FirstsLemmas
+pub mod WalkLemmas
+pub mod WantedLemmas

@@ -1,0 +1,5 @@
+pub mod Region
+pub mod RegionModel
+pub mod Shards
+pub mod Slot
+pub mod Turns
