@@ -44,15 +44,15 @@ firsts_more (k ∷ ns) n = ap (λ xs. k ∷ but k xs) (firsts_more ns n) ∙ go 
     go true same true = ap (λ b. cond (b || true) (k ∷ but k (firsts ns)) ((k ∷ but k (firsts ns)) ++ n ∷ [])) (sym same)
     go true same false =
         ap (λ xs. k ∷ xs) (
-          filter_append (λ m. not (m == k)) (firsts ns) (n ∷ [])
-          ∙ ap (λ b. but k (firsts ns) ++ cond (not b) (n ∷ []) []) (same_turned k n true same)
-          ∙ append-nil (but k (firsts ns))
+        filter_append (λ m. not (m == k)) (firsts ns) (n ∷ [])
+        ∙ ap (λ b. but k (firsts ns) ++ cond (not b) (n ∷ []) []) (same_turned k n true same)
+        ∙ append-nil (but k (firsts ns))
         )
         ∙ ap (λ b. cond (b || false) (k ∷ but k (firsts ns)) ((k ∷ but k (firsts ns)) ++ n ∷ [])) (sym same)
     go false other true = ap (λ b. cond (b || true) (k ∷ but k (firsts ns)) ((k ∷ but k (firsts ns)) ++ n ∷ [])) (sym other)
     go false other false =
         ap (λ xs. k ∷ xs) (
-          filter_append (λ m. not (m == k)) (firsts ns) (n ∷ [])
-          ∙ ap (λ b. but k (firsts ns) ++ cond (not b) (n ∷ []) []) (same_turned k n false other)
+        filter_append (λ m. not (m == k)) (firsts ns) (n ∷ [])
+        ∙ ap (λ b. but k (firsts ns) ++ cond (not b) (n ∷ []) []) (same_turned k n false other)
         )
         ∙ ap (λ b. cond (b || false) (k ∷ but k (firsts ns)) ((k ∷ but k (firsts ns)) ++ n ∷ [])) (sym other)

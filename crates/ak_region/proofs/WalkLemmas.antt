@@ -45,14 +45,15 @@ next_gone shards shard i xs now d lt is =
     ap (λ l. those_for shards shard (take i xs) ++ turn_gone shards shard l) (is ∙ ap (λ l. l ++ others_than_for shards shard (take i xs)) (drop-cons xs i d lt))
     ∙ sym (filter_append (is_for shards shard) (take i xs) (get_or xs i d ∷ []))
     ∙ ap (those_for shards shard) (sym (take_more xs i d lt))
+
 pub next_left : (shards shard i : ℕ) (xs now : List Message) (d : Message) → i < length xs → now ≡ drop i xs ++ others_than_for shards shard (take i xs)
     → turn_left shards shard now ≡ drop (i + 1) xs ++ others_than_for shards shard (take (i + 1) xs)
 next_left shards shard i xs now d lt is =
     ap (turn_left shards shard) (is ∙ ap (λ l. l ++ others_than_for shards shard (take i xs)) (drop-cons xs i d lt ∙ ap (λ n. get_or xs i d ∷ drop n xs) (sym (add-one i))))
     ∙ go (is_for shards shard (get_or xs i d))
     ∙ ap (λ l. drop (i + 1) xs ++ l) (
-      sym (filter_append (λ m. not (is_for shards shard m)) (take i xs) (get_or xs i d ∷ []))
-      ∙ ap (others_than_for shards shard) (sym (take_more xs i d lt))
+    sym (filter_append (λ m. not (is_for shards shard m)) (take i xs) (get_or xs i d ∷ []))
+    ∙ ap (others_than_for shards shard) (sym (take_more xs i d lt))
     )
   where
     go : (b : Bool) → cond b (drop (i + 1) xs ++ others_than_for shards shard (take i xs)) ((drop (i + 1) xs ++ others_than_for shards shard (take i xs)) ++ get_or xs i d ∷ [])

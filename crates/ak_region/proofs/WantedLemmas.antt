@@ -76,8 +76,8 @@ pub noted_found : (slots : List ShardSlot) (messages : List Message) (i : ℕ) (
 noted_found slots messages i d passed found shard lt at within is so_far =
     go (receives_at slots shard) refl (has_number found shard) refl
     ∙ ap firsts (
-      ap (λ s. unserved slots (take i messages) ++ cond (not (receives_at slots s)) (s ∷ []) []) at
-      ∙ sym (unserved_more slots messages i d lt)
+    ap (λ s. unserved slots (take i messages) ++ cond (not (receives_at slots s)) (s ∷ []) []) at
+    ∙ sym (unserved_more slots messages i d lt)
     )
   where
     there : has_number found shard ≡ has_number (unserved slots (take i messages)) shard

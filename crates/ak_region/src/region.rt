@@ -1,4 +1,4 @@
-ghost use Rattle.std.specs.Prelude.{◌≡◌, ◌≤◌, ◌<◌, length, IfOk, OnOk, OnErr};
+ghost use Rattle.std.specs.Prelude.{◌≡◌, ◌≤◌, ◌<◌, length, IfOk, OnOk, OnErr, IfSome};
 ghost use Rattle.ak_region.specs.Shards.{ShardSlot};
 ghost use Rattle.ak_region.specs.RegionModel.{RegionModel, Message};
 ghost use Rattle.ak_region.specs.Slot.{at_home, host_answer, after_host, begun, gives_up, handed_off};
@@ -113,12 +113,7 @@ impl Region {
     }
 
     /// The home of the shard is known, and a hold ends. After an error nothing has changed; only memory can fail.
-    pub fn on_home(
-        &mut self,
-        alloc: Global,
-        shard: u32,
-        owner: &Unique,
-    ) -> Result<(), AllocError>
+    pub fn on_home(&mut self, alloc: Global, shard: u32, owner: &Unique) -> Result<(), AllocError>
         requires { shard < length self.old.slots }
         ensures ok { OnOk result (self.new ≡ with_slot self.old shard (at_home owner.now (slot_of self.old shard))) }
         ensures err { OnErr result (self.new ≡ self.old) }
@@ -199,10 +194,11 @@ impl Region {
         forget_strangers(&mut self.slots, members);
     }
 
-    /// The number with which the node hosts the shard; none where it does not. Takes no memory.
+    /// The number with which the node hosts the shard, which is its mark; none where it does not. Takes no memory.
     pub fn hosts(&self, shard: u32) -> Option<u64>
         requires { shard < length self.now.slots }
-        ensures { result ≡ (slot_of self.now shard).hosted }
+        ensures hosted { result ≡ (slot_of self.now shard).hosted }
+        ensures marked { IfSome result (λ number. number ≡ (slot_of self.now shard).mark) }
     {
         self.slots[shard as usize].hosted
     }

@@ -18,13 +18,13 @@ messages-preserved c = elim c.match-get.branch [
       let passed_is = ap (λ v. v.items) w.passed-is ∙ w.in_ok-note.ensures.passed in
       let wanted_is = ap (λ v. v.items) w.wanted-is ∙ w.in_ok-note.ensures.wanted in
       let at = w.shard_of-shard.ensures.is
-        ∙ ap (λ e. shard_of e (length slots)) (w.bytes.ensures ∙ ap (λ (m : Message). m.entity) w.waiting.view_is ∙ ap (λ (m : Message). m.entity) (sym (get_or_from_slice_get messages c.messages.index d d (sym w.in-Some.ensures)))) in
+      ∙ ap (λ e. shard_of e (length slots)) (w.bytes.ensures ∙ ap (λ (m : Message). m.entity) w.waiting.view_is ∙ ap (λ (m : Message). m.entity) (sym (get_or_from_slice_get messages c.messages.index d d (sym w.in-Some.ensures)))) in
       let i = c.messages.invariant in
       record {
         many = ap length passed_is ∙ length-set c.messages.passed.items shard true ∙ i.many;
         passed = λ s lt. ap (λ l. get_or l s false) passed_is
-          ∙ noted_passed slots c.messages.passed.items c.messages.wanted.items shard i.many w.shard_of-shard.ensures.below i.passed s lt
-          ∙ ap (λ l. receives (get_or slots s untold) || list_any (λ n. n == s) l) (sym wanted_is);
+            ∙ noted_passed slots c.messages.passed.items c.messages.wanted.items shard i.many w.shard_of-shard.ensures.below i.passed s lt
+            ∙ ap (λ l. receives (get_or slots s untold) || list_any (λ n. n == s) l) (sym wanted_is);
         found = wanted_is ∙ noted_found slots messages c.messages.index d c.messages.passed.items c.messages.wanted.items shard (omega arith) at w.shard_of-shard.ensures.below i.passed i.found;
       }
   | in_default w ↦
