@@ -1,12 +1,12 @@
 -- The reports of a region, exactly and in order.
-use Rattle.std.proofs.Common.{◌≡◌, ◌↔◌, ℕ, zero, suc, Bool, true, false, cond, ◌==◌, ◌+◌, ◌<◌, ◌≤◌, List, [], ◌∷◌, ◌++◌, length, get_or, Contains, slice_get, Option, Some, None, is_some, unwrap_or, inl, inr, refl, sym, ap, ◌∙◌, subst, arith, true≢false}
-use Rattle.std.proofs.lemmas.Bool.{eqb-true, eq-eqb}
+use Rattle.std.proofs.Common.{◌≡◌, ◌↔◌, ℕ, zero, suc, Bool, true, false, cond, ◌==◌, ◌+◌, ◌<◌, List, [], ◌∷◌, ◌++◌, length, get_or, Contains, slice_get, Option, Some, is_some, unwrap_or, inl, inr, refl, sym, ap, ◌∙◌, subst, arith, true≢false}
+use Rattle.std.proofs.lemmas.Bool.{eqb-true}
 use Rattle.ak_address.proofs.Elements.{contains_first, contains_rest, first_or_rest, contains_nothing, contains_at}
 use Rattle.ak_shard_id.specs.declared.report.Report.{Report}
 use Rattle.ak_region.specs.Shards.{ShardSlot}
 use Rattle.ak_region.specs.Slot.{untold}
 use Rattle.ak_region.specs.RegionModel.{RegionModel}
-use Rattle.ak_region.specs.Region.{slot_of, report_of, reports_from, reports}
+use Rattle.ak_region.specs.Region.{reports_from, reports}
 use Rattle.ak_region.specs.Reported.{IsReported}
 
 -- what a report says of its slot

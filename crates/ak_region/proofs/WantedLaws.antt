@@ -1,6 +1,6 @@
 -- Which shards are wanted.
-use Rattle.std.proofs.Common.{◌≡◌, ◌↔◌, ℕ, Bool, true, false, not, ◌==◌, List, [], ◌∷◌, Contains, refl, sym, ap, ◌∙◌, subst, arith, true≢false}
-use Rattle.std.specs.List.{filter, list_any}
+use Rattle.std.proofs.Common.{◌≡◌, ◌↔◌, ℕ, Bool, true, false, not, ◌==◌, List, Contains, refl, sym, ap, ◌∙◌, subst, true≢false}
+use Rattle.std.specs.List.{filter}
 use Rattle.std.proofs.lemmas.Bool.{eqb-true, eq-eqb}
 use Rattle.ak_address.proofs.Elements.{any_there, any_found, in_filter, filter_in}
 use Rattle.ak_region.specs.Slot.{receives}

@@ -1,5 +1,5 @@
 -- What a node does for the shards (Akka's Cluster Sharding, "How it works").
-use Rattle.std.specs.Prelude.{ℕ, ◌+◌, ◌==◌, nat_le, Bool, true, false, not, List, [], ◌∷◌, ◌++◌, length, map, replicate, slice_index_or, slice_set, is_some, Option, None, Some, if◌then◌else◌}
+use Rattle.std.specs.Prelude.{ℕ, ◌+◌, ◌==◌, nat_le, Bool, not, List, [], ◌∷◌, ◌++◌, length, map, replicate, slice_index_or, slice_set, is_some, Option, None, Some, if◌then◌else◌}
 use Rattle.std.specs.List.{filter, list_any}
 use Rattle.ak_address.specs.Unique.{UniqueModel}
 use Rattle.ak_member.specs.Standing.{Standings}

@@ -1,5 +1,5 @@
 -- What a report of a region says.
-use Rattle.std.specs.Prelude.{◌≡◌, ℕ, ◌<◌, length, is_some}
+use Rattle.std.specs.Prelude.{◌≡◌, ◌<◌, length, is_some}
 use Rattle.ak_shard_id.specs.declared.report.Report.{Report}
 use Rattle.ak_region.specs.RegionModel.{RegionModel}
 use Rattle.ak_region.specs.Region.{slot_of}

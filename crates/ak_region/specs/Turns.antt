@@ -1,6 +1,6 @@
 -- How the messages that wait are walked.
-use Rattle.std.specs.Prelude.{ℕ, ◌==◌, Bool, not, List, [], ◌∷◌, ◌++◌, length, map, slice_index_or, if◌then◌else◌}
-use Rattle.std.specs.List.{filter, list_any}
+use Rattle.std.specs.Prelude.{ℕ, not, List, [], ◌∷◌, ◌++◌, length, map, slice_index_or, if◌then◌else◌}
+use Rattle.std.specs.List.{filter}
 use Rattle.ak_shard_id.specs.Shard.{shard_of}
 use Rattle.ak_region.specs.declared.region.Offered.{Offered}
 use Rattle.ak_region.specs.declared.region.Offered.TheVariants.{Delivered, Forwarded, Buffered, Dropped}

@@ -86,6 +86,13 @@ impl Region {
         })
     }
 
+    /// How many shards there are, from 1 to 1000; the calls below take those from 0 on. Takes no memory.
+    pub fn shards(&self) -> u32
+        ensures { result ≡ length self.now.slots }
+    {
+        self.slots.len() as u32
+    }
+
     /// What comes of a message to an entity: it is delivered where the entity's shard is hosted here and not held; it is
     /// forwarded where the shard is not held and its home is another node; else it waits, or is dropped where as many wait as
     /// may. After an error nothing has changed; only memory can fail.

@@ -1,4 +1,4 @@
-use Rattle.std.proofs.Common.{[], ◌++◌, sym, ap, ◌∙◌, arith}
+use Rattle.std.proofs.Common.{[], ◌++◌, ap, ◌∙◌, arith}
 use Rattle.ak_region.specs.RegionModel.{Message}
 use Rattle.ak_region.specs.Turns.{turn_gone}
 use Rattle.ak_region.proofs.WalkLemmas.{next_gone, next_left}

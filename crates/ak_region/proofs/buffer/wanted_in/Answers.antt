@@ -1,4 +1,4 @@
-use Rattle.std.proofs.Common.{◌||◌, ◌==◌, ◌∷◌, ◌++◌, [], true, false, length, set, length-set, get_or, if◌then◌else◌, is_some, true≢false, sym, ap, ◌∙◌, arith}
+use Rattle.std.proofs.Common.{◌||◌, ◌==◌, [], true, false, length, length-set, get_or, is_some, true≢false, sym, ap, ◌∙◌, arith}
 use Rattle.std.specs.List.{list_any}
 use Rattle.std.proofs.lemmas.Option.{get_or_from_slice_get, slice_get-get_or}
 use Rattle.ak_shard_id.specs.Shard.{shard_of}

@@ -1,4 +1,4 @@
-use Rattle.std.proofs.Common.{◌≡◌, ℕ, false, ◌<◌, ◌||◌, ◌==◌, length, map, take, get_or, slice_index_or}
+use Rattle.std.proofs.Common.{◌≡◌, ℕ, false, ◌<◌, ◌||◌, ◌==◌, length, map, take, get_or}
 use Rattle.std.specs.List.{list_any}
 use Rattle.ak_region.specs.Slot.{untold, receives}
 use Rattle.ak_region.specs.Turns.{wanted_among}

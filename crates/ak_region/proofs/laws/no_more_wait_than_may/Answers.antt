@@ -1,6 +1,5 @@
 use Rattle.std.proofs.Common.{ℕ, Bool, true, false, not, ◌≤◌, List, length, cond, arith}
 use Rattle.std.proofs.lemmas.List.Filters.{length-filter_both}
-use Rattle.std.specs.List.{filter}
 use Rattle.std.proofs.Common.{refl}
 use Rattle.ak_region.specs.RegionModel.{Message}
 use Rattle.ak_region.specs.Slot.{can_flush}
