@@ -30,6 +30,14 @@ abbrev pub is_home : UniqueModel → ℕ → Option Home → Bool
 is_home who number None = false
 is_home who number (Some home) = home.number == number && is_eq (unique_cmp home.owner who)
 
+-- the shard has its home at the node
+abbrev pub is_owner : UniqueModel → Option Home → Bool
+is_owner who None = false
+is_owner who (Some home) = is_eq (unique_cmp home.owner who)
+
+abbrev pub is_at : UniqueModel → ShardEntry → Bool
+is_at who entry = is_owner who entry.home
+
 -- ---- what nodes report
 -- a reported number is greater than the home's, or equal, and the node is the later process
 abbrev pub beats : UniqueModel → ℕ → Home → Bool

@@ -1,2 +1,3 @@
+pub mod Coordinator
 pub mod Entry
 pub mod Table

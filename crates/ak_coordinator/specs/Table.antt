@@ -1,7 +1,7 @@
 -- The table of a coordinator, as a value.
-use Rattle.std.specs.Prelude.{◌≡◌, ℕ, ◌≤◌, Bool, Option, None, Some, refl}
+use Rattle.std.specs.Prelude.{◌≡◌, ℕ, ◌≤◌, Bool, List, length, Option, None, Some, refl}
 use Rattle.std.specs.FinSet as set
-use Rattle.std.specs.Coded.{Coded, code_by, coded×, coded_ℕ, coded_bool, coded_option}
+use Rattle.std.specs.Coded.{Coded, code_by, coded×, coded_ℕ, coded_bool, coded_list, coded_option}
 use Rattle.ak_address.specs.Unique.{UniqueModel, coded_unique}
 use Rattle.ak_address.specs.Uniques.{UniqueSet}
 use Rattle.ak_coordinator.specs.declared.entry.Stage.{Stage}
@@ -37,3 +37,15 @@ coded_entry =
 pub record IsEntry (entry : ShardEntry) : Type 0 where
   pub within : (home : Home) → entry.home ≡ Some home → home.number ≤ entry.last
   pub placed : entry.home ≡ None → entry.stage ≡ Still
+
+-- the shards in their order from shard 0 on
+abbrev pub ShardTable : Type 0
+ShardTable = List ShardEntry
+
+abbrev pub coded_table : Coded ShardTable
+coded_table = coded_list coded_entry
+
+-- there are 1 to 1000 shards
+pub record IsTable (table : ShardTable) : Type 0 where
+  pub some : 1 ≤ length table
+  pub few : length table ≤ 1000

@@ -1,7 +1,7 @@
 ghost use Rattle.std.specs.Prelude.{◌≡◌, IfOk, OnOk, option_copied, is_some, option_map};
 ghost use Rattle.ak_address.specs.Unique.{UniqueModel};
 ghost use Rattle.ak_address.specs.Uniques.{UniqueSet};
-ghost use Rattle.ak_coordinator.specs.Entry.{unplaced, moves, is_home, claims, learnt, beats, allotted, after_allotment, homing, after_get_home, after_started, is_awaited, is_last_ack, after_ack, freed, awaits_stop};
+ghost use Rattle.ak_coordinator.specs.Entry.{unplaced, moves, is_home, is_at, claims, learnt, beats, allotted, after_allotment, homing, after_get_home, after_started, is_awaited, is_last_ack, after_ack, freed, awaits_stop};
 
 use ak_address::{Unique, Uniques};
 use ak_allocation::{Load, choose};
@@ -102,6 +102,16 @@ impl Entry {
     {
         match &self.home {
             Some(home) => home.number == number && home.owner.compare(who).is_eq(),
+            None => false,
+        }
+    }
+
+    // Whether the node is the shard's home.
+    pub(crate) fn is_at(&self, who: &Unique) -> bool
+        ensures { result ≡ is_at who.now self.now }
+    {
+        match &self.home {
+            Some(home) => home.owner.compare(who).is_eq(),
             None => false,
         }
     }

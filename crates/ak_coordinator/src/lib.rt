@@ -3,6 +3,7 @@
 
 mod coordinator;
 mod entry;
+mod loads;
 
 pub use coordinator::Coordinator;
 pub use entry::{Homing, Placed};
