@@ -3,7 +3,7 @@ use Rattle.std.proofs.Common.{◌≡◌, ℕ, Bool, true, false, cond, not, ◌|
 use Rattle.std.specs.List.{filter, list_any}
 use Rattle.std.proofs.lemmas.Bool.{eqb-true, eq-eqb}
 use Rattle.ak_region.specs.Region.{firsts}
-use Rattle.ak_region.proofs.WalkLemmas.{filter_append}
+use Rattle.ak_shard_id.proofs.Walks.{filter_append}
 
 abbrev pub has_number : List ℕ → ℕ → Bool
 has_number ns n = list_any (λ m. m == n) ns

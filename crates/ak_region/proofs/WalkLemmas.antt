@@ -1,42 +1,9 @@
 -- Steps of walks over shards and over the messages that wait.
-use Rattle.std.proofs.Common.{◌≡◌, ℕ, zero, suc, Bool, true, false, cond, not, ◌+◌, ◌<◌, List, [], ◌∷◌, ◌++◌, map, length, take, drop, drop-cons, set, get_or, refl, sym, ap, ◌∙◌, append_assoc, append-nil, add-one, arith}
-use Rattle.std.specs.List.{filter}
+use Rattle.std.proofs.Common.{◌≡◌, ℕ, Bool, true, false, cond, not, ◌+◌, ◌<◌, List, [], ◌∷◌, ◌++◌, length, take, drop, drop-cons, get_or, sym, ap, ◌∙◌, append_assoc, append-nil, add-one}
+use Rattle.ak_shard_id.proofs.Walks.{take_more, filter_append}
 use Rattle.ak_region.specs.RegionModel.{Message}
 use Rattle.ak_region.specs.Region.{is_for, those_for, others_than_for}
 use Rattle.ak_region.specs.Turns.{turn_left, turn_gone}
-
--- the next one is written
-written_next : {X : Type 0} (f : X → X) (xs : List X) (i : ℕ) (d : X) → i < length xs
-    → set (map f (take i xs) ++ drop i xs) i (f (get_or (map f (take i xs) ++ drop i xs) i d)) ≡ map f (take (suc i) xs) ++ drop (suc i) xs
-written_next f [] i d lt = absurd (omega arith)
-written_next f (x ∷ xs) zero d lt = refl
-written_next f (x ∷ xs) (suc i) d lt = ap (λ l. f x ∷ l) (written_next f xs i d (omega arith))
-
-pub written : {X : Type 0} (f : X → X) (xs : List X) (i : ℕ) (now : List X) (d e : X) → i < length xs → now ≡ map f (take i xs) ++ drop i xs → e ≡ f (get_or now i d)
-    → set now i e ≡ map f (take (i + 1) xs) ++ drop (i + 1) xs
-written f xs i now d e lt is new =
-    let next : suc i ≡ i + 1 = omega arith in
-    ap (set now i) new
-    ∙ ap (λ l. set l i (f (get_or l i d))) is
-    ∙ written_next f xs i d lt
-    ∙ ap (λ n. map f (take n xs) ++ drop n xs) next
-
-take_next : {X : Type 0} (xs : List X) (i : ℕ) (d : X) → i < length xs → take (suc i) xs ≡ take i xs ++ get_or xs i d ∷ []
-take_next [] i d lt = absurd (omega arith)
-take_next (x ∷ xs) zero d lt = refl
-take_next (x ∷ xs) (suc i) d lt = ap (λ l. x ∷ l) (take_next xs i d (omega arith))
-
--- the first i + 1 of a list, one after the first i
-pub take_more : {X : Type 0} (xs : List X) (i : ℕ) (d : X) → i < length xs → take (i + 1) xs ≡ take i xs ++ get_or xs i d ∷ []
-take_more xs i d lt = ap (λ n. take n xs) (add-one i) ∙ take_next xs i d lt
-
-pub filter_append : {X : Type 0} (p : X → Bool) (xs ys : List X) → filter p (xs ++ ys) ≡ filter p xs ++ filter p ys
-filter_append p [] ys = refl
-filter_append p (x ∷ xs) ys = go (p x) (filter_append p xs ys)
-  where
-    go : (b : Bool) → filter p (xs ++ ys) ≡ filter p xs ++ filter p ys → cond b (x ∷ filter p (xs ++ ys)) (filter p (xs ++ ys)) ≡ cond b (x ∷ filter p xs) (filter p xs) ++ filter p ys
-    go true rest = ap (λ l. x ∷ l) rest
-    go false rest = rest
 
 -- a turn of the message at an index of those that waited at first
 pub next_gone : (shards shard i : ℕ) (xs now : List Message) (d : Message) → i < length xs → now ≡ drop i xs ++ others_than_for shards shard (take i xs)

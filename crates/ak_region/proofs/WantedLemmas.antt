@@ -10,7 +10,7 @@ use Rattle.ak_region.specs.Slot.{untold, receives}
 use Rattle.ak_region.specs.RegionModel.{Message}
 use Rattle.ak_region.specs.Region.{firsts}
 use Rattle.ak_region.specs.Turns.{wanted_among}
-use Rattle.ak_region.proofs.WalkLemmas.{take_more, filter_append}
+use Rattle.ak_shard_id.proofs.Walks.{take_more, filter_append}
 use Rattle.ak_region.proofs.FirstsLemmas.{has_number, firsts_have, firsts_more}
 
 -- a shard receives, by the slots

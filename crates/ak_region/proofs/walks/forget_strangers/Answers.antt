@@ -1,6 +1,6 @@
 use Rattle.std.proofs.Common.{arith}
 use Rattle.ak_region.specs.Slot.{without_stranger}
-use Rattle.ak_region.proofs.WalkLemmas.{written}
+use Rattle.ak_shard_id.proofs.Walks.{written}
 use Rattle.ak_region.proofs.walks.forget_strangers.Goals as goal
 
 pub slots-preserved : goal.slots-preserved
