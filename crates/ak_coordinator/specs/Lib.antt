@@ -1,3 +1,4 @@
 pub mod Coordinator
 pub mod Entry
 pub mod Table
+pub mod Tick

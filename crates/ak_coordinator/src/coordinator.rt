@@ -2,12 +2,16 @@ ghost use Rattle.std.specs.Prelude.{◌≡◌, ◌≤◌, ◌<◌, length, repli
 ghost use Rattle.ak_shard_id.specs.declared.report.Report.{Report};
 ghost use Rattle.ak_settled.specs.Settled.{standings_of};
 ghost use Rattle.ak_coordinator.specs.Entry.{unplaced, homing, after_get_home, after_started, is_last_ack, after_ack, freed, allotted, after_allotment};
+ghost use Rattle.ak_coordinator.specs.Tick.{after_tick, orders_from};
 ghost use Rattle.ak_coordinator.specs.Coordinator.{entry_of, with_entry, learnt_all, stopped_placed, after_stopped, loads_of};
 
 use crate::entry::{Entry, Homing, Placed};
 use crate::loads::{lightened, loads_in};
+use crate::orders::{Order, orders_of};
+use crate::tick::{begin_one, hurry_each, notice_each};
 use ak_address::{Unique, Uniques};
 use ak_allocation::Load;
+use ak_schedule::Settings;
 use ak_settled::Settled;
 use ak_shard_id::Report;
 use std::alloc::{AllocError, Global};
@@ -144,6 +148,28 @@ impl Coordinator {
         ensures { IfOk result (λ loads. loads.items ≡ loads_of self.now granted.now (standings_of settled.now.view)) }
     {
         loads_in(alloc, &self.entries, granted, settled.members())
+    }
+
+    /// One tick. A shard whose home is finished is free, and finished nodes are waited for no more. Where fewer shards move
+    /// than may, at most one begins: the first one that does not move and whose home is Exiting in the settled view, else the
+    /// first one that does not move of the node that has to give one away; it waits for every node that has granted and is
+    /// not finished. Then for each shard in ascending order: every node that is waited for is told that the hand-off begins;
+    /// where nobody is left, the home is told to hand it off; and a home that has not started is told to host it. Only memory
+    /// can fail, and then nothing is said of the table.
+    pub fn on_tick(
+        &mut self,
+        alloc: Global,
+        granted: &Uniques,
+        settled: &Settled,
+        settings: &Settings,
+    ) -> Result<Vec<Order>, AllocError>
+        ensures after { OnOk result (self.new ≡ after_tick granted.now settled.now.view settings.now.margin settings.now.threshold settings.now.limit self.old) }
+        ensures orders { IfOk result (λ orders. orders.items ≡ orders_from 0 (after_tick granted.now settled.now.view settings.now.margin settings.now.threshold settings.now.limit self.old)) }
+    {
+        notice_each(alloc, &mut self.entries, settled, settings.margin)?;
+        begin_one(alloc, &mut self.entries, granted, settled, settings)?;
+        hurry_each(&mut self.entries);
+        orders_of(alloc, &self.entries)
     }
 }
 

@@ -1,11 +1,15 @@
-ghost use Rattle.std.specs.Prelude.{◌≡◌, IfOk, OnOk, option_copied, is_some, option_map};
+ghost use Rattle.std.specs.Prelude.{◌≡◌, IfOk, OnOk, option_copied, is_some, option_map, IsSome};
 ghost use Rattle.ak_address.specs.Unique.{UniqueModel};
 ghost use Rattle.ak_address.specs.Uniques.{UniqueSet};
 ghost use Rattle.ak_coordinator.specs.Entry.{unplaced, moves, is_home, is_at, claims, learnt, beats, allotted, after_allotment, homing, after_get_home, after_started, is_awaited, is_last_ack, after_ack, freed, awaits_stop};
+ghost use Rattle.ak_coordinator.specs.Tick.{has_finished_home, noticed, is_exiting_member, leaves_exiting, leaves_node, begun, hurried};
 
 use ak_address::{Unique, Uniques};
 use ak_allocation::{Load, choose};
+use crate::tick::unfinished;
 use ak_clock::BOUND;
+use ak_member::{Members, Status};
+use ak_settled::Settled;
 use ak_shard_id::Report;
 use std::alloc::{AllocError, Global};
 use std::marker::Model;
@@ -244,6 +248,78 @@ impl Entry {
         true
     }
 
+    // Whether the home is finished.
+    fn has_finished_home(&self, settled: &Settled, margin: u32) -> bool
+        ensures { result ≡ has_finished_home margin settled.now.view self.now.home }
+    {
+        match &self.home {
+            Some(home) => settled.finished(&home.owner, margin),
+            None => false,
+        }
+    }
+
+    // A shard whose home is finished is free, and finished nodes are waited for no more.
+    pub(crate) fn notice(
+        &mut self,
+        alloc: Global,
+        settled: &Settled,
+        margin: u32,
+    ) -> Result<(), AllocError>
+        ensures { OnOk result (self.new ≡ noticed margin settled.now.view self.old) }
+    {
+        if self.has_finished_home(settled, margin) {
+            self.free(alloc);
+            return Ok(());
+        }
+        let waits = unfinished(alloc, settled, margin, &self.waits)?;
+        self.waits = waits;
+        Ok(())
+    }
+
+    // Whether the shard does not move, and its home is Exiting.
+    pub(crate) fn leaves_exiting(&self, members: &Members) -> bool
+        ensures { result ≡ leaves_exiting members.now self.now }
+    {
+        match &self.home {
+            Some(home) => !self.moves() && is_exiting(members, &home.owner),
+            None => false,
+        }
+    }
+
+    // Whether the shard does not move, and its home is the node.
+    pub(crate) fn leaves_node(&self, who: &Unique) -> bool
+        ensures { result ≡ leaves_node who.now self.now }
+    {
+        match &self.home {
+            Some(home) => !self.moves() && home.owner.compare(who).is_eq(),
+            None => false,
+        }
+    }
+
+    // The shard begins to move, and these nodes are waited for.
+    pub(crate) fn begin(&mut self, waits: Uniques)
+        requires { IsSome self.old.home }
+        ensures { self.new ≡ begun waits self.old }
+    {
+        self.stage = Stage::Holding;
+        self.waits = waits;
+    }
+
+    // Where nobody is waited for any more, the home hands the shard off.
+    pub(crate) fn hurry(&mut self)
+        ensures { self.new ≡ hurried self.old }
+    {
+        match self.stage {
+            Stage::Still => {}
+            Stage::Holding => {
+                if self.waits.len() == 0 {
+                    self.stage = Stage::Leaving;
+                }
+            }
+            Stage::Leaving => {}
+        }
+    }
+
     // Whether the node has to say that it does not host the shard any more, with that number.
     pub(crate) fn awaits_stop(&self, from: &Unique, number: u64) -> bool
         ensures { result ≡ awaits_stop from.now number self.now }
@@ -257,4 +333,20 @@ fn is_beaten(home: &Placed, from: &Unique, number: u64) -> bool
     ensures { result ≡ beats from.now number home.now }
 {
     home.number < number || (home.number == number && home.owner.compare(from).is_lt())
+}
+
+// Whether the node is an Exiting member.
+fn is_exiting(members: &Members, who: &Unique) -> bool
+    ensures { result ≡ is_exiting_member members.now who.now }
+{
+    match members.get(who) {
+        Some(member) => match member.status {
+            Status::Joining => false,
+            Status::Up => false,
+            Status::Leaving => false,
+            Status::Exiting => true,
+            Status::Down => false,
+        },
+        None => false,
+    }
 }

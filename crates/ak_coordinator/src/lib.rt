@@ -4,6 +4,9 @@
 mod coordinator;
 mod entry;
 mod loads;
+mod orders;
+mod tick;
 
 pub use coordinator::Coordinator;
 pub use entry::{Homing, Placed};
+pub use orders::Order;
