@@ -1,5 +1,5 @@
 -- What is learnt of each shard, where shards are placed, and which stops are awaited.
-use Rattle.std.proofs.Common.{◌≡◌, ◌≢◌, ◌↔◌, ◌⊎◌, ℕ, Bool, true, false, cond, ◌&&◌, ◌==◌, ◌+◌, ◌^◌, ◌<◌, ◌≤◌, List, [], ◌∷◌, length, length-set, set, get_or, get_or-set_same, get_or-set_other, Option, Some, None, is_some, unwrap_or, nat_lt, inl, inr, refl, sym, ap, ◌∙◌, subst, arith, true≢false}
+use Rattle.std.proofs.Common.{◌≡◌, ◌↔◌, ◌⊎◌, ℕ, Bool, true, false, cond, ◌&&◌, ◌==◌, ◌+◌, ◌^◌, ◌<◌, ◌≤◌, List, [], ◌∷◌, length, length-set, set, get_or, get_or-set_same, get_or-set_other, Option, Some, None, is_some, unwrap_or, nat_lt, inl, inr, refl, sym, ap, ◌∙◌, subst, arith, true≢false}
 use Rattle.std.specs.List.{filter, fold}
 use Rattle.std.proofs.lemmas.Bool.{eqb-true, eq-eqb, ltb-true, ltb-false}
 use Rattle.std.specs.Ordering.{is_eq}
@@ -38,9 +38,9 @@ learnt_each asking from (report ∷ reports) table shard lt =
     go true same =
         let at = eqb-true report.shard shard same in
         ap (λ known. fold (learns asking from) known (reports_of shard reports)) (
-          ap (λ k. get_or (set table report.shard (learnt asking from report (entry_of table report.shard))) k unplaced) (sym at)
-          ∙ get_or-set_same table report.shard _ unplaced (omega arith)
-          ∙ ap (λ k. learnt asking from report (entry_of table k)) at
+        ap (λ k. get_or (set table report.shard (learnt asking from report (entry_of table report.shard))) k unplaced) (sym at)
+        ∙ get_or-set_same table report.shard _ unplaced (omega arith)
+        ∙ ap (λ k. learnt asking from report (entry_of table k)) at
         )
     go false other =
         ap (λ known. fold (learns asking from) known (reports_of shard reports))
@@ -74,9 +74,9 @@ is_home_means from number (Some home) = (forward, λ is. ap (is_home from number
 
 pub awaited_means : (from : UniqueModel) (number : ℕ) (entry : ShardEntry) → (awaits_stop from number entry ≡ true) ↔ ((moves entry ≡ true) × (entry.home ≡ Some (record { owner = from; number = number })))
 awaited_means from number entry = (
-    λ is. let two = both_true (moves entry) (is_home from number entry.home) is in (two.0, (is_home_means from number entry.home).0 two.1),
-    λ h. ap (λ b. b && is_home from number entry.home) h.0 ∙ (is_home_means from number entry.home).1 h.1
-  )
+  λ is. let two = both_true (moves entry) (is_home from number entry.home) is in (two.0, (is_home_means from number entry.home).0 two.1),
+  λ h. ap (λ b. b && is_home from number entry.home) h.0 ∙ (is_home_means from number entry.home).1 h.1,
+)
 
 -- ---- where shards are placed
 abbrev IsAllotted : List Load → ShardEntry → Home → Type 0

@@ -1,5 +1,5 @@
 -- Which orders there are, and for whom.
-use Rattle.std.proofs.Common.{◌≡◌, ◌↔◌, ℕ, zero, suc, Bool, true, false, cond, ◌+◌, ◌<◌, List, [], ◌∷◌, ◌++◌, map, length, get_or, Contains, Option, Some, None, inl, inr, refl, sym, ap, ◌∙◌, subst, arith, true≢false}
+use Rattle.std.proofs.Common.{◌≡◌, ◌↔◌, ℕ, zero, suc, Bool, true, false, cond, ◌+◌, ◌<◌, [], ◌∷◌, length, get_or, Contains, Option, Some, None, inl, inr, refl, sym, ap, ◌∙◌, subst, arith}
 use Rattle.ak_address.specs.Unique.{UniqueModel}
 use Rattle.ak_address.specs.Uniques.{UniqueSet, has, in_order}
 use Rattle.ak_address.proofs.CountersLaws.{has-set_of, set_of-in_order, is_among}
@@ -33,10 +33,10 @@ in_orders start (entry ∷ entries) given (suc k) lt there =
 
 pub orders_each : (table : ShardTable) (given : Order) → Contains (orders_from 0 table) given ↔ ((shard : ℕ) × (shard < length table) × Contains (orders_of shard (entry_of table shard)) given)
 orders_each table given = (
-    λ there. let h = from_orders 0 table given there in
+  λ there. let h = from_orders 0 table given there in
       (h.0, h.1, subst (λ s. Contains (orders_of s (get_or table h.0 unplaced)) given) (let e : 0 + h.0 ≡ h.0 = omega arith in e) h.2),
-    λ h. in_orders 0 table given h.0 h.1 (subst (λ s. Contains (orders_of s (get_or table h.0 unplaced)) given) (let e : h.0 ≡ 0 + h.0 = omega arith in e) h.2)
-  )
+  λ h. in_orders 0 table given h.0 h.1 (subst (λ s. Contains (orders_of s (get_or table h.0 unplaced)) given) (let e : h.0 ≡ 0 + h.0 = omega arith in e) h.2),
+)
 
 only : {X : Type 0} (x y : X) → Contains (x ∷ []) y → y ≡ x
 only x y there = elim (first_or_rest x y [] there) [ inl same ↦ same | inr later ↦ absurd (contains_nothing y later) ]

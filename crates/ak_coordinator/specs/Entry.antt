@@ -1,9 +1,9 @@
 -- What a coordinator does with one shard (Akka's Cluster Sharding, "How it works" and "Shard rebalancing"; the allocation
 -- numbers, and the table that is made of reports, are this project's).
-use Rattle.std.specs.Prelude.{ℕ, ◌+◌, ◌^◌, ◌==◌, max, nat_lt, nat_le, Bool, true, false, not, ◌&&◌, ◌||◌, List, map, Option, None, Some, if◌then◌else◌}
+use Rattle.std.specs.Prelude.{ℕ, ◌+◌, ◌^◌, ◌==◌, max, nat_lt, Bool, true, false, ◌&&◌, ◌||◌, List, Option, None, Some, if◌then◌else◌}
 use Rattle.std.specs.Ordering.{is_eq, is_lt}
 use Rattle.ak_address.specs.Unique.{UniqueModel, unique_cmp}
-use Rattle.ak_address.specs.Uniques.{UniqueSet, no_one, has, without_one, how_many}
+use Rattle.ak_address.specs.Uniques.{no_one, has, without_one, how_many}
 use Rattle.ak_allocation.specs.declared.load.Load.{Load}
 use Rattle.ak_allocation.specs.Allocation.{lightest}
 use Rattle.ak_shard_id.specs.declared.report.Report.{Report}

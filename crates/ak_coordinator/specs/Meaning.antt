@@ -1,5 +1,5 @@
 -- What a table of shards means: what is learnt of a home, and whom an order is for.
-use Rattle.std.specs.Prelude.{◌≡◌, ℕ, ◌<◌, ◌==◌, Bool, false, IsTrue, List, Option, None, Some, if◌then◌else◌}
+use Rattle.std.specs.Prelude.{◌≡◌, ℕ, ◌==◌, Bool, false, IsTrue, List, Option, Some, if◌then◌else◌}
 use Rattle.std.specs.List.{filter, fold}
 use Rattle.ak_address.specs.Unique.{UniqueModel}
 use Rattle.ak_address.specs.Uniques.{has}

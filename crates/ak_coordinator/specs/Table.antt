@@ -5,7 +5,7 @@ use Rattle.std.specs.Coded.{Coded, code_by, coded×, coded_ℕ, coded_bool, code
 use Rattle.ak_address.specs.Unique.{UniqueModel, coded_unique}
 use Rattle.ak_address.specs.Uniques.{UniqueSet}
 use Rattle.ak_coordinator.specs.declared.entry.Stage.{Stage}
-use Rattle.ak_coordinator.specs.declared.entry.Stage.TheVariants.{Still, Holding, Leaving}
+use Rattle.ak_coordinator.specs.declared.entry.Stage.TheVariants.{Still}
 use Rattle.ak_coordinator.specs.contracts.entry.Stage as stage
 
 -- the home of a shard: the node, and the number with which it hosts the shard

@@ -3,8 +3,7 @@
 use Rattle.std.specs.Prelude.{ℕ, ◌+◌, ◌==◌, nat_lt, Bool, true, false, not, ◌&&◌, List, [], ◌∷◌, ◌++◌, length, map, Option, None, Some, if◌then◌else◌}
 use Rattle.std.specs.FinMap as finmap
 use Rattle.std.specs.List.{filter}
-use Rattle.std.specs.Ordering.{is_eq}
-use Rattle.ak_address.specs.Unique.{UniqueModel, unique_cmp}
+use Rattle.ak_address.specs.Unique.{UniqueModel}
 use Rattle.ak_address.specs.Uniques.{UniqueSet, how_many, in_order, set_of}
 use Rattle.ak_allocation.specs.declared.load.Load.{Load}
 use Rattle.ak_allocation.specs.Allocation.{overloaded}

@@ -201,11 +201,7 @@ fn learn_each(
 }
 
 // The shard has left its home: it is free, and is placed where it can be.
-fn stop(
-    alloc: Global,
-    entry: &mut Entry,
-    loads: &[Load],
-) -> Result<Option<Placed>, AllocError>
+fn stop(alloc: Global, entry: &mut Entry, loads: &[Load]) -> Result<Option<Placed>, AllocError>
     ensures placed { IfOk result (λ placed. placed ≡ allotted loads.now (freed entry.old)) }
     ensures after { IfOk result (λ placed. entry.new ≡ after_allotment placed (freed entry.old)) }
 {

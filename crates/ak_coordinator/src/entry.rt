@@ -4,9 +4,9 @@ ghost use Rattle.ak_address.specs.Uniques.{UniqueSet};
 ghost use Rattle.ak_coordinator.specs.Entry.{unplaced, moves, is_home, is_at, claims, learnt, beats, allotted, after_allotment, homing, after_get_home, after_started, is_awaited, is_last_ack, after_ack, freed, awaits_stop};
 ghost use Rattle.ak_coordinator.specs.Tick.{has_finished_home, noticed, is_exiting_member, leaves_exiting, leaves_node, begun, hurried};
 
+use crate::tick::unfinished;
 use ak_address::{Unique, Uniques};
 use ak_allocation::{Load, choose};
-use crate::tick::unfinished;
 use ak_clock::BOUND;
 use ak_member::{Members, Status};
 use ak_settled::Settled;
@@ -191,11 +191,7 @@ impl Entry {
     }
 
     // What a node that asks for the home is told.
-    pub(crate) fn get_home(
-        &mut self,
-        alloc: Global,
-        loads: &[Load],
-    ) -> Result<Homing, AllocError>
+    pub(crate) fn get_home(&mut self, alloc: Global, loads: &[Load]) -> Result<Homing, AllocError>
         ensures answer { IfOk result (λ answer. answer ≡ homing loads.now self.old) }
         ensures after { OnOk result (self.new ≡ after_get_home loads.now self.old) }
     {

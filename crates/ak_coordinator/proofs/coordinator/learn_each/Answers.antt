@@ -1,4 +1,4 @@
-use Rattle.std.proofs.Common.{false, get_or, length, arith}
+use Rattle.std.proofs.Common.{false, get_or, arith}
 use Rattle.std.proofs.lemmas.List.{get_or_default}
 use Rattle.ak_shard_id.specs.declared.report.Report.{Report}
 use Rattle.ak_coordinator.proofs.coordinator.learn_each.Goals as goal

@@ -1,7 +1,6 @@
-use Rattle.std.proofs.Common.{◌+◌, ◌++◌, List, map, drop, append_assoc, append-nil, option_copied, sym, ap, ◌∙◌, arith}
-use Rattle.ak_address.specs.Unique.{UniqueModel}
+use Rattle.std.proofs.Common.{◌+◌, ◌++◌, map, drop, append_assoc, append-nil, option_copied, sym, ap, ◌∙◌, arith}
 use Rattle.ak_address.specs.Uniques.{in_order}
-use Rattle.ak_member.proofs.MemberLemmas.{kept_pair, kept_at_end}
+use Rattle.ak_member.proofs.MemberLemmas.{kept_at_end}
 use Rattle.ak_member.proofs.Folds.{keeps_all}
 use Rattle.ak_coordinator.specs.Tick.{begin_order}
 use Rattle.ak_coordinator.proofs.LoadLemmas.{many_in_order, begins_next}

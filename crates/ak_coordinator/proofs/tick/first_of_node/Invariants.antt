@@ -1,5 +1,5 @@
 use Rattle.std.proofs.Common.{◌≡◌, drop}
-use Rattle.ak_coordinator.specs.Tick.{first_from, leaves_exiting, leaves_node}
+use Rattle.ak_coordinator.specs.Tick.{first_from, leaves_node}
 use Rattle.ak_coordinator.proofs.tick.first_of_node.Given as goal
 
 -- none of those before the shard passes

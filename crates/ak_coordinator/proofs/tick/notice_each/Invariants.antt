@@ -1,5 +1,5 @@
 use Rattle.std.proofs.Common.{◌≡◌, ◌++◌, map, take, drop}
-use Rattle.ak_coordinator.specs.Tick.{hurried, noticed}
+use Rattle.ak_coordinator.specs.Tick.{noticed}
 use Rattle.ak_coordinator.proofs.tick.notice_each.Given as goal
 
 -- those before the index are changed

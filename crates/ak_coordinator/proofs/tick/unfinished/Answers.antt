@@ -1,6 +1,5 @@
-use Rattle.std.proofs.Common.{length, ◌∙◌, arith}
+use Rattle.std.proofs.Common.{◌∙◌, arith}
 use Rattle.std.specs.List.{filter}
-use Rattle.std.specs.FinMap as map
 use Rattle.ak_address.specs.Uniques.{with_one, in_order}
 use Rattle.ak_address.proofs.CountersLaws.{set_walked}
 use Rattle.ak_member.proofs.Folds.{fold_next, fold_end, keeps_filtered, keeps_all}
