@@ -1,0 +1,2 @@
+pub mod AllocationLaws
+pub mod AllocationLemmas

@@ -1,0 +1,3 @@
+pub mod CoordinatorLaws
+pub mod LoadLemmas
+pub mod OrderLaws

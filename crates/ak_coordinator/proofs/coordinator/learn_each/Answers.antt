@@ -1,0 +1,11 @@
+use Rattle.std.proofs.Common.{false, get_or, arith}
+use Rattle.std.proofs.lemmas.List.{get_or_default}
+use Rattle.ak_shard_id.specs.declared.report.Report.{Report}
+use Rattle.ak_coordinator.proofs.coordinator.learn_each.Goals as goal
+
+pub bounds-entries-report : goal.bounds-entries-report
+bounds-entries-report c =
+    let d : Report = record { shard = 0; number = 0; hosted = false } in
+    let report = get_or c.args.reports.now c.reports.report-index d in
+    let lt = c.requires report (c.reports.report-index, c.reports-test.true, get_or_default c.args.reports.now c.reports.report-index report d c.reports-test.true) in
+    omega arith

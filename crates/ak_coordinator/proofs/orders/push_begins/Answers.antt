@@ -1,0 +1,24 @@
+use Rattle.std.proofs.Common.{◌+◌, ◌++◌, map, drop, append_assoc, append-nil, option_copied, sym, ap, ◌∙◌, arith}
+use Rattle.ak_address.specs.Uniques.{in_order}
+use Rattle.ak_member.proofs.MemberLemmas.{kept_at_end}
+use Rattle.ak_member.proofs.Folds.{keeps_all}
+use Rattle.ak_coordinator.specs.Tick.{begin_order}
+use Rattle.ak_coordinator.proofs.LoadLemmas.{many_in_order, begins_next}
+use Rattle.ak_coordinator.proofs.orders.push_begins.Goals as goal
+
+pub waits-preserved : goal.waits-preserved
+waits-preserved c =
+    let f = begin_order c.args.shard c.args.number in
+    let whos = in_order c.args.waits.now in
+    ap (λ l. l ++ map f (drop (c.waits.index + 1) whos)) c.in_ok-push_begin.ensures
+    ∙ append_assoc c.waits.orders.items _ _
+    ∙ ap (λ l. c.waits.orders.items ++ l) (begins_next f whos c.waits.index (option_copied c.at.result) c.at.ensures)
+    ∙ c.waits.invariant
+
+pub returns : goal.returns
+returns c =
+    let f = begin_order c.args.shard c.args.number in
+    let whos = in_order c.args.waits.now in
+    sym (append-nil c.waits.orders.items)
+    ∙ ap (λ l. c.waits.orders.items ++ map f l) (sym (kept_at_end (λ xs. xs) keeps_all whos c.waits.index (let many = many_in_order c.args.waits.now in omega arith)))
+    ∙ c.waits.invariant

@@ -1,0 +1,165 @@
+ghost use Rattle.std.specs.Prelude.{◌≡◌, ◌≤◌, ◌<◌, length, slice_get, option_copied, option_to_list, IfOk, OnOk, IfSome, IsSome};
+ghost use Rattle.std.specs.Prelude as list;
+ghost use Rattle.std.specs.List.{filter, fold};
+ghost use Rattle.ak_address.specs.Uniques.{in_order, with_one};
+ghost use Rattle.ak_settled.specs.Settled.{standings_of};
+ghost use Rattle.ak_coordinator.specs.Entry.{moves};
+ghost use Rattle.ak_coordinator.specs.Coordinator.{entry_of};
+ghost use Rattle.ak_coordinator.specs.Tick.{is_unfinished, unfinished, noticed, hurried, leaves_exiting, leaves_node, first_from, first_leaver, after_begin, moving};
+
+use crate::entry::Entry;
+use crate::loads::loads_in;
+use ak_address::{Unique, Uniques};
+use ak_allocation::rebalance;
+use ak_member::Members;
+use ak_schedule::Settings;
+use ak_settled::Settled;
+use std::alloc::{AllocError, Global};
+
+// Those of the nodes that are not finished.
+pub(crate) fn unfinished(
+    alloc: Global,
+    settled: &Settled,
+    margin: u32,
+    whos: &Uniques,
+) -> Result<Uniques, AllocError>
+    ensures { IfOk result (λ left. left ≡ unfinished margin settled.now.view whos.now) }
+{
+    let mut left = Uniques::empty(alloc);
+    'whos: for index in 0..whos.len() {
+        let who = unfinished_at(settled, margin, whos, index);
+        add_one(alloc, &mut left, who)?;
+    }
+    Ok(left)
+}
+
+pub(crate) fn notice_each(
+    alloc: Global,
+    entries: &mut [Entry],
+    settled: &Settled,
+    margin: u32,
+) -> Result<(), AllocError>
+    ensures { OnOk result (entries.new ≡ list.map (noticed margin settled.now.view) entries.old) }
+{
+    'entries: for entry in entries.iter_mut() {
+        entry.notice(alloc, settled, margin)?;
+    }
+    Ok(())
+}
+
+pub(crate) fn hurry_each(entries: &mut [Entry])
+    ensures { entries.new ≡ list.map hurried entries.old }
+{
+    'entries: for entry in entries.iter_mut() {
+        entry.hurry();
+    }
+}
+
+// How many shards move.
+fn moving(entries: &[Entry]) -> usize
+    ensures { result ≡ moving entries.now }
+{
+    entries.iter().filter(|entry| entry.moves()).count()
+}
+
+// The first shard that does not move and whose home is Exiting.
+fn first_exiting(entries: &[Entry], members: &Members) -> Option<usize>
+    ensures first { result ≡ first_from 0 (leaves_exiting members.now) entries.now }
+    ensures placed { IfSome result (λ shard. (shard < length entries.now) × IsSome (entry_of entries.now shard).home) }
+{
+    'shards: for shard in 0..entries.len() {
+        if entries[shard].leaves_exiting(members) {
+            return Some(shard);
+        }
+    }
+    None
+}
+
+// The first shard that does not move and whose home is the node.
+fn first_of_node(entries: &[Entry], who: &Unique) -> Option<usize>
+    ensures first { result ≡ first_from 0 (leaves_node who.now) entries.now }
+    ensures placed { IfSome result (λ shard. (shard < length entries.now) × IsSome (entry_of entries.now shard).home) }
+{
+    'shards: for shard in 0..entries.len() {
+        if entries[shard].leaves_node(who) {
+            return Some(shard);
+        }
+    }
+    None
+}
+
+// The shard that begins to move.
+fn first_leaver(
+    alloc: Global,
+    entries: &[Entry],
+    granted: &Uniques,
+    settled: &Settled,
+    threshold: u32,
+) -> Result<Option<usize>, AllocError>
+    requires { length entries.now ≤ 1000 }
+    ensures first { IfOk result (λ shard. shard ≡ first_leaver granted.now (standings_of settled.now.view) threshold entries.now) }
+    ensures placed { IfOk result (λ found. IfSome found (λ shard. (shard < length entries.now) × IsSome (entry_of entries.now shard).home)) }
+{
+    let exiting = first_exiting(entries, settled.members());
+    if exiting.is_some() {
+        return Ok(exiting);
+    }
+    let loads = loads_in(alloc, entries, granted, settled.members())?;
+    match rebalance(&loads, threshold) {
+        Some(heaviest) => Ok(first_of_node(entries, &loads[heaviest].unique)),
+        None => Ok(None),
+    }
+}
+
+// Where fewer shards move than may, one begins.
+pub(crate) fn begin_one(
+    alloc: Global,
+    entries: &mut Vec<Entry>,
+    granted: &Uniques,
+    settled: &Settled,
+    settings: &Settings,
+) -> Result<(), AllocError>
+    requires { length entries.old.items ≤ 1000 }
+    ensures after { OnOk result (entries.new.items ≡ after_begin granted.now settled.now.view settings.now.margin settings.now.threshold settings.now.limit entries.old.items) }
+    ensures many { length entries.new.items ≡ length entries.old.items }
+{
+    if moving(entries) >= settings.limit as usize {
+        return Ok(());
+    }
+    let Some(shard) = first_leaver(alloc, entries, granted, settled, settings.threshold)? else {
+        return Ok(());
+    };
+    let waits = unfinished(alloc, settled, settings.margin, granted)?;
+    entries[shard].begin(waits);
+    Ok(())
+}
+
+// The node at an index, where it is not finished.
+fn unfinished_at<'a>(
+    settled: &Settled,
+    margin: u32,
+    whos: &'a Uniques,
+    index: usize,
+) -> Option<&'a Unique>
+    ensures { option_to_list (option_copied result) ≡ filter (is_unfinished margin settled.now.view) (option_to_list (slice_get (in_order whos.now) index)) }
+{
+    match whos.at(index) {
+        Some(who) => {
+            if settled.finished(who, margin) {
+                return None;
+            }
+            Some(who)
+        }
+        None => None,
+    }
+}
+
+// Adds the node, where there is one.
+fn add_one(alloc: Global, whos: &mut Uniques, who: Option<&Unique>) -> Result<(), AllocError>
+    ensures { OnOk result (whos.new ≡ fold with_one whos.old (option_to_list (option_copied who.entry))) }
+{
+    match who {
+        Some(who) => whos.insert(alloc, who),
+        None => Ok(()),
+    }
+}

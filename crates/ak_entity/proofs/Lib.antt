@@ -1,0 +1,2 @@
+pub mod EntityLaws
+pub mod StoredLemmas

@@ -1,0 +1,11 @@
+//! The entities that are active at a node, each with the payloads that were delivered to it.
+#![tactic(auto)]
+
+mod activity;
+mod entities;
+mod laws;
+#[cfg(test)]
+mod tests;
+
+pub use entities::Entities;
+pub use laws::entities_are_by_themselves;

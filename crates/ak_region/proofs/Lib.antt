@@ -1,0 +1,5 @@
+pub mod FirstsLemmas
+pub mod ReportLaws
+pub mod WalkLemmas
+pub mod WantedLaws
+pub mod WantedLemmas

@@ -1,0 +1,19 @@
+use Rattle.std.proofs.Common.{[], ◌++◌, ap, ◌∙◌, arith}
+use Rattle.ak_region.specs.RegionModel.{Message}
+use Rattle.ak_region.specs.Turns.{turn_gone}
+use Rattle.ak_region.proofs.WalkLemmas.{next_gone, next_left}
+use Rattle.ak_region.proofs.buffer.take_those_for.Goals as goal
+
+pub turns-preserved : goal.turns-preserved
+turns-preserved c =
+    let d : Message = record { entity = []; payload = 0 } in
+    let n = c.args.shards in
+    let s = c.args.shard in
+    let xs = c.args.buffer.now.items in
+    let i = c.turns.invariant in
+    record {
+      gone = c.in_ok-turn.ensures.gone ∙ ap (λ l. l ++ turn_gone n s c.turns.buffer.items) i.gone ∙ next_gone n s c.turns._turn xs c.turns.buffer.items d (omega arith) i.left;
+      left = c.in_ok-turn.ensures.left ∙ next_left n s c.turns._turn xs c.turns.buffer.items d (omega arith) i.left;
+      shorter = omega (arith, i.shorter, c.in_ok-turn.ensures.shorter);
+      within = rw c.in_ok-turn.ensures.capacity (omega (arith, i.within, c.in_ok-turn.ensures.shorter));
+    }

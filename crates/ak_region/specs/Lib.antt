@@ -1,0 +1,6 @@
+pub mod Region
+pub mod RegionModel
+pub mod Reported
+pub mod Shards
+pub mod Slot
+pub mod Turns

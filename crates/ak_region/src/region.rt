@@ -1,0 +1,227 @@
+ghost use Rattle.std.specs.Prelude.{◌≡◌, ◌≤◌, ◌<◌, length, IfOk, OnOk, OnErr, IfSome};
+ghost use Rattle.ak_region.specs.Shards.{ShardSlot};
+ghost use Rattle.ak_region.specs.RegionModel.{RegionModel, Message};
+ghost use Rattle.ak_region.specs.Slot.{at_home, host_answer, after_host, begun, gives_up, handed_off};
+ghost use Rattle.ak_region.specs.Region.{new_region, slot_of, with_slot, route, after_offer, flushed, after_flush, wanted, after_forget, hosts_any, reports};
+
+use crate::buffer::{take_those_for, wait, wanted_in};
+use crate::slot::{Hosting, Slot};
+use crate::walks::{any_hosted, forget_strangers, reports_of, untold_slots};
+use ak_address::{Text, Unique};
+use ak_member::Members;
+use ak_shard_id::{Report, shard_of};
+use circular_buffer::HeapCircularBuffer;
+use std::alloc::{AllocError, Global};
+use std::marker::Model;
+
+/// What came of an offered message; the entity's id is given back where the message does not wait.
+#[derive(Debug, Drop)]
+pub enum Offered {
+    /// The node hosts the entity's shard: the message is for the entity.
+    Delivered(Text),
+    /// The shard has its home at that other node.
+    Forwarded(Unique, Text),
+    /// The message waits.
+    Buffered,
+    /// Too many messages wait already.
+    Dropped(Text),
+}
+
+/// A message that waits: the entity's id, and the payload.
+#[derive(Debug, Drop)]
+pub struct Waiting {
+    pub entity: Text,
+    pub payload: u64,
+}
+
+impl Model for Waiting {
+    ghost use Rattle.ak_region.specs.RegionModel.{Message, coded_message};
+
+    ghost Value = { Message };
+
+    ghost coded = { coded_message };
+
+    ghost view = { λ w. record { entity = w.entity; payload = w.payload } };
+}
+
+/// The shards as one node knows them, and the messages that wait there (Akka's Cluster Sharding, the shard region). A shard
+/// has a hosted number where the node hosts it, a mark (the greatest allocation number that the node was told of it), a hold
+/// while it is handed off, and a home as far as it is known.
+#[derive(Drop)]
+pub struct Region {
+    slots: Vec<Slot>,
+    buffer: HeapCircularBuffer<Waiting>,
+    most: u32,
+}
+
+impl Model for Region {
+    ghost use Rattle.ak_region.specs.RegionModel.{RegionModel, coded_region, IsRegion};
+
+    ghost Value = { RegionModel };
+
+    ghost coded = { coded_region };
+
+    ghost view = { λ r. record { slots = r.slots.items; messages = r.buffer.items; most = r.most } };
+
+    ghost invariant = { λ r. IsRegion (record { slots = r.slots.items; messages = r.buffer.items; most = r.most }) };
+}
+
+impl Region {
+    /// Nothing was told of any shard, and nothing waits. There are 1 to 1000 shards, and 1 to 100000 messages may wait; the
+    /// memory for them is taken as they come. Only memory can fail.
+    pub fn new(alloc: Global, shards: u32, buffer: u32) -> Result<Region, AllocError>
+        requires some { 1 ≤ shards }
+        requires few { shards ≤ 1000 }
+        requires room { 1 ≤ buffer }
+        requires bounded { buffer ≤ 100000 }
+        ensures { IfOk result (λ region. region ≡ new_region shards buffer) }
+    {
+        let slots = untold_slots(alloc, shards)?;
+        let most = buffer;
+        let buffer = HeapCircularBuffer::with_capacity(alloc, 0)?;
+        Ok(Region {
+            slots,
+            buffer,
+            most,
+        })
+    }
+
+    /// How many shards there are, from 1 to 1000; the calls below take those from 0 on. Takes no memory.
+    pub fn shards(&self) -> u32
+        ensures { result ≡ length self.now.slots }
+    {
+        self.slots.len() as u32
+    }
+
+    /// What comes of a message to an entity: it is delivered where the entity's shard is hosted here and not held; it is
+    /// forwarded where the shard is not held and its home is another node; else it waits, or is dropped where as many wait as
+    /// may. After an error nothing has changed; only memory can fail.
+    pub fn offer(
+        &mut self,
+        alloc: Global,
+        me: &Unique,
+        entity: Text,
+        payload: u64,
+    ) -> Result<Offered, AllocError>
+        ensures answer { IfOk result (λ offered. offered ≡ route me.now self.old entity) }
+        ensures after { IfOk result (λ offered. self.new ≡ after_offer offered (record { entity = entity; payload = payload }) self.old) }
+        ensures err { OnErr result (self.new ≡ self.old) }
+    {
+        let shard = shard_of(entity.bytes(), self.slots.len() as u32);
+        let slot = &self.slots[shard as usize];
+        if slot.receives() {
+            return Ok(Offered::Delivered(entity));
+        }
+        if let Some(home) = slot.other_home(me) {
+            let home = home.copy(alloc)?;
+            return Ok(Offered::Forwarded(home, entity));
+        }
+        wait(&mut self.buffer, self.most, entity, payload)
+    }
+
+    /// The home of the shard is known, and a hold ends. After an error nothing has changed; only memory can fail.
+    pub fn on_home(&mut self, alloc: Global, shard: u32, owner: &Unique) -> Result<(), AllocError>
+        requires { shard < length self.old.slots }
+        ensures ok { OnOk result (self.new ≡ with_slot self.old shard (at_home owner.now (slot_of self.old shard))) }
+        ensures err { OnErr result (self.new ≡ self.old) }
+    {
+        let home = owner.copy(alloc)?;
+        self.slots[shard as usize].set_home(home);
+        Ok(())
+    }
+
+    /// The order to host the shard with an allocation number. New: the node did not host it, and the number is above its
+    /// mark; the node hosts it from now on with that number, which is its mark, it is not held, and its home is the node.
+    /// Again: it is hosted with that number. Ignored: anything else. Only New changes anything. After an error nothing has
+    /// changed; only memory can fail.
+    pub fn on_host(
+        &mut self,
+        alloc: Global,
+        me: &Unique,
+        shard: u32,
+        number: u64,
+    ) -> Result<Hosting, AllocError>
+        requires { shard < length self.old.slots }
+        ensures answer { IfOk result (λ hosting. hosting ≡ host_answer number (slot_of self.old shard)) }
+        ensures after { IfOk result (λ hosting. self.new ≡ with_slot self.old shard (after_host me.now number hosting (slot_of self.old shard))) }
+        ensures err { OnErr result (self.new ≡ self.old) }
+    {
+        self.slots[shard as usize].host(alloc, me, number)
+    }
+
+    /// A hand-off of the shard begins: it is held, and its home is forgotten. Takes no memory.
+    pub fn on_begin(&mut self, shard: u32)
+        requires { shard < length self.old.slots }
+        ensures { self.new ≡ with_slot self.old shard (begun (slot_of self.old shard)) }
+    {
+        self.slots[shard as usize].begin();
+    }
+
+    /// The shard is handed off with an allocation number: its mark is at least that number, and where the node hosted it with
+    /// at most that number, it hosts it no more. Whether it hosted it so. Takes no memory.
+    pub fn on_hand_off(&mut self, shard: u32, number: u64) -> bool
+        requires { shard < length self.old.slots }
+        ensures gone { result ≡ gives_up number (slot_of self.old shard) }
+        ensures after { self.new ≡ with_slot self.old shard (handed_off number (slot_of self.old shard)) }
+    {
+        self.slots[shard as usize].hand_off(number)
+    }
+
+    /// The messages that wait for the shard leave the buffer, in their order, where it is not held and is hosted here or has
+    /// its home at another node; the others keep their order. Elsewhere none leaves. Only memory can fail, and then nothing
+    /// is said of what still waits.
+    pub fn flush(
+        &mut self,
+        alloc: Global,
+        me: &Unique,
+        shard: u32,
+    ) -> Result<Vec<Waiting>, AllocError>
+        requires { shard < length self.old.slots }
+        ensures left { IfOk result (λ gone. gone.items ≡ flushed me.now shard self.old) }
+        ensures stayed { OnOk result (self.new ≡ after_flush me.now shard self.old) }
+    {
+        if !self.slots[shard as usize].can_flush(me) {
+            return Ok(Vec::new(alloc));
+        }
+        take_those_for(alloc, &mut self.buffer, self.slots.len() as u32, shard)
+    }
+
+    /// The shards whose home is asked for: those for which a message waits, each once, in the order of the first message, but
+    /// for those that are hosted here and not held. Only memory can fail.
+    pub fn wanted(&self, alloc: Global) -> Result<Vec<u32>, AllocError>
+        ensures { IfOk result (λ shards. shards.items ≡ wanted self.now) }
+    {
+        wanted_in(alloc, &self.slots, &self.buffer)
+    }
+
+    /// Homes that are no members are forgotten. Takes no memory.
+    pub fn forget(&mut self, members: &Members)
+        ensures { self.new ≡ after_forget members.now self.old }
+    {
+        forget_strangers(&mut self.slots, members);
+    }
+
+    /// The number with which the node hosts the shard, which is its mark; none where it does not. Takes no memory.
+    pub fn hosts(&self, shard: u32) -> Option<u64>
+        requires { shard < length self.now.slots }
+        ensures hosted { result ≡ (slot_of self.now shard).hosted }
+        ensures marked { IfSome result (λ number. number ≡ (slot_of self.now shard).mark) }
+    {
+        self.slots[shard as usize].hosted
+    }
+
+    /// Whether the node hosts any shard. Takes no memory.
+    pub fn hosts_any(&self) -> bool
+        ensures { result ≡ hosts_any self.now }
+    {
+        any_hosted(&self.slots)
+    }
+
+    /// What a new coordinator is told: each shard whose mark is not 0, in ascending order, with its mark, and whether the
+    /// node hosts it. Only memory can fail.
+    pub fn reports(&self, alloc: Global) -> Result<Vec<Report>, AllocError>
+        ensures { IfOk result (λ found. found.items ≡ reports self.now) }
+    {
+        reports_of(alloc, &self.slots)
+    }
+}

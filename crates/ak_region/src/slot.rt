@@ -1,0 +1,159 @@
+ghost use Rattle.std.specs.Prelude.{◌≡◌, ◌≤◌, ◌^◌, ◌<◌, IfOk, OnErr, option_copied};
+ghost use Rattle.ak_address.specs.Unique.{UniqueModel};
+ghost use Rattle.ak_member.specs.Standing.{Standings};
+ghost use Rattle.ak_region.specs.Slot.{untold, receives, other_home, can_flush, at_home, host_answer, after_host, begun, gives_up, handed_off, without_stranger};
+
+use ak_address::Unique;
+use ak_member::Members;
+use std::alloc::{AllocError, Global};
+use std::marker::Model;
+
+/// What came of the order to host a shard.
+#[derive(Clone, Copy, Debug, PartialEq, Eq)]
+pub enum Hosting {
+    /// The node hosts the shard from now on.
+    New,
+    /// The node hosts it with that number already.
+    Again,
+    /// Nothing: the order is an old one.
+    Ignored,
+}
+
+// What a node knows of one shard: the number with which it hosts it, the greatest allocation number that it was told, whether
+// the shard is held, and its home as far as it is known.
+#[derive(Drop)]
+pub(crate) struct Slot {
+    pub(crate) hosted: Option<u64>,
+    pub(crate) mark: u64,
+    pub(crate) held: bool,
+    pub(crate) home: Option<Unique>,
+}
+
+impl Model for Slot {
+    ghost use Rattle.ak_region.specs.Shards.{ShardSlot, coded_slot, IsSlot};
+
+    ghost Value = { ShardSlot };
+
+    ghost coded = { coded_slot };
+
+    ghost view = { λ s. record { hosted = s.hosted; mark = s.mark; held = s.held; home = s.home } };
+
+    ghost invariant = { λ s. IsSlot (record { hosted = s.hosted; mark = s.mark; held = s.held; home = s.home }) };
+}
+
+impl Slot {
+    // Nothing was told of the shard yet.
+    pub(crate) fn untold() -> Slot
+        ensures { result ≡ untold }
+    {
+        Slot {
+            hosted: None,
+            mark: 0,
+            held: false,
+            home: None,
+        }
+    }
+
+    // Whether messages to the shard are delivered here.
+    pub(crate) fn receives(&self) -> bool
+        ensures { result ≡ receives self.now }
+    {
+        self.hosted.is_some() && !self.held
+    }
+
+    // The other node to which messages are forwarded, where there is one.
+    pub(crate) fn other_home(&self, me: &Unique) -> Option<&Unique>
+        ensures { option_copied result ≡ other_home me.now self.now }
+    {
+        match &self.home {
+            Some(home) => {
+                if self.held || home.compare(me).is_eq() {
+                    return None;
+                }
+                Some(home)
+            }
+            None => None,
+        }
+    }
+
+    // Whether messages that wait for the shard may go.
+    pub(crate) fn can_flush(&self, me: &Unique) -> bool
+        ensures { result ≡ can_flush me.now self.now }
+    {
+        self.receives() || self.other_home(me).is_some()
+    }
+
+    // The home is known, and the hold ends.
+    pub(crate) fn set_home(&mut self, home: Unique)
+        ensures { self.new ≡ at_home home self.old }
+    {
+        self.home = Some(home);
+        self.held = false;
+    }
+
+    // Hosts the shard where the number is new.
+    pub(crate) fn host(
+        &mut self,
+        alloc: Global,
+        me: &Unique,
+        number: u64,
+    ) -> Result<Hosting, AllocError>
+        ensures answer { IfOk result (λ hosting. hosting ≡ host_answer number self.old) }
+        ensures after { IfOk result (λ hosting. self.new ≡ after_host me.now number hosting self.old) }
+        ensures err { OnErr result (self.new ≡ self.old) }
+    {
+        match self.hosted {
+            Some(hosted) => {
+                if hosted == number {
+                    return Ok(Hosting::Again);
+                }
+                return Ok(Hosting::Ignored);
+            }
+            None => {}
+        }
+        if number <= self.mark {
+            return Ok(Hosting::Ignored);
+        }
+        let home = me.copy(alloc)?;
+        self.hosted = Some(number);
+        self.mark = number;
+        self.held = false;
+        self.home = Some(home);
+        Ok(Hosting::New)
+    }
+
+    // The shard is held, and its home is forgotten.
+    pub(crate) fn begin(&mut self)
+        ensures { self.new ≡ begun self.old }
+    {
+        self.held = true;
+        self.home = None;
+    }
+
+    // Hands the shard off, with its number; whether the node hosted it until now.
+    pub(crate) fn hand_off(&mut self, number: u64) -> bool
+        ensures gone { result ≡ gives_up number self.old }
+        ensures after { self.new ≡ handed_off number self.old }
+    {
+        if number < self.mark {
+            return false;
+        }
+        self.mark = number;
+        let gone = self.hosted.is_some();
+        self.hosted = None;
+        gone
+    }
+
+    // A home that is no member is forgotten.
+    pub(crate) fn forget(&mut self, members: &Members)
+        ensures { self.new ≡ without_stranger members.now self.old }
+    {
+        let is_stranger = match &self.home {
+            Some(home) => members.get(home).is_none(),
+            None => false,
+        };
+        if is_stranger {
+            self.home = None;
+        }
+    }
+}

@@ -1,0 +1,12 @@
+//! Which shard an entity belongs to, and what a node reports of a shard.
+#![tactic(auto)]
+
+mod laws;
+mod report;
+mod shard;
+#[cfg(test)]
+mod tests;
+
+pub use laws::hashes_go_on;
+pub use report::Report;
+pub use shard::shard_of;
