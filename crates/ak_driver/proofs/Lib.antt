@@ -5,6 +5,8 @@ pub mod OneReplay
 pub mod PromiseLemmas
 pub mod ReplayLemmas
 pub mod ReplayLoop
+pub mod RunLemmas
 pub mod SomeReplay
 pub mod StatusLemmas
+pub mod WordsLemmas
 pub mod WorkedTexts

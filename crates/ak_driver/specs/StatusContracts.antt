@@ -1,5 +1,5 @@
 -- Words of how a run ends.
-use Rattle.std.specs.Prelude.{◌≡◌, ◌⊎◌, List, ℕ, [], ◌∷◌, ◌++◌, Option, codes}
+use Rattle.std.specs.Prelude.{◌≡◌, ◌≢◌, ◌⊎◌, List, ℕ, [], ◌∷◌, ◌++◌, Option, codes}
 use Rattle.std.specs.Io.KnownBytes.{Appends}
 use Rattle.ak_outside.specs.Outside.{Rose, AppendsPrefix}
 use Rattle.ak_outside.specs.declared.status.Status.{Status}
@@ -35,3 +35,9 @@ usage_line = codes "error 2 usage" ++ 10 ∷ []
 abbrev pub Written : Status → List ℕ → Status → ℕ → ℕ → Option (List ℕ) → Option (List ℕ) → Type 0
 Written status text answer w0 w1 old new =
     ((answer ≡ status) × (w1 ≡ w0) × Appends old new text) ⊎ ((answer ≡ Write) × Rose w0 w1 × AppendsPrefix old new text)
+
+-- These words, other than the one that asks for a replay, ended so: the line on usage was written; or the words themselves, of
+-- which there are some, found no memory, and the line on memory was written; or the sink failed on the way.
+abbrev pub RefusesWords : List (List ℕ) → Status → ℕ → ℕ → Option (List ℕ) → Option (List ℕ) → Type 0
+RefusesWords words answer w0 w1 old new =
+    Written Usage usage_line answer w0 w1 old new ⊎ ((words ≢ []) × Written Memory memory_line answer w0 w1 old new)

@@ -1,22 +1,28 @@
-//! The program `akka`: what its words ask for, over any source and sink.
+//! The program `akka`: what its words ask for, over any command line, source and sink, and the exit status.
 #![tactic(auto)]
 
 mod input;
 mod laws;
 mod replay;
+mod words;
 
 ghost use Rattle.std.specs.Prelude.{◌≡◌, ◌≤◌, ◌↔◌, ℕ, List, Some, IfSome, IsTrue, codes};
+ghost use Rattle.std.specs.Process.{exit_status};
+ghost use Rattle.ak_outside.specs.Codes.{exit_code};
 ghost use Rattle.ak_outside.specs.Outside.{Rose};
 ghost use Rattle.ak_driver.specs.ReplayPromise.{Promises, EndsSource, IsCompleted};
-ghost use Rattle.ak_driver.specs.StatusContracts.{AsksReplay, ReplayCause, Written, memory_line, usage_line};
+ghost use Rattle.ak_driver.specs.StatusContracts.{AsksReplay, ReplayCause, Written, RefusesWords, usage_line};
+ghost use Rattle.ak_driver.specs.WordsContracts.{words_of};
 
 use ak_address::Text;
 pub use ak_outside::Status;
-use ak_outside::{Sink, Source};
+use ak_outside::{Arguments, Sink, Source};
 pub use laws::{replays_are_determined, replays_reach_runs, worked_schedules};
 pub use replay::run_replay;
 use replay::written;
 use std::alloc::Global;
+use std::process::ExitCode;
+pub use words::collect_words;
 
 // The one word is `replay`.
 fn is_replay(words: &[Text]) -> bool
@@ -34,12 +40,8 @@ fn is_name(word: &Text) -> bool
     word.bytes() == b"replay".as_slice()
 }
 
-/// Does what the words after the program's name ask for: `replay` alone replays the schedule in the input. Any other
-/// words take no memory, read nothing, and answer `Usage` after one line that says so, or `Write` where the sink failed.
-///
-/// Where neither the input nor the output fails, a schedule whose lines are all accepted gives `Done` and its whole
-/// text, and one with a refused line gives `Schedule` and its whole text, unless memory ends.
-pub fn run<S: Source, W: Sink>(
+// Does what the words after the program's name ask for. Other words than `replay` alone take no memory, and nothing is read.
+fn run_words<S: Source, W: Sink>(
     alloc: Global,
     words: &[Text],
     input: &mut S,
@@ -61,13 +63,40 @@ pub fn run<S: Source, W: Sink>(
     written(output, b"error 2 usage\n", Status::Usage)
 }
 
-/// Answers that there was no memory for the words themselves: `Memory` after one line that says so, or `Write` where
-/// the sink failed.
-pub fn run_without_words<W: Sink>(output: &mut W) -> Status
-    ensures count { W.faults output.old ≤ W.faults output.new }
-    ensures written { Written Status.Memory memory_line result (W.faults output.old) (W.faults output.new) (W.written output.old) (W.written output.new) }
+/// Does what the words after the program's name ask for: `replay` alone replays the schedule in the input. Any other
+/// words read nothing, and answer `Usage` after one line that says so, or `Write` where the sink failed. Where there is no
+/// memory for the words themselves the answer is `Memory` after one line that says so, or `Write`; a program started
+/// without words needs none for them.
+///
+/// Where neither the input nor the output fails, a schedule whose lines are all accepted gives `Done` and its whole
+/// text, and one with a refused line gives `Schedule` and its whole text, unless memory ends.
+pub fn run<A: Arguments, S: Source, W: Sink>(
+    alloc: Global,
+    arguments: &A,
+    input: &mut S,
+    output: &mut W,
+) -> Status
+    ensures read { S.faults input.old ≤ S.faults input.new }
+    ensures written { W.faults output.old ≤ W.faults output.new }
+    ensures replay { IfSome (A.arguments arguments.now) (λ all. AsksReplay (words_of all) → ReplayCause result (S.faults input.old) (S.faults input.new) (W.faults output.old) (W.faults output.new)) }
+    ensures promise { IfSome (A.arguments arguments.now) (λ all. AsksReplay (words_of all) → Promises (S.remaining input.old) result (W.written output.old) (W.written output.new)) }
+    ensures end { IfSome (A.arguments arguments.now) (λ all. AsksReplay (words_of all) → IfSome (S.remaining input.old) (λ bytes. EndsSource result (S.remaining input.new))) }
+    ensures complete { IfSome (A.arguments arguments.now) (λ all. AsksReplay (words_of all) → (bytes : List ℕ) → S.remaining input.old ≡ Some bytes → (Rose (S.faults input.old) (S.faults input.new) → ⊥) → (Rose (W.faults output.old) (W.faults output.new) → ⊥)
+        → IsCompleted bytes result (W.written output.old) (W.written output.new)) }
+    ensures usage { IfSome (A.arguments arguments.now) (λ all. (AsksReplay (words_of all) → ⊥) → RefusesWords (words_of all) result (W.faults output.old) (W.faults output.new) (W.written output.old) (W.written output.new)) }
+    ensures unread { IfSome (A.arguments arguments.now) (λ all. (AsksReplay (words_of all) → ⊥) → input.new ≡ input.old) }
 {
-    written(output, b"error 7 memory\n", Status::Memory)
+    match collect_words(alloc, arguments) {
+        Ok(words) => run_words(alloc, &words, input, output),
+        Err(_) => written(output, b"error 7 memory\n", Status::Memory),
+    }
+}
+
+/// The exit status of the process, 0 to 9 in the order of the statuses.
+pub fn exit(status: Status) -> ExitCode
+    ensures { exit_status result ≡ exit_code status }
+{
+    ExitCode::from(status.code())
 }
 
 #[cfg(test)]

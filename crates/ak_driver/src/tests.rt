@@ -1,7 +1,7 @@
-use super::run;
-use ak_address::Text;
-use ak_outside::{MemorySink, MemorySource, Status};
+use super::{collect_words, exit, run};
+use ak_outside::{MemoryArguments, MemorySink, MemorySource, Status};
 use std::alloc::{AllocError, Global};
+use std::process::ExitCode;
 use std::test::Fail;
 
 const HEADERS: &[u8] =
@@ -9,22 +9,19 @@ const HEADERS: &[u8] =
 
 const SUMMARY: &[u8] = b"steps 0\npackets 0\nhistory 0\nmargin kept\ndoubles none\n";
 
-// Runs with these words over an input and an output whose listed calls fail, and answers the status, the bytes that
+// Runs with these arguments over an input and an output whose listed calls fail, and answers the status, the bytes that
 // were written, and how often the input and the output failed.
 fn outcome(
     alloc: Global,
-    words: &[&[u8]],
+    arguments: &[&[u8]],
     text: &[u8],
     failing_reads: &[u64],
     failing_writes: &[u64],
 ) -> Result<(Status, Vec<u8>, u64, u64), AllocError> {
-    let mut copies = Vec::new(alloc);
-    for word in words {
-        copies.push(Text::from_bytes(alloc, word)?)?;
-    }
+    let arguments = MemoryArguments::new(arguments);
     let mut input = MemorySource::new(alloc, text, 7, failing_reads)?;
     let mut output = MemorySink::new(alloc, failing_writes)?;
-    let status = run(alloc, &copies, &mut input, &mut output);
+    let status = run(alloc, &arguments, &mut input, &mut output);
     let written = output.bytes().to_vec(alloc)?;
     Ok((status, written, input.faults(), output.faults()))
 }
@@ -33,9 +30,16 @@ fn outcome(
 #[test]
 fn other_words_are_refused(rt: HostRuntime) -> Result<(), Fail> {
     let alloc = rt.alloc();
-    let others: [&[&[u8]]; 3] = [&[], &[b"watch"], &[b"replay", b"extra"]];
-    for words in &others {
-        let (status, written, reads, writes) = outcome(alloc, *words, b"", &[1], &[])?;
+    let others: [&[&[u8]]; 6] = [
+        &[],
+        &[b"replay"],
+        &[b"akka"],
+        &[b"akka", b"watch"],
+        &[b"akka", b"replay", b"extra"],
+        &[b"akka", b"replay", b""],
+    ];
+    for arguments in &others {
+        let (status, written, reads, writes) = outcome(alloc, *arguments, b"", &[1], &[])?;
         assert_eq!(rt; status, Status::Usage);
         assert_eq!(rt; written.as_slice(), b"error 2 usage\n".as_slice());
         assert_eq!(rt; (reads, writes), (0, 0));
@@ -43,11 +47,34 @@ fn other_words_are_refused(rt: HostRuntime) -> Result<(), Fail> {
     Ok(())
 }
 
+// Each word is whole, also one that is longer than the first buffers.
+#[test]
+fn words_are_whole(rt: HostRuntime) -> Result<(), Fail> {
+    let alloc = rt.alloc();
+    let long = vec![in alloc; b'x'; 1000]?;
+    let all: [&[u8]; 4] = [b"akka", b"replay", &long, b""];
+    let words = collect_words(alloc, &MemoryArguments::new(&all))?;
+    assert_eq!(rt; words.len(), 3);
+    for (index, word) in words.iter().enumerate() {
+        assert_eq!(rt;
+            Some(word.bytes()),
+            all.get(index.saturating_add(1)).copied()
+        );
+    }
+    Ok(())
+}
+
+#[test]
+fn statuses_are_exit_statuses(rt: HostRuntime) {
+    assert_eq!(rt; exit(Status::Done), ExitCode::SUCCESS);
+    assert_eq!(rt; exit(Status::Read), ExitCode::from(5));
+}
+
 // A failed read or write is the last; a schedule's text is printed to its end, or to the refused line.
 #[test]
 fn replays_end(rt: HostRuntime) -> Result<(), Fail> {
     let alloc = rt.alloc();
-    let words: [&[u8]; 1] = [b"replay"];
+    let words: [&[u8]; 2] = [b"akka", b"replay"];
 
     let (status, written, reads, _) = outcome(alloc, &words, HEADERS, &[1, 2], &[])?;
     assert_eq!(rt; status, Status::Read);
@@ -85,7 +112,7 @@ fn schedule(alloc: Global, events: &[u8]) -> Result<Vec<u8>, AllocError> {
 #[test]
 fn replays_print_each_line_once(rt: HostRuntime) -> Result<(), Fail> {
     let alloc = rt.alloc();
-    let words: [&[u8]; 1] = [b"replay"];
+    let words: [&[u8]; 2] = [b"akka", b"replay"];
     let founding: &[u8] =
         b"1 start a:1#1\n2 found a:1#1\n  update 1 joined a:1#1\n  view a:1#1=1 | a:1#1 joining | -\nsteps 2\npackets 0\nhistory 1\nmargin kept\ndoubles none\n";
     let table: [(&[u8], Status, &[u8]); 6] = [
@@ -121,7 +148,7 @@ fn replays_print_each_line_once(rt: HostRuntime) -> Result<(), Fail> {
 #[test]
 fn a_failed_write_leaves_a_prefix(rt: HostRuntime) -> Result<(), Fail> {
     let alloc = rt.alloc();
-    let words: [&[u8]; 1] = [b"replay"];
+    let words: [&[u8]; 2] = [b"akka", b"replay"];
     let mut text = schedule(alloc, b"start a:1#1\n")?;
     for _ in 0..5000 {
         text.extend_from_slice(b"join a:1#1 a:1\n")?;
@@ -156,7 +183,7 @@ fn long_line(alloc: Global, before: &[u8], last: u8) -> Result<Vec<u8>, AllocErr
 #[test]
 fn a_long_line_ends_the_reading(rt: HostRuntime) -> Result<(), Fail> {
     let alloc = rt.alloc();
-    let words: [&[u8]; 1] = [b"replay"];
+    let words: [&[u8]; 2] = [b"akka", b"replay"];
     let running = schedule(alloc, b"start a:1#1\nfound a:1#1\n")?;
     let table: [(&[u8], u8, Status, &[u8], u64); 6] = [
         (b"", b'\r', Status::Read, b"error 5 read\n", 1),
@@ -186,7 +213,7 @@ fn a_long_line_ends_the_reading(rt: HostRuntime) -> Result<(), Fail> {
 #[test]
 fn a_failed_read_is_the_last(rt: HostRuntime) -> Result<(), Fail> {
     let alloc = rt.alloc();
-    let words: [&[u8]; 1] = [b"replay"];
+    let words: [&[u8]; 2] = [b"akka", b"replay"];
     let refused = schedule(alloc, b"start a:1#1\ntock a:1#1\n")?;
     let texts: [(&[u8], Status, &[u8]); 2] = [
         (HEADERS, Status::Done, SUMMARY),
@@ -223,7 +250,7 @@ fn a_failed_read_is_the_last(rt: HostRuntime) -> Result<(), Fail> {
 #[test]
 fn all_steps_stand_before_a_refusal(rt: HostRuntime) -> Result<(), Fail> {
     let alloc = rt.alloc();
-    let words: [&[u8]; 1] = [b"replay"];
+    let words: [&[u8]; 2] = [b"akka", b"replay"];
     let mut text = schedule(alloc, b"start a:1#1\n")?;
     for _ in 0..5000 {
         text.extend_from_slice(b"join a:1#1 a:1\n")?;

@@ -4,3 +4,4 @@ pub mod Writes
 pub mod Tries
 pub mod Memory
 pub mod Codes
+pub mod Arguments

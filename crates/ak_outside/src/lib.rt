@@ -4,6 +4,7 @@
 //! trusted and no bytes are known.
 #![tactic(auto)]
 
+mod arguments;
 mod memory;
 mod reader;
 mod sink;
@@ -16,6 +17,7 @@ mod stream_tests;
 mod tries;
 mod writer;
 
+pub use arguments::{Arguments, MemoryArguments, StdArguments};
 pub use memory::{MemorySink, MemorySource};
 pub use reader::ReaderSource;
 pub use sink::{Sink, Wrote, write_all};

@@ -61,8 +61,11 @@ impl Source for SteadySource {
 pub struct SteadySink {}
 
 impl SteadySink {
-    /// A sink that has written nothing.
-    pub fn new() -> SteadySink {
+    /// A sink that has written nothing. Its bytes are not known, and it has not failed.
+    pub fn new() -> SteadySink
+        ensures bytes { ⟦<SteadySink as Sink>⟧.written result ≡ None }
+        ensures faults { ⟦<SteadySink as Sink>⟧.faults result ≡ 0 }
+    {
         SteadySink {}
     }
 }

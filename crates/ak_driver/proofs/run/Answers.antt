@@ -1,0 +1,27 @@
+use Rattle.std.proofs.Common.{◌≡◌, ℕ, List, subst, sym, ap, ◌∙◌, rules}
+use Rattle.std.specs.Prelude.{IfSome}
+use Rattle.ak_driver.specs.WordsContracts.{words_of}
+use Rattle.ak_driver.proofs.PromiseLemmas.{no_memory}
+use Rattle.ak_driver.proofs.RunLemmas.{where_asked, where_not_asked, always, refused, not_held}
+use Rattle.ak_driver.proofs.run.Goals as goal
+
+pub returns-in-Ok-clause-complete : goal.returns-in-Ok-clause-complete
+returns-in-Ok-clause-complete g c =
+    where_asked (g.A.Arguments.arguments c.args.arguments.now) c.deref.result.now _ (search rules) c.run_words.ensures.complete
+
+pub returns-in-Ok-clause-usage : goal.returns-in-Ok-clause-usage
+returns-in-Ok-clause-usage g c =
+    refused (g.A.Arguments.arguments c.args.arguments.now) c.deref.result.now c.run_words.result _ _ _ _ (search rules) c.run_words.ensures.usage
+
+pub returns-in-Ok-clause-unread : goal.returns-in-Ok-clause-unread
+returns-in-Ok-clause-unread g c =
+    where_not_asked (g.A.Arguments.arguments c.args.arguments.now) c.deref.result.now _ (search rules) c.run_words.ensures.unread
+
+pub returns-in-Err-clause-promise : goal.returns-in-Err-clause-promise
+returns-in-Err-clause-promise g c =
+    always (g.A.Arguments.arguments c.args.arguments.now) _
+    (no_memory (g.S.Source.remaining c.args.input.now) c.written.result _ _ (g.W.Sink.written c.args.output.now) (g.W.Sink.written c.written.new.output) c.written.ensures.written)
+
+pub returns-in-Err-clause-usage : goal.returns-in-Err-clause-usage
+returns-in-Err-clause-usage g c =
+    not_held (g.A.Arguments.arguments c.args.arguments.now) c.written.result _ _ _ _ (search rules) c.written.ensures.written
