@@ -217,6 +217,28 @@ fn runs_so(alloc: Global, turns: &[(Turn, Phase, u64, u64, &'static [u8])]) -> R
     Ok(true)
 }
 
+// Whether a view of these standings has this oldest member, and waits for these.
+fn waits_so(
+    alloc: Global,
+    standings: &[Standing],
+    oldest: u8,
+    needed: &[u8],
+) -> Result<bool, Fail> {
+    let mut settled = Settled::none(alloc);
+    if !note(alloc, &mut settled, 2, standings)? {
+        return Ok(false);
+    }
+    let them = settled.needed(alloc, MARGIN)?;
+    Ok(letter(settled.candidate()) == oldest && is_of(&them, needed))
+}
+
+#[test]
+fn the_oldest_and_the_needed(rt: HostRuntime) -> Result<(), Fail> {
+    assert!(rt; waits_so(rt.alloc(), &[TOMBSTONE, UP, UP], b'c', b"bcd")?);
+    assert!(rt; waits_so(rt.alloc(), &[STOPPED, UP, UP], b'c', b"cd")?);
+    Ok(())
+}
+
 #[test]
 fn promise_cases(rt: HostRuntime) -> Result<(), Fail> {
     let turns: [(Turn, Phase, u64, u64, &'static [u8]); 12] = [
