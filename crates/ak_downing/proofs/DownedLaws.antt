@@ -25,7 +25,7 @@ module _ (test : UniqueModel → Bool) where
   later : (pair : UniqueModel × (Status × ℕ)) (pairs : List (UniqueModel × (Status × ℕ))) (x : Effect) → GoesDown pairs x → GoesDown (pair ∷ pairs) x
   later pair pairs x g = (g.0, contains_rest pair g.0 pairs g.1, g.2, g.3, g.4)
 
-  downed_has : (pairs : List (UniqueModel × (Status × ℕ))) (x : Effect) → Contains (all_downed test pairs) x → GoesDown pairs x
+  pub downed_has : (pairs : List (UniqueModel × (Status × ℕ))) (x : Effect) → Contains (all_downed test pairs) x → GoesDown pairs x
   downed_has [] x there = absurd (contains_nothing x there)
   downed_has (pair ∷ pairs) x there = next (test pair.0) (is_down pair.1.0) refl refl (λ h. downed_has pairs x h) there
     where

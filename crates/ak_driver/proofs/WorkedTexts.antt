@@ -2,12 +2,13 @@
 use Rattle.std.proofs.Common.{◌≡◌, ℕ, ◌+◌, ◌^◌, ◌<◌, ◌≤◌, List, [], ◌∷◌, ◌++◌, length, refl, sym, ap, ◌∙◌, inl, inr, arith, lit<, lit≤, Some, Ok, Bool, true, false, not, ◌&&◌, zero, suc, ◌≢◌, get_or, unwrap_or, is_some, if◌then◌else◌}
 use Rattle.std.specs.Prelude.{codes, slice_get}
 use Rattle.std.specs.Fmt.{digits, decimal}
-use Rattle.std.specs.Prelude.{nat_le, map as list_map}
+use Rattle.std.specs.Prelude.{nat_le, nat_lt, map as list_map}
 use Rattle.std.specs.List.{AllPairs, list_all, concat}
 use Rattle.std.specs.FinMap as map
 use Rattle.ak_address.specs.Uniques.{no_one, with_one}
-use Rattle.ak_address.proofs.TableLaws.{get-empty, entries-insert-empty}
+use Rattle.ak_address.proofs.TableLaws.{get-empty, get-insert_here, entries-insert-empty}
 use Rattle.ak_address.specs.Table.{value_with}
+use Rattle.ak_clock.specs.declared.version.TheConstants.{BOUND}
 use Rattle.ak_clock.specs.Version.{count, covers, relation_by}
 use Rattle.ak_address.specs.Unique.{AddressModel, UniqueModel, IsAddress, IsUnique}
 use Rattle.ak_address.proofs.SpellingLemmas.{number_text_spells, address_text_spells}
@@ -26,14 +27,21 @@ use Rattle.ak_member.specs.declared.effect.Effect.TheVariants.{Joined}
 use Rattle.ak_member.specs.declared.standing.Standing.{Standing}
 use Rattle.ak_member.specs.declared.standing.Standing.TheVariants.{Member}
 use Rattle.ak_member.specs.declared.status.Status.TheVariants.{Joining}
-use Rattle.ak_member.specs.Standing.{nobody, merged_standing, member_pairs, tombstone_pairs}
+use Rattle.ak_member.specs.Standing.{nobody, merged_standing, member_pairs, tombstone_pairs, is_gone}
+use Rattle.ak_member.specs.Age.{counted_pairs}
+use Rattle.ak_address.specs.Distinct.{distinct}
 use Rattle.ak_member.specs.View.{View}
 use Rattle.ak_node.specs.declared.node.State.{State}
+use Rattle.ak_settled.specs.Settled.{after_note}
+use Rattle.ak_membership.specs.declared.state.MembershipState.{MembershipState}
+use Rattle.ak_membership.specs.Membership as membership
+use Rattle.ak_membership.specs.Closing.{is_same, is_other, is_noted}
+use Rattle.ak_converge.specs.Convergence.{is_converged}
 use Rattle.ak_wire.specs.declared.action.Action.{Action}
 use Rattle.ak_wire.specs.declared.action.Action as action
 use Rattle.ak_node.specs.declared.node.NodeEvent as event
 use Rattle.ak_gossip.specs.Gossip.{GossipState}
-use Rattle.ak_node.specs.Node.{Outcome, started, nothing, update, closed, step, is_same, is_other}
+use Rattle.ak_node.specs.Node.{Outcome, started, and_then, does, if_so, closes, step}
 use Rattle.ak_world.specs.StepText.{step_text}
 use Rattle.ak_report.specs.ActionText.{listed_text, count_text, member_text, tombstone_text, view_text, item}
 use Rattle.ak_world.specs.World.{WorldState, Done, empty_world, happens, stepped}
@@ -255,8 +263,16 @@ founders_view standing = record { standings = map.insert nobody a_1 standing; ro
 abbrev founders_gossip : GossipState
 founders_gossip = record { version = map.insert map.empty a_1 1; view = founders_view joining; seen = with_one no_one a_1 }
 
+-- the founder's membership, by the number of its update and by what it knows of itself
+abbrev founders_membership : ℕ → Standing → MembershipState
+founders_membership number standing =
+    record (membership.started a_1 settled) {
+      founder = true;
+      gossip = record founders_gossip { version = map.insert map.empty a_1 number; view = founders_view standing };
+    }
+
 abbrev founder_a : State
-founder_a = record node_a { steps = 1; founder = true; gossip = founders_gossip }
+founder_a = record node_a { membership = record (founders_membership 1 joining) { shown = map.insert map.empty a_1 1 }; steps = 1 }
 
 abbrev founding : List Action
 founding = action.TheVariants.Update 1 (Joined a_1 ∷ []) ∷ action.TheVariants.View ∷ []
@@ -281,21 +297,43 @@ new_there : value_with merged_standing (map.get nobody a_1) joining ≡ joining
 new_there = ap (λ o. value_with merged_standing o joining) (get-empty a_1)
 
 abbrev updated_by : ℕ → Standing → Outcome
-updated_by number standing = (
-  record node_a {
-    steps = 1;
-    founder = true;
-    gossip = record founders_gossip { version = map.insert map.empty a_1 number; view = founders_view standing };
-  },
-  action.TheVariants.Update number (Joined a_1 ∷ []) ∷ [],
-)
+updated_by number standing = (record node_a { membership = founders_membership number standing; steps = 1 }, action.TheVariants.Update number (Joined a_1 ∷ []) ∷ [])
+
+-- the founder is not gone, and its view is not settled
+not_gone : membership.is_gone (founders_membership 1 joining) ≡ false
+not_gone = ap is_gone (get-insert_here nobody a_1 joining)
+
+and_false : (b : Bool) → (b && false) ≡ false
+and_false true = refl
+and_false false = refl
+
+not_settled : is_noted (founders_membership 1 joining) ≡ false
+not_settled =
+    let converged = is_converged (founders_view joining) (with_one no_one a_1) in
+    ap (λ known. converged && nat_le 2 (distinct (list_map (λ (pair : UniqueModel × ℕ). pair.0.address) (counted_pairs (member_pairs known)))) && true) (entries-insert-empty a_1 joining)
+    ∙ ap (λ b. b && true) (and_false converged)
+
+-- what the closing makes of it
+abbrev closed_by : Bool → Bool → Bool → Outcome
+closed_by viewed gone noted =
+    let m = founders_membership 1 joining in (
+      record node_a {
+        membership = record m { shown = m.gossip.version; settled = if not gone && noted then after_note m.gossip.version m.gossip.view.standings m.settled else m.settled };
+        runs = not gone;
+        steps = 1;
+      },
+      action.TheVariants.Update 1 (Joined a_1 ∷ []) ∷ (if_so viewed action.TheVariants.View ++ if_so gone action.TheVariants.Stopped ++ if_so (not gone && noted) action.TheVariants.Settled),
+    )
 
 founds : step event.TheVariants.Found node_a ≡ (founder_a, founding)
 founds =
-    ap (λ o. closed node_a (if is_some o then nothing (record node_a { steps = 1 }) else update (Joined a_1 ∷ []) (record node_a { steps = 1; founder = true }))) (get-empty a_1)
-    ∙ ap (λ number. closed node_a (updated_by number (value_with merged_standing (map.get nobody a_1) joining))) none_counted
-    ∙ ap (λ standing. closed node_a (updated_by 1 standing)) new_there
-    ∙ ap (λ b. if b then (founder_a, founding) else updated_by 1 joining) other
+    let n : State = record node_a { steps = 1 } in
+    let m : MembershipState = record n.membership { founder = true } in
+    ap (λ o. and_then closes (does n (if is_some o then membership.unchanged n.membership else membership.update (Joined a_1 ∷ []) m))) (get-empty a_1)
+    ∙ ap (λ o. and_then closes (does n (if nat_lt (unwrap_or o 0) BOUND then membership.made (Joined a_1 ∷ []) m else membership.unchanged m))) (get-empty a_1)
+    ∙ ap (λ number. and_then closes (updated_by number (value_with merged_standing (map.get nobody a_1) joining))) none_counted
+    ∙ ap (λ standing. and_then closes (updated_by 1 standing)) new_there
+    ∙ (λ i. closed_by (other i) (not_gone i) (not_settled i))
 
 abbrev founded : Done
 founded = stepped 0 (founder_a, founding) (record both_started { founded = true })

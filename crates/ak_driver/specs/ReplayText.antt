@@ -8,7 +8,7 @@ use Rattle.ak_schedule.specs.Schedule.{SpellsEvent}
 use Rattle.ak_schedule.specs.Draft.{first_draft, ReadsHeader}
 use Rattle.ak_schedule.specs.declared.event.Event.{Event}
 use Rattle.ak_world.specs.declared.world.Reason.{Reason}
-use Rattle.ak_world.specs.declared.world.Reason.TheVariants.{Unlisted, UniqueUsed, AddressInUse, SecondFound, UnknownNode, NoPacket, TooManyStarts, NotBuilt}
+use Rattle.ak_world.specs.declared.world.Reason.TheVariants.{Unlisted, UniqueUsed, AddressInUse, SecondFound, UnknownNode, NodeStopped, NoPacket, TooManyPackets, TooManyStarts, NotBuilt}
 use Rattle.ak_driver.specs.declared.replay.Code.{Code}
 use Rattle.ak_driver.specs.declared.replay.Code.TheVariants.{Malformed, BadHeader, PastLimit, Invalid}
 use Rattle.ak_world.specs.World.{WorldState, Done, empty_world, happens}
@@ -45,7 +45,9 @@ reason_text UniqueUsed = codes "S4"
 reason_text AddressInUse = codes "S5"
 reason_text SecondFound = codes "S6"
 reason_text UnknownNode = codes "S7"
+reason_text NodeStopped = codes "S8"
 reason_text (NoPacket sent) = codes "S9"
+reason_text TooManyPackets = codes "S10"
 reason_text TooManyStarts = codes "S11"
 reason_text NotBuilt = codes "S13"
 

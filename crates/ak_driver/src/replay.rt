@@ -61,7 +61,9 @@ fn reason_text(why: Reason) -> &'static [u8]
         Reason::AddressInUse => b"S5",
         Reason::SecondFound => b"S6",
         Reason::UnknownNode => b"S7",
+        Reason::NodeStopped => b"S8",
         Reason::NoPacket { sent: _ } => b"S9",
+        Reason::TooManyPackets => b"S10",
         Reason::TooManyStarts => b"S11",
         Reason::NotBuilt => b"S13",
     }

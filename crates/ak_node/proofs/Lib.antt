@@ -1,2 +1,4 @@
+pub mod ChangeLemmas
 pub mod NodeLemmas
+pub mod SendLemmas
 pub mod StepChanges

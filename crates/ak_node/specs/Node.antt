@@ -1,42 +1,52 @@
--- A node of the cluster: its state, and what one event makes of it (Akka's Cluster Specification, "Membership Lifecycle",
--- "Joining"; the messages and their order are this project's choice).
-use Rattle.std.specs.Prelude.{ℕ, ◌+◌, Bool, true, false, ◌&&◌, ◌||◌, not, nat_le, ◌==◌, List, [], ◌∷◌, ◌++◌, Some, None, Result, Ok, Err, if◌then◌else◌}
-use Rattle.std.specs.FinMap.{FinMap}
-use Rattle.std.specs.FinMap as finmap
-use Rattle.ak_address.specs.Uniques.{has}
-use Rattle.std.specs.List.{list_any}
+-- A node of the cluster: its state, and what one event makes of it (Akka's Cluster Specification, "Membership Lifecycle";
+-- the messages and their order are this project's choice). What it knows of the cluster is its membership.
+use Rattle.std.specs.Prelude.{ℕ, ◌+◌, Bool, true, false, ◌&&◌, ◌||◌, not, ◌==◌, List, [], ◌∷◌, ◌++◌, Option, Some, None, Result, Ok, Err, map, if◌then◌else◌}
 use Rattle.std.specs.Ordering.{is_eq}
-use Rattle.ak_address.specs.Unique.{AddressModel, UniqueModel, address_cmp, unique_cmp}
-use Rattle.ak_clock.specs.Version.{count, relation}
-use Rattle.ak_clock.specs.declared.version.Relation as clock
+use Rattle.ak_address.specs.Unique.{AddressModel, UniqueModel, address_cmp}
 use Rattle.ak_member.specs.declared.effect.Effect.{Effect}
-use Rattle.ak_member.specs.declared.effect.Effect.TheVariants.{Joined}
-use Rattle.ak_member.specs.Standing.{Standings, members_of}
-use Rattle.ak_member.specs.Standing as standing
-use Rattle.ak_gossip.specs.declared.gossip.Received as received
-use Rattle.ak_gossip.specs.declared.gossip.GossipFault as fault
+use Rattle.ak_member.specs.declared.status.Status.{Status}
+use Rattle.ak_member.specs.declared.status.Status.TheVariants as status
+use Rattle.ak_member.specs.Standing.{members_of}
+use Rattle.ak_member.specs.Age.{counted_pairs}
+use Rattle.ak_gossip.specs.Gossip.{GossipState}
+use Rattle.ak_schedule.specs.Settings.{SettingsModel}
+use Rattle.ak_membership.specs.declared.change.Closing.{Closing}
+use Rattle.ak_membership.specs.declared.change.MemberFault.{MemberFault}
+use Rattle.ak_membership.specs.declared.change.MemberFault.TheVariants as fault
+use Rattle.ak_membership.specs.declared.change.Reply.{Reply}
+use Rattle.ak_membership.specs.declared.change.Reply.TheVariants as reply
+use Rattle.ak_membership.specs.Membership as membership
+use Rattle.ak_membership.specs.Membership.{is_member_with}
+use Rattle.ak_membership.specs.Tick as ticks
+use Rattle.ak_membership.specs.Closing as closing
 use Rattle.ak_wire.specs.declared.envelope.Message.{Message}
 use Rattle.ak_wire.specs.declared.envelope.Message as message
 use Rattle.ak_wire.specs.declared.envelope.Envelope.{Envelope}
-use Rattle.ak_schedule.specs.Settings.{SettingsModel, is_listed}
+use Rattle.ak_wire.specs.declared.action.Action.{Action}
+use Rattle.ak_wire.specs.declared.action.Action as action
 use Rattle.ak_node.specs.declared.node.State.{State}
 use Rattle.ak_node.specs.declared.node.NodeEvent.{NodeEvent}
 use Rattle.ak_node.specs.declared.node.NodeEvent as event
-use Rattle.ak_wire.specs.declared.action.Action.{Action}
-use Rattle.ak_wire.specs.declared.action.Action as action
-use Rattle.ak_gossip.specs.Gossip.{GossipState, nothing_known, is_known, updated, receive}
 
 -- a process starts, and knows nothing
 abbrev pub started : UniqueModel → SettingsModel → State
-started me settings = record { me = me; settings = settings; steps = 0; gossip = nothing_known; founder = false; target = None }
+started me settings = record { membership = membership.started me settings; runs = true; steps = 0 }
+
+-- the process that a node is
+abbrev pub me_of : State → UniqueModel
+me_of n = n.membership.me
 
 -- what a node knows: definitions and proofs ask it of a state by this word alone
 abbrev pub known : State → GossipState
-known n = n.gossip
+known n = n.membership.gossip
 
 -- a node is a member where it is one of its own view
 abbrev pub is_member : State → Bool
-is_member n = standing.is_member (known n).view.standings n.me
+is_member n = membership.is_member n.membership
+
+-- its view shows it as Down or as a tombstone
+abbrev pub is_gone : State → Bool
+is_gone n = membership.is_gone n.membership
 
 -- what a rule makes of a state, and what it does
 abbrev pub Outcome : Type 0
@@ -48,109 +58,168 @@ nothing n = (n, [])
 abbrev pub refused : ℕ → State → Outcome
 refused why n = (n, action.TheVariants.Refused why ∷ [])
 
--- a message to one process, and to whichever process is at an address
+-- one rule after another
+abbrev pub and_then : (State → Outcome) → Outcome → Outcome
+and_then next o = ((next o.0).0, o.1 ++ (next o.0).1)
+
+-- a message to one process, to several in their order, and to whichever process is at an address
 abbrev pub to_process : State → UniqueModel → Message → Action
-to_process n to what = action.TheVariants.Send (record { from = n.me; to = to.address; uid = to.uid; message = what })
+to_process n to what = action.TheVariants.Send (record { from = me_of n; to = to.address; uid = to.uid; message = what })
+
+abbrev pub to_each : State → List UniqueModel → Message → List Action
+to_each n [] what = []
+to_each n (to ∷ rest) what = to_process n to what ∷ to_each n rest what
 
 abbrev pub to_address : State → AddressModel → Message → Action
-to_address n to what = action.TheVariants.Send (record { from = n.me; to = to; uid = 0; message = what })
+to_address n to what = action.TheVariants.Send (record { from = me_of n; to = to; uid = 0; message = what })
 
--- the node makes one update, by these effects
-abbrev pub update : List Effect → State → Outcome
-update effects n = (
-  record n { gossip = updated n.me effects (known n) },
-  action.TheVariants.Update (count (known n).version n.me + 1) effects ∷ [],
-)
+-- an update is told by its number and effects
+abbrev pub update_by : Option ℕ → List Effect → List Action
+update_by None effects = []
+update_by (Some number) effects = action.TheVariants.Update number effects ∷ []
 
--- then the node answers with what it knows
-abbrev pub and_sends : (GossipState → Message) → UniqueModel → Outcome → Outcome
-and_sends what to o = (o.0, o.1 ++ to_process o.0 to (what (known o.0)) ∷ [])
+-- the node's membership did this
+abbrev pub does : State → membership.Outcome → Outcome
+does n o = (record n { membership = o.0 }, update_by o.1.number o.1.effects)
 
--- Founding: the node becomes the first member. (A node that was removed learns so from its view; it does nothing.)
+-- whoever asked is answered with what the node knows then
+abbrev pub answer : Reply → UniqueModel → State → List Action
+answer reply.Nothing to n = []
+answer reply.Welcome to n = to_process n to (message.TheVariants.Welcome (known n)) ∷ []
+answer reply.Gossip to n = to_process n to (message.TheVariants.Gossip (known n)) ∷ []
+
+abbrev pub and_answers : Reply → UniqueModel → Outcome → Outcome
+and_answers reply to o = (o.0, o.1 ++ answer reply to o.0)
+
+-- the node's membership did this for who asked
+abbrev pub does_for : UniqueModel → State → membership.Outcome → Outcome
+does_for from n o = and_answers o.1.reply from (does n o)
+
+-- the number of a refusal; that memory ends is none
+abbrev pub number_of : MemberFault → ℕ
+number_of fault.NotUp = 1
+number_of fault.UnknownMember = 2
+number_of fault.NotMember = 3
+number_of fault.Unlisted = 4
+number_of (fault.ForeignCount own theirs) = 5
+number_of (fault.TooManyUniques union) = 6
+number_of fault.NoMemory = 0
+
+-- what the membership answers, or that it refuses
+abbrev pub unless_refused : (membership.Outcome → Outcome) → State → Result membership.Outcome MemberFault → Outcome
+unless_refused next n (Ok o) = next o
+unless_refused next n (Err fault) = refused (number_of fault) n
+
+-- ---- local events
 abbrev pub found : State → Outcome
-found n = if is_known (known n).view.standings n.me then nothing n else update (Joined n.me ∷ []) (record n { founder = true })
+found n = does n (membership.found n.membership)
 
 -- the node asks to join, through an address
 abbrev pub join : AddressModel → State → Outcome
 join target n =
     if is_member n then nothing n
-    else (record n { target = Some target }, to_address n target message.TheVariants.Join ∷ [])
+    else (record n { membership = membership.join target n.membership }, to_address n target message.TheVariants.Join ∷ [])
 
--- another member is at the address of this one
-abbrev pub has_member_beside : UniqueModel → Standings → Bool
-has_member_beside who standings = list_any (λ m. is_eq (address_cmp m.0.address who.address)) (members_of standings)
+abbrev pub leave : UniqueModel → State → Outcome
+leave who n = unless_refused (does n) n (membership.leave who n.membership)
 
--- a view that holds this many processes, members and tombstones together, admits no further one
-abbrev pub most_at_join : ℕ
-most_at_join = 64
+abbrev pub down : UniqueModel → State → Outcome
+down who n = unless_refused (does n) n (membership.down who n.membership)
 
--- A process asks to join. (What happens where another member is at its address comes with downing; no run of a world reaches it.)
+abbrev pub stop : State → Outcome
+stop n = nothing (record n { runs = false })
+
+-- ---- a tick
+-- a node that is no member asks its target again, where it has one
+abbrev pub asks_at : Option AddressModel → State → Outcome
+asks_at None n = nothing n
+asks_at (Some target) n = (n, to_address n target message.TheVariants.Join ∷ [])
+
+abbrev pub is_exiting : Status → Bool
+is_exiting status.Joining = false
+is_exiting status.Up = false
+is_exiting status.Leaving = false
+is_exiting status.Exiting = true
+is_exiting status.Down = false
+
+-- the members that count, in the order of processes
+abbrev pub counted_members : State → List UniqueModel
+counted_members n = map (λ (pair : UniqueModel × ℕ). pair.0) (counted_pairs (members_of (known n).view.standings))
+
+-- a node that exits tells those that count that it stops, and stops
+abbrev pub exits : State → Outcome
+exits n = (record n { runs = false }, to_each n (counted_members n) message.TheVariants.ExitingConfirmed)
+
+-- what follows the update of a tick: nothing where the node is Down now
+abbrev pub goes_on : State → Outcome
+goes_on n =
+    if is_gone n then nothing n
+    else (if is_member_with is_exiting (known n).view.standings (me_of n) then exits n
+    else nothing n)
+
+-- one tick
+abbrev pub tick : State → Outcome
+tick n =
+    if is_member n then and_then goes_on (does n (ticks.tick n.membership))
+    else asks_at n.membership.target n
+
+-- ---- packets
 abbrev pub on_join : UniqueModel → State → Outcome
-on_join from n =
-    if not (is_member n) then refused 3 n
-    else (if not (is_listed n.settings.listed from.address) then refused 4 n
-    else (if standing.is_member (known n).view.standings from then and_sends message.TheVariants.Welcome from (nothing n)
-    else (if is_known (known n).view.standings from then nothing n
-    else (if has_member_beside from (known n).view.standings then nothing n
-    else (if nat_le most_at_join (finmap.len (known n).view.standings) then refused 6 n
-    else and_sends message.TheVariants.Welcome from (update (Joined from ∷ []) n))))))
+on_join from n = unless_refused (does_for from n) n (membership.on_join from n.membership)
 
--- a node that its view shows as Down or as a tombstone is gone; one that its view does not know is not
-abbrev pub is_gone : State → Bool
-is_gone n = standing.is_gone (finmap.get (known n).view.standings n.me)
-
--- the sender of a gossip that is accepted is answered, but where both know the same and the sender knows that the node does;
--- and a node that is gone answers nobody
-abbrev pub is_answered : UniqueModel → GossipState → received.Received → Bool
-is_answered me incoming received.TheVariants.Same = not (has incoming.seen me)
-is_answered me incoming received.TheVariants.Newer = true
-is_answered me incoming received.TheVariants.Older = true
-is_answered me incoming received.TheVariants.Merged = true
-
-abbrev pub on_received : UniqueModel → GossipState → State → Result (received.Received × GossipState) fault.GossipFault → Outcome
-on_received from incoming n (Err (fault.TheVariants.ForeignCount own theirs)) = refused 5 n
-on_received from incoming n (Err (fault.TheVariants.TooManyUniques union)) = refused 6 n
-on_received from incoming n (Err fault.TheVariants.NoMemory) = nothing n
-on_received from incoming n (Ok r) =
-    let o = nothing (record n { gossip = r.1 }) in
-    if is_answered n.me incoming r.0 && not (is_gone o.0) then and_sends message.TheVariants.Gossip from o else o
-
--- a gossip in which the node is neither a member nor a tombstone is passed over
 abbrev pub on_gossip : UniqueModel → GossipState → State → Outcome
-on_gossip from incoming n =
-    if is_known incoming.view.standings n.me
-    then on_received from incoming n (receive n.me (known n) incoming)
-    else nothing n
+on_gossip from incoming n = unless_refused (does_for from n) n (membership.on_gossip incoming n.membership)
+
+-- a member that says that it stops; heard by members alone
+abbrev pub on_confirmed : UniqueModel → State → Outcome
+on_confirmed from n = if is_member n then nothing (record n { membership = membership.on_confirmed from n.membership }) else nothing n
 
 abbrev pub on_message : UniqueModel → Message → State → Outcome
 on_message from message.TheVariants.Join n = on_join from n
 on_message from (message.TheVariants.Welcome g) n = on_gossip from g n
 on_message from (message.TheVariants.Gossip g) n = on_gossip from g n
+on_message from message.TheVariants.ExitingConfirmed n = on_confirmed from n
+
+abbrev pub rule : NodeEvent → State → Outcome
+rule event.TheVariants.Found n = found n
+rule (event.TheVariants.Join target) n = join target n
+rule (event.TheVariants.Tick word) n = tick n
+rule (event.TheVariants.Packet e) n = on_message e.from e.message n
+rule (event.TheVariants.Leave who) n = leave who n
+rule (event.TheVariants.Down who) n = down who n
+rule event.TheVariants.Stop n = stop n
+
+-- ---- the closing after a rule: the view, and then that the node stops, or that its view is settled
+abbrev pub if_so : Bool → Action → List Action
+if_so true a = a ∷ []
+if_so false a = []
+
+abbrev pub due : Closing → List Action
+due c = if_so c.viewed action.TheVariants.View ++ if_so c.stopped action.TheVariants.Stopped ++ if_so c.settled action.TheVariants.Settled
+
+abbrev pub closes : State → Outcome
+closes n =
+    let c = closing.close (not n.runs) n.membership in
+    (record n { membership = c.0; runs = not c.1.stopped }, due c.1)
 
 -- a packet is for this process, or for whichever is at its address
 abbrev pub is_for : UniqueModel → Envelope → Bool
 is_for me e = is_eq (address_cmp e.to me.address) && (e.uid == 0 || e.uid == me.uid)
 
-abbrev pub rule : NodeEvent → State → Outcome
-rule event.TheVariants.Found n = found n
-rule (event.TheVariants.Join target) n = join target n
-rule (event.TheVariants.Packet e) n =
-    if is_for n.me e then on_message e.from e.message n else (n, action.TheVariants.Dead ∷ [])
+-- a packet for another process is dead
+abbrev pub is_dead : UniqueModel → NodeEvent → Bool
+is_dead me event.TheVariants.Found = false
+is_dead me (event.TheVariants.Join target) = false
+is_dead me (event.TheVariants.Tick word) = false
+is_dead me (event.TheVariants.Packet e) = not (is_for me e)
+is_dead me (event.TheVariants.Leave who) = false
+is_dead me (event.TheVariants.Down who) = false
+is_dead me event.TheVariants.Stop = false
 
-abbrev pub is_same : clock.Relation → Bool
-is_same clock.TheVariants.Same = true
-is_same clock.TheVariants.Before = false
-is_same clock.TheVariants.After = false
-is_same clock.TheVariants.Concurrent = false
+-- the step of a running node
+abbrev pub running_step : NodeEvent → State → Outcome
+running_step e n = if is_dead (me_of n) e then (n, action.TheVariants.Dead ∷ []) else and_then closes (rule e n)
 
--- the view is shown where the version is another than before
-abbrev pub is_other : FinMap unique_cmp ℕ → FinMap unique_cmp ℕ → Bool
-is_other old new = not (is_same (relation old new))
-
-abbrev pub closed : State → Outcome → Outcome
-closed before o =
-    if is_other (known before).version (known o.0).version then (o.0, o.1 ++ action.TheVariants.View ∷ []) else o
-
--- one event given to a node: its rule, and then the closing
+-- one event given to a node; one that has stopped does nothing
 abbrev pub step : NodeEvent → State → Outcome
-step e n = closed n (rule e (record n { steps = n.steps + 1 }))
+step e n = if n.runs then running_step e (record n { steps = n.steps + 1 }) else nothing n

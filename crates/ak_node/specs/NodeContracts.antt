@@ -1,12 +1,14 @@
 -- Words of the contracts of a node's calls.
-use Rattle.std.specs.Prelude.{◌≡◌, ◌≤◌, Bool, true, false, List}
+use Rattle.std.specs.Prelude.{◌≡◌, ◌⊎◌, ◌≤◌, ℕ, Bool, true, false, List, [], Some, IsTrue}
 use Rattle.std.specs.FinMap as map
-use Rattle.ak_address.specs.Unique.{UniqueModel}
-use Rattle.ak_clock.specs.Version.{count}
-use Rattle.ak_gossip.specs.Gossip.{GossipState, nothing_known, is_known}
-use Rattle.ak_node.specs.declared.node.State.{State}
+use Rattle.ak_member.specs.declared.status.Status.{Status}
+use Rattle.ak_member.specs.declared.standing.Standing.TheVariants.{Member}
+use Rattle.ak_member.specs.Standing.{is_down}
+use Rattle.ak_membership.specs.MembershipContracts as membership
+use Rattle.ak_gossip.specs.Gossip.{nothing_known}
 use Rattle.ak_wire.specs.declared.action.Action.{Action}
-use Rattle.ak_node.specs.Node.{Outcome, known}
+use Rattle.ak_node.specs.declared.node.State.{State}
+use Rattle.ak_node.specs.Node.{Outcome, known, me_of, is_gone}
 
 -- a node's state; a spent node has run out of memory
 pub record NodeModel : Type 0 where
@@ -18,29 +20,37 @@ pub record Does (outcome : Outcome) (state : State) (actions : List Action) : Ty
   pub state_after : state ≡ outcome.0
   pub actions_done : actions ≡ outcome.1
 
--- a node counts no more of its own updates than it had steps
-abbrev pub IsOwnCount : State → Type 0
-IsOwnCount n = count (known n).version n.me ≤ n.steps
-
--- a node that knows anybody knows itself
-abbrev pub KnowsItself : UniqueModel → GossipState → Type 0
-KnowsItself me g = is_known g.view.standings me ≡ false → map.len g.view.standings ≡ 0
-
 -- a spent node knows nothing
 abbrev pub HasForgotten : Bool → State → Type 0
 HasForgotten spent n = spent ≡ true → known n ≡ nothing_known
 
--- what is true of every node
+-- a node is a member of its view, and not Down
+pub record Serves (n : State) : Type 0 where
+  pub status : Status
+  pub number : ℕ
+  pub member : map.get (known n).view.standings (me_of n) ≡ Some (Member status number)
+  pub not_down : is_down status ≡ false
+
+-- a running node knows nobody, or serves
+abbrev pub ServesWhileItRuns : State → Type 0
+ServesWhileItRuns n = IsTrue n.runs → (map.len (known n).view.standings ≡ 0) ⊎ Serves n
+
+-- What is true of every node after each of its steps: it had no more ticks than steps, it has shown the version of what it
+-- knows, and its view does not show it as gone while it runs.
 pub record IsNode (n : State) : Type 0 where
-  pub counted : IsOwnCount n
-  pub itself : KnowsItself n.me (known n)
+  pub ticked : n.membership.ticks ≤ n.steps
+  pub shown : n.membership.shown ≡ (known n).version
+  pub stays : IsTrue n.runs → is_gone n ≡ false
 
 -- whatever a rule answers, the node is the same process with the same settings
-pub record IsSameProcess (old new : State) : Type 0 where
-  pub me : new.me ≡ old.me
-  pub settings : new.settings ≡ old.settings
+abbrev pub IsSameProcess : State → State → Type 0
+IsSameProcess old new = membership.IsSameProcess old.membership new.membership
 
 -- what a spent node still shows: its process and its settings; it has forgotten what it knew
 pub record IsLeftOver (old new : State) : Type 0 where
   pub process : IsSameProcess old new
   pub forgot : known new ≡ nothing_known
+
+-- a node that has stopped answers an event with no action, and knows what it knew
+abbrev pub IsSilent : State → State → List Action → Type 0
+IsSilent old new actions = old.runs ≡ false → (actions ≡ []) × (new ≡ old)

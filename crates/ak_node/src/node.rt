@@ -1,20 +1,14 @@
-ghost use Rattle.std.specs.Prelude.{◌≡◌, ◌+◌, ◌<◌, ◌^◌, nat_le, true, false, [], ◌∷◌, ◌++◌, slice_get, option_to_list, IfOk, OnOk, OnErr, Option, None};
-ghost use Rattle.std.specs.List.{list_any};
-ghost use Rattle.std.specs.Ordering.{is_eq};
-ghost use Rattle.ak_address.specs.Unique.{address_cmp};
-ghost use Rattle.std.specs.FinMap as map;
-ghost use Rattle.ak_clock.specs.Version.{count};
-ghost use Rattle.ak_member.specs.Standing as standing;
-ghost use Rattle.ak_gossip.specs.Gossip.{MayUpdate, is_known};
-ghost use Rattle.ak_schedule.specs.Settings.{is_listed};
+ghost use Rattle.std.specs.Prelude.{◌≡◌, ◌<◌, ◌≤◌, ◌^◌, ◌++◌, ◌∷◌, [], not, true, false, IfOk, OnOk, OnErr};
+ghost use Rattle.ak_membership.specs.Membership as rules_of_membership;
 ghost use Rattle.ak_node.specs.Node as rules;
-ghost use Rattle.ak_node.specs.NodeContracts.{Does, KnowsItself, IsSameProcess, IsLeftOver};
+ghost use Rattle.ak_node.specs.NodeContracts.{Does, IsSameProcess, IsLeftOver, IsSilent, ServesWhileItRuns};
 
 use ak_address::{Address, Unique};
-use ak_clock::Relation;
-use ak_gossip::{Gossip, GossipFault, Received};
-use ak_member::{Effect, Effects, Members, Standing};
+use ak_gossip::Gossip;
+use ak_member::Status;
+use ak_membership::{Change, Closing, MemberFault, Membership, Reply};
 use ak_schedule::Settings;
+use ak_settled::Settled;
 use ak_wire::{Action, Actions, Envelope, Message};
 use std::alloc::{AllocError, Global};
 use std::marker::Model;
@@ -26,34 +20,42 @@ pub enum NodeEvent {
     Found,
     /// It joins the cluster through an address.
     Join(Address),
+    /// Time goes on by a tick; the word chooses to whom it gossips.
+    Tick(u32),
     /// A packet arrives.
     Packet(Envelope),
+    /// It is asked that a process leaves.
+    Leave(Unique),
+    /// It is asked to down a process.
+    Down(Unique),
+    /// It stops at once.
+    Stop,
 }
-
-/// A view that holds this many uniques admits no further process.
-const MOST_AT_JOIN: usize = 64;
-
-const NOT_MEMBER: u8 = 3;
-
-const UNLISTED: u8 = 4;
-
-const FOREIGN_COUNT: u8 = 5;
-
-const TOO_MANY_UNIQUES: u8 = 6;
 
 /// The state of a node, as plain data.
 #[derive(Drop)]
 pub struct State {
-    /// The process that it is.
-    pub me: Unique,
-    pub settings: Settings,
-    /// How many events it was given.
+    /// What it knows of the cluster.
+    pub membership: Membership,
+    /// It has not stopped.
+    pub runs: bool,
+    /// How many events it was given while it ran.
     pub steps: u64,
-    pub gossip: Gossip,
-    /// It founded the cluster.
-    pub founder: bool,
-    /// The address through which it joins.
-    pub target: Option<Address>,
+}
+
+// The number of a refusal; running out of memory has none.
+fn number_of(fault: &MemberFault) -> u8
+    ensures { result ≡ rules.number_of fault.now }
+{
+    match fault {
+        MemberFault::NotUp => 1,
+        MemberFault::UnknownMember => 2,
+        MemberFault::NotMember => 3,
+        MemberFault::Unlisted => 4,
+        MemberFault::ForeignCount { own: _, theirs: _ } => 5,
+        MemberFault::TooManyUniques { union: _ } => 6,
+        MemberFault::NoMemory => 0,
+    }
 }
 
 // One action alone.
@@ -65,89 +67,39 @@ fn one(alloc: Global, action: Action) -> Result<Actions, AllocError>
     Ok(actions)
 }
 
-// The address of the process belongs to the cluster.
-fn is_listed(settings: &Settings, who: &Unique) -> bool
-    ensures { result ≡ is_listed settings.now.listed who.now.address }
+// The update that a membership made, as an action, where it made one.
+fn told(alloc: Global, change: Change) -> Result<Actions, AllocError>
+    ensures { IfOk result (λ actions. actions ≡ rules.update_by change.number change.effects) }
 {
-    settings.is_listed(&who.address)
-}
-
-// At an index among all that are known stands a member at the address of this process.
-fn is_member_beside(who: &Unique, members: &Members, index: usize) -> bool
-    ensures { result ≡ list_any (λ m. is_eq (address_cmp m.0.address who.now.address)) (standing.member_pairs (option_to_list (slice_get (map.entries members.now) index))) }
-{
-    match members.pair(index) {
-        Some((other, Standing::Member(_, _))) => { other.address.compare(&who.address).is_eq() }
-        Some((_, Standing::Buried(_))) => false,
-        None => false,
+    match change.number {
+        Some(number) => one(alloc, Action::Update(number, change.effects)),
+        None => Ok(Actions::empty(alloc)),
     }
 }
 
-// Another member is at the address of this process.
-fn has_member_beside(who: &Unique, members: &Members) -> bool
-    ensures { result ≡ rules.has_member_beside who.now members.now }
+// A refusal as an action.
+fn refuse(alloc: Global, fault: MemberFault) -> Result<Actions, AllocError>
+    ensures told { IfOk result (λ actions. actions ≡ Action.Refused (rules.number_of fault) ∷ []) }
+    ensures numbered { OnOk result (1 ≤ rules.number_of fault) }
 {
-    'pairs: for index in 0..members.uniques() {
-        if is_member_beside(who, members, index) {
-            return true;
-        }
+    let number = number_of(&fault);
+    if number == 0 {
+        return Err(AllocError);
     }
-    false
-}
-
-// The process is a member.
-fn is_member(members: &Members, who: &Unique) -> bool
-    ensures { result ≡ standing.is_member members.now who.now }
-{
-    members.get(who).is_some()
-}
-
-// The process is a member or a tombstone.
-fn is_known(members: &Members, who: &Unique) -> bool
-    ensures { result ≡ is_known members.now who.now }
-{
-    members.get(who).is_some() || members.tombstone(who).is_some()
+    one(alloc, Action::Refused(number))
 }
 
 impl State {
-    fn is_member(&self) -> bool
-        ensures { result ≡ rules.is_member self.now }
+    fn me(&self) -> &Unique
+        ensures { result.now ≡ rules.me_of self.now }
     {
-        is_member(self.gossip.members(), &self.me)
-    }
-
-    // The process is a member of what the node knows.
-    fn has_member(&self, who: &Unique) -> bool
-        ensures { result ≡ standing.is_member (rules.known self.now).view.standings who.now }
-    {
-        is_member(self.gossip.members(), who)
-    }
-
-    // The process is a member or a tombstone of what the node knows.
-    fn knows(&self, who: &Unique) -> bool
-        ensures { result ≡ is_known (rules.known self.now).view.standings who.now }
-    {
-        is_known(self.gossip.members(), who)
-    }
-
-    // What the node knows shows it as Down or as a tombstone.
-    fn is_gone(&self) -> bool
-        ensures { result ≡ rules.is_gone self.now }
-    {
-        self.gossip.members().is_gone(&self.me)
-    }
-
-    // What the node knows holds as many processes as a view may that admits others.
-    fn is_full(&self) -> bool
-        ensures { result ≡ nat_le rules.most_at_join (map.len (rules.known self.now).view.standings) }
-    {
-        self.gossip.members().uniques() >= MOST_AT_JOIN
+        self.membership.me()
     }
 
     fn to_process(&self, alloc: Global, to: &Unique, message: Message) -> Result<Action, AllocError>
         ensures { IfOk result (λ action. action ≡ rules.to_process self.now to.now message) }
     {
-        let from = self.me.copy(alloc)?;
+        let from = self.me().copy(alloc)?;
         let address = to.address.copy(alloc)?;
         let uid = to.uid;
         Ok(Action::Send(Envelope {
@@ -158,43 +110,12 @@ impl State {
         }))
     }
 
-    // An entry with one effect.
-    fn update(&mut self, alloc: Global, effect: Effect) -> Result<Actions, AllocError>
-        requires { MayUpdate self.old.me (effect ∷ []) (rules.known self.old) }
-        ensures does { IfOk result (λ actions. Does (rules.update (effect ∷ []) self.old) self.new actions) }
-        ensures same { IsSameProcess self.old self.new }
+    // Asks for admission through an address.
+    fn asks(&self, alloc: Global, target: &Address) -> Result<Actions, AllocError>
+        ensures { IfOk result (λ actions. actions ≡ rules.to_address self.now target.now Message.Join ∷ []) }
     {
-        let mut effects = Effects::empty(alloc);
-        effects.push(effect)?;
-        let number = self.gossip.update(alloc, &self.me, &effects)?;
-        one(alloc, Action::Update(number, effects))
-    }
-
-    fn found(&mut self, alloc: Global) -> Result<Actions, AllocError>
-        requires count { count (rules.known self.old).version self.old.me < 2 ^ 62 }
-        requires itself { KnowsItself self.old.me (rules.known self.old) }
-        ensures does { IfOk result (λ actions. Does (rules.found self.old) self.new actions) }
-        ensures same { IsSameProcess self.old self.new }
-    {
-        if self.knows(&self.me) {
-            return Ok(Actions::empty(alloc));
-        }
-        self.gossip.invariant();
-        self.founder = true;
-        let me = self.me.copy(alloc)?;
-        self.update(alloc, Effect::Joined(me))
-    }
-
-    fn join(&mut self, alloc: Global, target: Address) -> Result<Actions, AllocError>
-        ensures does { IfOk result (λ actions. Does (rules.join target self.old) self.new actions) }
-        ensures same { IsSameProcess self.old self.new }
-    {
-        if self.is_member() {
-            return Ok(Actions::empty(alloc));
-        }
-        let from = self.me.copy(alloc)?;
+        let from = self.me().copy(alloc)?;
         let to = target.copy(alloc)?;
-        self.target = Some(target);
         one(
             alloc,
             Action::Send(Envelope {
@@ -206,60 +127,101 @@ impl State {
         )
     }
 
-    // Adds the answer that a join gets.
-    fn welcome(&self, alloc: Global, to: &Unique, actions: &mut Actions) -> Result<(), AllocError>
-        ensures { OnOk result (actions.new ≡ actions.old ++ rules.to_process self.now to.now (Message.Welcome (rules.known self.now)) ∷ []) }
+    // Asks the target again, where there is one.
+    fn asks_again(&self, alloc: Global) -> Result<Actions, AllocError>
+        ensures { IfOk result (λ actions. actions ≡ (rules.asks_at self.now.membership.target self.now).1) }
     {
-        let gossip = self.gossip.copy(alloc)?;
-        let action = self.to_process(alloc, to, Message::Welcome(gossip))?;
-        actions.push(action)
+        match self.membership.target() {
+            Some(target) => self.asks(alloc, target),
+            None => Ok(Actions::empty(alloc)),
+        }
     }
 
-    // Adds the answer that a gossip gets.
-    fn answer(&self, alloc: Global, to: &Unique, actions: &mut Actions) -> Result<(), AllocError>
-        ensures { OnOk result (actions.new ≡ actions.old ++ rules.to_process self.now to.now (Message.Gossip (rules.known self.now)) ∷ []) }
+    // Adds the answer to who asked, with what is known now.
+    fn answer(
+        &self,
+        alloc: Global,
+        reply: Reply,
+        to: &Unique,
+        actions: &mut Actions,
+    ) -> Result<(), AllocError>
+        ensures { OnOk result (actions.new ≡ actions.old ++ rules.answer reply to.now self.now) }
     {
-        let gossip = self.gossip.copy(alloc)?;
-        let action = self.to_process(alloc, to, Message::Gossip(gossip))?;
-        actions.push(action)
+        match reply {
+            Reply::Nothing => Ok(()),
+            Reply::Welcome => {
+                let gossip = self.membership.gossip().copy(alloc)?;
+                let action = self.to_process(alloc, to, Message::Welcome(gossip))?;
+                actions.push(action)
+            }
+            Reply::Gossip => {
+                let gossip = self.membership.gossip().copy(alloc)?;
+                let action = self.to_process(alloc, to, Message::Gossip(gossip))?;
+                actions.push(action)
+            }
+        }
     }
 
-    // A process asks to join (Akka's Cluster Specification, "Joining": any member admits it).
-    fn on_join(&mut self, alloc: Global, from: &Unique) -> Result<Actions, AllocError>
-        requires { count (rules.known self.old).version self.old.me < 2 ^ 62 }
-        ensures does { IfOk result (λ actions. Does (rules.on_join from.now self.old) self.new actions) }
-        ensures same { IsSameProcess self.old self.new }
+    // What the membership did for who asked.
+    fn tells_for(&self, alloc: Global, from: &Unique, change: Change) -> Result<Actions, AllocError>
+        ensures { IfOk result (λ actions. actions ≡ rules.update_by change.number change.effects ++ rules.answer change.reply from.now self.now) }
     {
-        if !self.is_member() {
-            return one(alloc, Action::Refused(NOT_MEMBER));
-        }
-        if !is_listed(&self.settings, from) {
-            return one(alloc, Action::Refused(UNLISTED));
-        }
-        if self.has_member(from) {
-            let mut actions = Actions::empty(alloc);
-            self.welcome(alloc, from, &mut actions)?;
-            return Ok(actions);
-        }
-        if self.knows(from) {
-            return Ok(Actions::empty(alloc));
-        }
-        if has_member_beside(from, self.gossip.members()) {
-            return Ok(Actions::empty(alloc));
-        }
-        if self.is_full() {
-            return one(alloc, Action::Refused(TOO_MANY_UNIQUES));
-        }
-        self.gossip.invariant();
-        let joined = from.copy(alloc)?;
-        let mut actions = self.update(alloc, Effect::Joined(joined))?;
-        self.welcome(alloc, from, &mut actions)?;
+        let reply = change.reply;
+        let mut actions = told(alloc, change)?;
+        self.answer(alloc, reply, from, &mut actions)?;
         Ok(actions)
     }
 
-    // A gossip arrives (Akka's Cluster Specification, "Gossip"). It is accepted or refused. The sender of an accepted one is
-    // answered with what the node knows then, but where both know the same and the sender knows that the node does; a node
-    // that is Down or a tombstone in the result answers nobody (this project's choice).
+    fn found(&mut self, alloc: Global) -> Result<Actions, AllocError>
+        ensures does { IfOk result (λ actions. Does (rules.found self.old) self.new actions) }
+        ensures same { IsSameProcess self.old self.new }
+    {
+        let change = self.membership.found(alloc)?;
+        told(alloc, change)
+    }
+
+    fn join(&mut self, alloc: Global, target: Address) -> Result<Actions, AllocError>
+        ensures does { IfOk result (λ actions. Does (rules.join target self.old) self.new actions) }
+        ensures same { IsSameProcess self.old self.new }
+    {
+        if self.membership.is_member() {
+            return Ok(Actions::empty(alloc));
+        }
+        let actions = self.asks(alloc, &target)?;
+        self.membership.join(target);
+        Ok(actions)
+    }
+
+    fn leave(&mut self, alloc: Global, who: &Unique) -> Result<Actions, AllocError>
+        ensures does { IfOk result (λ actions. Does (rules.leave who.now self.old) self.new actions) }
+        ensures same { IsSameProcess self.old self.new }
+    {
+        match self.membership.leave(alloc, who) {
+            Ok(change) => return told(alloc, change),
+            Err(fault) => return refuse(alloc, fault),
+        }
+    }
+
+    fn down(&mut self, alloc: Global, who: &Unique) -> Result<Actions, AllocError>
+        ensures does { IfOk result (λ actions. Does (rules.down who.now self.old) self.new actions) }
+        ensures same { IsSameProcess self.old self.new }
+    {
+        match self.membership.down(alloc, who) {
+            Ok(change) => return told(alloc, change),
+            Err(fault) => return refuse(alloc, fault),
+        }
+    }
+
+    fn on_join(&mut self, alloc: Global, from: &Unique) -> Result<Actions, AllocError>
+        ensures does { IfOk result (λ actions. Does (rules.on_join from.now self.old) self.new actions) }
+        ensures same { IsSameProcess self.old self.new }
+    {
+        match self.membership.on_join(alloc, from) {
+            Ok(change) => return self.tells_for(alloc, from, change),
+            Err(fault) => return refuse(alloc, fault),
+        }
+    }
+
     fn on_gossip(
         &mut self,
         alloc: Global,
@@ -269,76 +231,180 @@ impl State {
         ensures does { IfOk result (λ actions. Does (rules.on_gossip from.now incoming.now self.old) self.new actions) }
         ensures same { IsSameProcess self.old self.new }
     {
-        if !is_known(incoming.members(), &self.me) {
-            return Ok(Actions::empty(alloc));
-        }
-        let known_there = incoming.seen().contains(&self.me);
-        match self.gossip.receive(alloc, &self.me, incoming) {
-            Err(GossipFault::ForeignCount { own: _, theirs: _ }) => one(
-                alloc,
-                Action::Refused(FOREIGN_COUNT),
-            ),
-            Err(GossipFault::TooManyUniques { union: _ }) => one(
-                alloc,
-                Action::Refused(TOO_MANY_UNIQUES),
-            ),
-            Err(GossipFault::NoMemory) => Err(AllocError),
-            Ok(received) => {
-                let mut actions = Actions::empty(alloc);
-                if self.is_gone() || (received == Received::Same && known_there) {
-                    return Ok(actions);
-                }
-                self.answer(alloc, from, &mut actions)?;
-                Ok(actions)
-            }
+        match self.membership.on_gossip(alloc, incoming) {
+            Ok(change) => return self.tells_for(alloc, from, change),
+            Err(fault) => return refuse(alloc, fault),
         }
     }
 
+    fn on_confirmed(&mut self, alloc: Global, from: &Unique) -> Result<Actions, AllocError>
+        ensures does { IfOk result (λ actions. Does (rules.on_confirmed from.now self.old) self.new actions) }
+        ensures same { IsSameProcess self.old self.new }
+    {
+        if self.membership.is_member() {
+            self.membership.on_confirmed(alloc, from)?;
+        }
+        Ok(Actions::empty(alloc))
+    }
+
+    fn is_exiting(&self) -> bool
+        ensures { result ≡ rules_of_membership.is_member_with rules.is_exiting (rules.known self.now).view.standings (rules.me_of self.now) }
+    {
+        match self.membership.my_status() {
+            Some(status) => is_exiting(status),
+            None => false,
+        }
+    }
+
+    // Adds a message to each member that counts: the node stops.
+    fn confirms(&self, alloc: Global, actions: &mut Actions) -> Result<(), AllocError>
+        ensures { OnOk result (actions.new ≡ actions.old ++ rules.to_each self.now (rules.counted_members self.now) Message.ExitingConfirmed) }
+    {
+        let members = self.membership.gossip().members();
+        'pairs: for pair in 0..members.uniques() {
+            if let Some((to, _)) = members.counted_at_pair(pair) {
+                let action = self.to_process(alloc, to, Message::ExitingConfirmed)?;
+                actions.push(action)?;
+            }
+        }
+        Ok(())
+    }
+
+    // What follows the update of a tick: a node that exits says so, and stops (Akka's Cluster Specification, "Leaving").
+    fn goes_on(&mut self, alloc: Global, actions: &mut Actions) -> Result<(), AllocError>
+        ensures state { OnOk result (self.new ≡ (rules.goes_on self.old).0) }
+        ensures actions { OnOk result (actions.new ≡ actions.old ++ (rules.goes_on self.old).1) }
+        ensures same { IsSameProcess self.old self.new }
+    {
+        if self.membership.is_gone() {
+            return Ok(());
+        }
+        if self.is_exiting() {
+            self.confirms(alloc, actions)?;
+            self.runs = false;
+            return Ok(());
+        }
+        Ok(())
+    }
+
+    fn tick(&mut self, alloc: Global) -> Result<Actions, AllocError>
+        requires { self.old.membership.ticks < 2 ^ 62 }
+        ensures does { IfOk result (λ actions. Does (rules.tick self.old) self.new actions) }
+        ensures same { IsSameProcess self.old self.new }
+    {
+        if !self.membership.is_member() {
+            return self.asks_again(alloc);
+        }
+        let change = self.membership.tick(alloc)?;
+        let mut actions = told(alloc, change)?;
+        self.goes_on(alloc, &mut actions)?;
+        Ok(actions)
+    }
+
+    fn stop(&mut self, alloc: Global) -> Result<Actions, AllocError>
+        ensures does { IfOk result (λ actions. Does (rules.stop self.old) self.new actions) }
+        ensures same { IsSameProcess self.old self.new }
+    {
+        self.runs = false;
+        Ok(Actions::empty(alloc))
+    }
+
     fn on_packet(&mut self, alloc: Global, envelope: &Envelope) -> Result<Actions, AllocError>
-        requires { count (rules.known self.old).version self.old.me < 2 ^ 62 }
         ensures does { IfOk result (λ actions. Does (rules.rule (NodeEvent.Packet envelope.now) self.old) self.new actions) }
         ensures same { IsSameProcess self.old self.new }
     {
-        if !is_for(&self.me, envelope) {
-            return one(alloc, Action::Dead);
-        }
         match &envelope.message {
             Message::Join => self.on_join(alloc, &envelope.from),
             Message::Welcome(gossip) => self.on_gossip(alloc, &envelope.from, gossip),
             Message::Gossip(gossip) => self.on_gossip(alloc, &envelope.from, gossip),
+            Message::ExitingConfirmed => self.on_confirmed(alloc, &envelope.from),
         }
     }
 
     fn rule(&mut self, alloc: Global, event: NodeEvent) -> Result<Actions, AllocError>
-        requires count { count (rules.known self.old).version self.old.me < 2 ^ 62 }
-        requires itself { KnowsItself self.old.me (rules.known self.old) }
+        requires { self.old.membership.ticks < 2 ^ 62 }
         ensures does { IfOk result (λ actions. Does (rules.rule event self.old) self.new actions) }
         ensures same { IsSameProcess self.old self.new }
     {
         match event {
             NodeEvent::Found => self.found(alloc),
             NodeEvent::Join(target) => self.join(alloc, target),
+            NodeEvent::Tick(_) => self.tick(alloc),
             NodeEvent::Packet(envelope) => self.on_packet(alloc, &envelope),
+            NodeEvent::Leave(who) => self.leave(alloc, &who),
+            NodeEvent::Down(who) => self.down(alloc, &who),
+            NodeEvent::Stop => self.stop(alloc),
         }
     }
 
-    // One event: its rule, and then the closing, which shows the view where the version is another.
+    // The closing after a rule: the view where it is another, and then that the node stops, or that its view is settled.
+    fn closes(&mut self, alloc: Global, actions: &mut Actions) -> Result<(), AllocError>
+        ensures state { OnOk result (self.new ≡ (rules.closes self.old).0) }
+        ensures actions { OnOk result (actions.new ≡ actions.old ++ (rules.closes self.old).1) }
+        ensures same { IsSameProcess self.old self.new }
+    {
+        let due = self.membership.close(alloc, !self.runs)?;
+        self.runs = !due.stopped;
+        push_due(due, actions)
+    }
+
+    // One event: its rule and then the closing. A node that has stopped does nothing, and a packet for another process is dead.
     fn step(&mut self, alloc: Global, event: NodeEvent) -> Result<Actions, AllocError>
-        requires count { count (rules.known self.old).version self.old.me < 2 ^ 62 }
         requires steps { self.old.steps < 2 ^ 62 }
-        requires itself { KnowsItself self.old.me (rules.known self.old) }
+        requires ticked { self.old.membership.ticks ≤ self.old.steps }
         ensures does { IfOk result (λ actions. Does (rules.step event self.old) self.new actions) }
         ensures same { IsSameProcess self.old self.new }
     {
-        let before = self.gossip.version().copy(alloc)?;
-        self.steps += 1;
-        let mut actions = self.rule(alloc, event)?;
-        match before.compare(self.gossip.version()) {
-            Relation::Same => {}
-            _ => actions.push(Action::View)?,
+        if !self.runs {
+            return Ok(Actions::empty(alloc));
         }
+        self.steps += 1;
+        if is_dead(self.me(), &event) {
+            return one(alloc, Action::Dead);
+        }
+        self.acts(alloc, event)
+    }
+
+    fn acts(&mut self, alloc: Global, event: NodeEvent) -> Result<Actions, AllocError>
+        requires { self.old.membership.ticks < 2 ^ 62 }
+        ensures does { IfOk result (λ actions. Does (rules.and_then rules.closes (rules.rule event self.old)) self.new actions) }
+        ensures same { IsSameProcess self.old self.new }
+    {
+        let mut actions = self.rule(alloc, event)?;
+        self.closes(alloc, &mut actions)?;
         Ok(actions)
     }
+}
+
+fn is_exiting(status: Status) -> bool
+    ensures { result ≡ rules.is_exiting status }
+{
+    match status {
+        Status::Joining => false,
+        Status::Up => false,
+        Status::Leaving => false,
+        Status::Exiting => true,
+        Status::Down => false,
+    }
+}
+
+// Adds the action, where it is so.
+fn push_if(so: bool, action: Action, actions: &mut Actions) -> Result<(), AllocError>
+    ensures { OnOk result (actions.new ≡ actions.old ++ rules.if_so so action) }
+{
+    if so {
+        return actions.push(action);
+    }
+    Ok(())
+}
+
+// Adds what is due at a closing.
+fn push_due(due: Closing, actions: &mut Actions) -> Result<(), AllocError>
+    ensures { OnOk result (actions.new ≡ actions.old ++ rules.due due) }
+{
+    push_if(due.viewed, Action::View, actions)?;
+    push_if(due.stopped, Action::Stopped, actions)?;
+    push_if(due.settled, Action::Settled, actions)
 }
 
 /// A packet is for this process, or for whichever is at its address.
@@ -351,9 +417,18 @@ pub fn is_for(me: &Unique, envelope: &Envelope) -> bool
     envelope.uid == 0 || envelope.uid == me.uid
 }
 
+// A packet for another process is dead.
+fn is_dead(me: &Unique, event: &NodeEvent) -> bool
+    ensures { result ≡ rules.is_dead me.now event.now }
+{
+    match event {
+        NodeEvent::Packet(envelope) => !is_for(me, envelope),
+        _ => false,
+    }
+}
+
 /// A node. Once out of memory it is spent: it is the same process with the same settings and knows nothing, and each later
-/// step answers that it is out of memory. It counts no more of its own updates than it had steps, and where it knows anybody
-/// it knows itself: invariants of the type.
+/// step answers that it is out of memory. It had no more ticks than steps: an invariant of the type.
 #[derive(Drop)]
 pub struct Node {
     state: State,
@@ -363,14 +438,11 @@ pub struct Node {
 impl Model for Node {
     ghost use Rattle.ak_node.specs.NodeContracts.{NodeModel, IsNode, HasForgotten};
     ghost use Rattle.std.specs.Coded.{codes};
-    ghost use Rattle.ak_address.specs.Unique.{coded_address, coded_unique};
-    ghost use Rattle.ak_schedule.specs.Settings.{coded_settings};
-    ghost use Rattle.ak_gossip.specs.Gossip.{coded_gossip};
-    ghost use Rattle.ak_member.specs.View.{coded_uniques};
+    ghost use Rattle.ak_membership.specs.contracts.membership.Membership as membership;
 
     ghost Value = { NodeModel };
 
-    ghost coded = { Prim.hlevel (codes, coded_address, coded_unique, coded_uniques, coded_settings, coded_gossip) };
+    ghost coded = { Prim.hlevel (codes, membership.the_row.coded) };
 
     ghost view = { λ n. record { state = n.state; spent = n.spent } };
 
@@ -382,14 +454,11 @@ impl Node {
     pub fn start(alloc: Global, me: Unique, settings: &Settings) -> Result<Node, AllocError>
         ensures { IfOk result (λ node. node ≡ record { state = rules.started me settings.now; spent = false }) }
     {
-        let settings = settings.copy(alloc)?;
+        let membership = Membership::start(alloc, me, settings)?;
         let state = State {
-            me,
-            settings,
+            membership,
+            runs: true,
             steps: 0,
-            gossip: Gossip::empty(alloc),
-            founder: false,
-            target: None,
         };
         Ok(Node {
             state,
@@ -397,11 +466,14 @@ impl Node {
         })
     }
 
-    /// Gives the node one event, and answers its actions. Once out of memory the node is spent: it still shows its process
-    /// and its settings, and has forgotten what it knew.
+    /// Gives the node one event, and answers its actions; a node that has stopped answers none, and knows what it knew. While
+    /// it runs and knows anybody, it is a member of its own view, and not Down. Once out of memory the node is spent: it still
+    /// shows its process and its settings, and has forgotten what it knew.
     pub fn step(&mut self, alloc: Global, event: NodeEvent) -> Result<Actions, AllocError>
         requires { self.old.state.steps < 2 ^ 62 }
         ensures ok { IfOk result (λ actions. Does (rules.step event self.old.state) self.new.state actions) }
+        ensures silent { IfOk result (λ actions. IsSilent self.old.state self.new.state actions) }
+        ensures serves { OnOk result (ServesWhileItRuns self.new.state) }
         ensures alive { OnOk result (self.old.spent ≡ false) × OnOk result (self.new.spent ≡ false) }
         ensures spent { OnErr result ((self.new.spent ≡ true) × IsLeftOver self.old.state self.new.state) }
     {
@@ -409,9 +481,12 @@ impl Node {
             return Err(AllocError);
         }
         match self.state.step(alloc, event) {
-            Ok(actions) => Ok(actions),
+            Ok(actions) => {
+                self.state.membership.invariant();
+                Ok(actions)
+            }
             Err(error) => {
-                self.state.gossip = Gossip::empty(alloc);
+                self.state.membership.forget(alloc);
                 self.spent = true;
                 Err(error)
             }
@@ -420,12 +495,19 @@ impl Node {
 
     /// The process that it is.
     pub fn me(&self) -> &Unique
-        ensures { result.now ≡ self.now.state.me }
+        ensures { result.now ≡ rules.me_of self.now.state }
     {
-        &self.state.me
+        self.state.membership.me()
     }
 
-    /// How many events it was given.
+    /// Whether it has stopped.
+    pub fn stopped(&self) -> bool
+        ensures { result ≡ not self.now.state.runs }
+    {
+        !self.state.runs
+    }
+
+    /// How many events it was given while it ran.
     pub fn steps(&self) -> u64
         ensures { result ≡ self.now.state.steps }
     {
@@ -436,6 +518,13 @@ impl Node {
     pub fn gossip(&self) -> &Gossip
         ensures { result.now ≡ rules.known self.now.state }
     {
-        &self.state.gossip
+        self.state.membership.gossip()
+    }
+
+    /// The last view that it noted as settled.
+    pub fn settled(&self) -> &Settled
+        ensures { result.now ≡ self.now.state.membership.settled }
+    {
+        self.state.membership.settled()
     }
 }

@@ -291,11 +291,16 @@ fn print_action(
             print_effects(effects.as_slice(), out)
         }
         Action::View => print_view(gossip, out),
+        Action::Settled => {
+            print_bytes(b"settled ", out)?;
+            print_version(gossip.version(), out)
+        }
         Action::Refused(why) => {
             print_bytes(b"refused N", out)?;
             print_number(u64::from(*why), out)
         }
         Action::Dead => print_bytes(b"dead", out),
+        Action::Stopped => print_bytes(b"stopped", out),
     }
 }
 

@@ -26,8 +26,10 @@ fn some_actions(alloc: Global, effects: Effects) -> Result<Actions, Fail> {
     actions.push(Action::Update(1, effects))?;
     actions.push(asking(alloc, b"b:1", 2)?)?;
     actions.push(Action::View)?;
+    actions.push(Action::Settled)?;
     actions.push(Action::Refused(3))?;
     actions.push(Action::Dead)?;
+    actions.push(Action::Stopped)?;
     Ok(actions)
 }
 
@@ -60,7 +62,7 @@ fn actions_have_an_item_each(rt: HostRuntime) -> Result<(), Fail> {
     print_actions(alloc, &gossip, 18446744073709551615, &actions, &mut out)?;
     assert_eq!(rt;
         out.as_slice(),
-        b"before\n  send 18446744073709551615 join to b:1\n  update 1 joined a:1#1\n  send 18446744073709551616 join to b:1#2\n  view a:1#1=1 | a:1#1 joining | -\n  refused N3\n  dead\n".as_slice()
+        b"before\n  send 18446744073709551615 join to b:1\n  update 1 joined a:1#1\n  send 18446744073709551616 join to b:1#2\n  view a:1#1=1 | a:1#1 joining | -\n  settled a:1#1=1\n  refused N3\n  dead\n  stopped\n".as_slice()
     );
     Ok(())
 }

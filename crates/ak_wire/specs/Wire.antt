@@ -1,40 +1,53 @@
 -- What nodes say to each other, by its names, and what of it a node's actions send.
-use Rattle.std.specs.Prelude.{ℕ, List, [], ◌∷◌, Option, None, Some, codes}
+use Rattle.std.specs.Prelude.{ℕ, Bool, true, false, List, [], ◌∷◌, Option, None, Some, codes}
 use Rattle.ak_gossip.specs.Gossip.{GossipState}
 use Rattle.ak_member.specs.declared.effect.Effect.{Effect}
 use Rattle.ak_wire.specs.declared.envelope.Envelope.{Envelope}
 use Rattle.ak_wire.specs.declared.envelope.Message.{Message}
 use Rattle.ak_wire.specs.declared.envelope.Message as message
 use Rattle.ak_wire.specs.declared.action.Action.{Action}
-use Rattle.ak_wire.specs.declared.action.Action.TheVariants.{Send, Update, View, Refused, Dead}
+use Rattle.ak_wire.specs.declared.action.Action.TheVariants.{Send, Update, View, Settled, Refused, Dead, Stopped}
 
 -- the name of a message's kind
 abbrev pub kind_text : Message → List ℕ
 kind_text message.TheVariants.Join = codes "join"
 kind_text (message.TheVariants.Welcome g) = codes "welcome"
 kind_text (message.TheVariants.Gossip g) = codes "gossip"
+kind_text message.TheVariants.ExitingConfirmed = codes "exiting-confirmed"
 
 -- the gossip that a message carries
 abbrev pub gossip_of : Message → Option GossipState
 gossip_of message.TheVariants.Join = None
 gossip_of (message.TheVariants.Welcome g) = Some g
 gossip_of (message.TheVariants.Gossip g) = Some g
+gossip_of message.TheVariants.ExitingConfirmed = None
+
+-- a message says that its sender stops
+abbrev pub says_it_stops : Message → Bool
+says_it_stops message.TheVariants.Join = false
+says_it_stops (message.TheVariants.Welcome g) = false
+says_it_stops (message.TheVariants.Gossip g) = false
+says_it_stops message.TheVariants.ExitingConfirmed = true
 
 -- the packet that an action sends
 abbrev pub envelope_of : Action → Option Envelope
 envelope_of (Send e) = Some e
 envelope_of (Update number effects) = None
 envelope_of View = None
+envelope_of Settled = None
 envelope_of (Refused why) = None
 envelope_of Dead = None
+envelope_of Stopped = None
 
 -- the effects of the update that an action makes
 abbrev pub effects_of : Action → Option (List Effect)
 effects_of (Send e) = None
 effects_of (Update number effects) = Some effects
 effects_of View = None
+effects_of Settled = None
 effects_of (Refused why) = None
 effects_of Dead = None
+effects_of Stopped = None
 
 abbrev pub put : {X : Type 0} → Option X → List X → List X
 put None xs = xs

@@ -15,11 +15,16 @@ pub enum Action {
     Update(u64, Effects),
     /// What it knows has another version than before the step.
     View,
-    /// It refuses what it was asked, by the number of the reason: 3 it is no member, 4 the address is not
-    /// listed, 5 a gossip counts more of its updates than it made, 6 there would be too many uniques.
+    /// What it knows is settled, and it noted that.
+    Settled,
+    /// It refuses what it was asked, by the number of the reason: 1 the process that is to leave is not Up, 2 the process is
+    /// no member, 3 the node itself is none, 4 the address is not listed, 5 a gossip counts more of its updates than it made,
+    /// 6 there would be too many uniques.
     Refused(u8),
     /// The packet is not for it.
     Dead,
+    /// It stops.
+    Stopped,
 }
 
 /// The actions of a step, in order.

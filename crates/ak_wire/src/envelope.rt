@@ -14,6 +14,8 @@ pub enum Message {
     Welcome(Gossip),
     /// What the sender knows.
     Gossip(Gossip),
+    /// The sender is Exiting, and stops.
+    ExitingConfirmed,
 }
 
 impl Message {
@@ -25,6 +27,7 @@ impl Message {
             Message::Join => b"join",
             Message::Welcome(_) => b"welcome",
             Message::Gossip(_) => b"gossip",
+            Message::ExitingConfirmed => b"exiting-confirmed",
         }
     }
 
@@ -36,6 +39,7 @@ impl Message {
             Message::Join => Ok(Message::Join),
             Message::Welcome(gossip) => Ok(Message::Welcome(gossip.copy(alloc)?)),
             Message::Gossip(gossip) => Ok(Message::Gossip(gossip.copy(alloc)?)),
+            Message::ExitingConfirmed => Ok(Message::ExitingConfirmed),
         }
     }
 }

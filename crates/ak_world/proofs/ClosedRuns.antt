@@ -1,5 +1,5 @@
 -- In each world of a run every version that is held or carried is closed, and so is every version from which an entry was made.
-use Rattle.std.proofs.Common.{◌≡◌, ℕ, ◌+◌, Bool, true, false, inl, inr, if◌then◌else◌, List, [], ◌∷◌, length, Option, Some, None, Result, Ok, Err, slice_get, Contains, refl, sym, ap, ◌∙◌, subst}
+use Rattle.std.proofs.Common.{◌≡◌, ℕ, ◌+◌, Bool, true, false, inl, inr, if◌then◌else◌, List, [], ◌∷◌, length, Option, Some, None, Result, Ok, Err, slice_get, Contains, IsTrue, refl, sym, ap, ◌∙◌, subst}
 use Rattle.ak_address.specs.Unique.{UniqueModel}
 use Rattle.ak_clock.specs.Version.{Counts, count, covers, relation_by}
 use Rattle.ak_member.specs.Standing.{is_member}
@@ -17,18 +17,18 @@ use Rattle.ak_wire.specs.declared.action.Action.{Action}
 use Rattle.ak_wire.specs.Wire.{sent, effects_of, put, updates_of, gossip_of}
 use Rattle.ak_node.specs.declared.node.State.{State}
 use Rattle.ak_node.specs.declared.node.NodeEvent.{NodeEvent}
-use Rattle.ak_node.specs.declared.node.NodeEvent.TheVariants as event
-use Rattle.ak_node.specs.Node.{Outcome, known, started, step}
+use Rattle.ak_node.specs.Node.{Outcome, known, me_of, started, step}
 use Rattle.ak_world.specs.declared.world.Reason.{Reason}
 use Rattle.ak_world.specs.World.{Done, recorded, stepped, starts, happens, after}
 use Rattle.ak_world.specs.Remembered.{Remembered, IsClosed, entries_in, with_base, recorded_from, basing, remembers, remembers_answer, remembered_from}
-use Rattle.ak_node.specs.Change.{Change, Keeps, Updates, Accepts, changed, made_by, Brings, IsLawful}
+use Rattle.ak_membership.specs.Knowledge.{Knowledge, Keeps, Updates, Accepts, learnt, made_by}
+use Rattle.ak_node.specs.Change.{given_by}
 use Rattle.ak_world.proofs.RememberedLemmas.{recorded-entries}
 use Rattle.ak_world.proofs.Closed.{closed_empty, closed_merged, closed_later, closed_update}
 use Rattle.ak_world.proofs.FoldRuns.{IsSound, happens_next}
 use Rattle.ak_node.proofs.StepChanges.{step_changes}
 use Rattle.ak_world.proofs.IndexLemmas.{set_or, last_or}
-use Rattle.ak_world.proofs.WhatHappened.{WasSent, begins, steps, nobody, IsAnswer, happened}
+use Rattle.ak_world.proofs.WhatHappened.{WasSent, brought, accepts_from, begins, steps, nobody, IsAnswer, happened}
 
 -- ---- the entries after a list of updates
 abbrev pub entry_of : UniqueModel → List Effect → List (Entry × Counts) → Entry
@@ -48,10 +48,10 @@ from-updates me base (a ∷ actions) based = from-updates me base actions (with_
 
 -- ---- one change
 module _ (based : List (Entry × Counts)) (numbered : IsNumbered (entries_in based)) (me : UniqueModel) (own : GossipState) (mine : count own.version me ≡ entries_of me (entries_in based)) where
-  abbrev pub after_change : Change → List (Entry × Counts)
+  abbrev pub after_change : Knowledge → List (Entry × Counts)
   after_change c = by_updates me own.version (made_by c) based
 
-  pub keeps_closed : (c : Change) (v : Counts) → IsBounded (entries_in based) v → IsClosed based v → IsClosed (after_change c) v
+  pub keeps_closed : (c : Knowledge) (v : Counts) → IsBounded (entries_in based) v → IsClosed based v → IsClosed (after_change c) v
   keeps_closed Keeps v bounded closed = closed
   keeps_closed (Updates effects) v bounded closed = closed_later based (entry_of me effects based) own.version v (refl, numbered) bounded closed
   keeps_closed (Accepts g) v bounded closed = closed
@@ -69,13 +69,13 @@ module _ (based : List (Entry × Counts)) (numbered : IsNumbered (entries_in bas
   accepted_closed g false true p q = seen_closed g q
   accepted_closed g false false p q = seen_closed (both own g) (closed_merged based own.version g.version p q)
 
-  changed_closed : (c : Change) → IsClosed based own.version → ((g : GossipState) → c ≡ Accepts g → IsClosed based g.version) → IsClosed (after_change c) (changed me c own).version
-  changed_closed Keeps closed brings = closed
-  changed_closed (Updates effects) closed brings = closed_update based (entry_of me effects based) own.version (refl, numbered) mine closed
-  changed_closed (Accepts g) closed brings = accepted_closed g (covers own.version g.version) (covers g.version own.version) closed (brings g refl)
+  learnt_closed : (c : Knowledge) → IsClosed based own.version → ((g : GossipState) → c ≡ Accepts g → IsClosed based g.version) → IsClosed (after_change c) (learnt me c own).version
+  learnt_closed Keeps closed brings = closed
+  learnt_closed (Updates effects) closed brings = closed_update based (entry_of me effects based) own.version (refl, numbered) mine closed
+  learnt_closed (Accepts g) closed brings = accepted_closed g (covers own.version g.version) (covers g.version own.version) closed (brings g refl)
 
   -- what each entry was made from
-  bases_closed : (c : Change) → IsBounded (entries_in based) own.version → IsClosed based own.version → ((e : Entry) (base : Counts) → Contains based (e, base) → IsBounded (entries_in based) base × IsClosed based base × (count base e.author + 1 ≡ e.number))
+  bases_closed : (c : Knowledge) → IsBounded (entries_in based) own.version → IsClosed based own.version → ((e : Entry) (base : Counts) → Contains based (e, base) → IsBounded (entries_in based) base × IsClosed based base × (count base e.author + 1 ≡ e.number))
       → (e : Entry) (base : Counts) → Contains (after_change c) (e, base) → IsBounded (entries_in (after_change c)) base × IsClosed (after_change c) base × (count base e.author + 1 ≡ e.number)
   bases_closed Keeps bounded closed old e base there = old e base there
   bases_closed (Accepts g) bounded closed old e base there = old e base there
@@ -133,51 +133,48 @@ module _ (r : Remembered) (s : Closing r) where
       none None = refl
       none (Some m) = refl
 
-  module _ (e : NodeEvent) (index : ℕ) (n : State) (founded : Bool) (at : slice_get r.world.nodes index ≡ Some n) (was_sent : WasSent r.world e) where
-    mine : count (known n).version n.me ≡ entries_of n.me (entries_in r.based)
-    mine = (s.sound.each index n at).own ∙ ap (entries_of n.me) (sym s.entries)
+  module _ (e : NodeEvent) (index : ℕ) (n : State) (founded : Bool) (at : slice_get r.world.nodes index ≡ Some n) (runs : IsTrue n.runs) (was_sent : WasSent r.world e) where
+    mine : count (known n).version (me_of n) ≡ entries_of (me_of n) (entries_in r.based)
+    mine = (s.sound.each index n at).own ∙ ap (entries_of (me_of n)) (sym s.entries)
 
-    brought : (g : GossipState) → Brings e g → IsClosed r.based g.version
-    brought g (p, is, carries) = let from : WasSent r.world (event.Packet p) = subst (WasSent r.world) is was_sent in s.at_packets from.0 p g from.1 carries
-
-    accepts_from : (c : Change) (g : GossipState) → c ≡ Accepts g → IsLawful e (record n { steps = n.steps + 1 }) c → Brings e g
-    accepts_from c g is lawful = (subst (IsLawful e (record n { steps = n.steps + 1 })) is lawful).0
+    brought_closed : (g : GossipState) → (given_by e).brings ≡ Some g → IsClosed r.based g.version
+    brought_closed g brings = let from = brought r.world e was_sent g brings in s.at_packets from.0 from.1 g from.2 from.3
 
     given : IsSound (stepped index (step e n) (record r.world { founded = founded })).world → Closing (remembers (stepped index (step e n) (record r.world { founded = founded })) r)
     given sound =
         let o : Outcome = step e n in
-        let c = step_changes e n in
-        let after_based : List (Entry × Counts) = after_change r.based numbered n.me (known n) mine c.change in
+        let c = step_changes e n runs in
+        let after_based : List (Entry × Counts) = after_change r.based numbered (me_of n) (known n) mine c.knowledge in
         let based : basing (slice_get r.world.nodes index) o.1 r.based ≡ after_based =
-        ap (λ (x : Option State). basing x o.1 r.based) at ∙ from-updates n.me (known n).version o.1 r.based ∙ ap (λ l. by_updates n.me (known n).version l r.based) c.made in
+        ap (λ (x : Option State). basing x o.1 r.based) at ∙ from-updates (me_of n) (known n).version o.1 r.based ∙ ap (λ l. by_updates (me_of n) (known n).version l r.based) c.made in
         let own_closed = s.at_nodes index n at in
         let closed : IsClosed after_based (known o.0).version =
         subst (λ (g : GossipState). IsClosed after_based g.version) (sym c.knows)
-        (changed_closed r.based numbered n.me (known n) mine c.change own_closed (λ g is. brought g (accepts_from c.change g is c.lawful))) in
+        (learnt_closed r.based numbered (me_of n) (known n) mine c.knowledge own_closed (λ g is. brought_closed g (accepts_from (given_by e) n.membership c.knowledge g is c.lawful))) in
         record {
           sound = sound;
           entries =
               ap (λ (x : Option State). entries_in (basing x o.1 r.based)) at
-              ∙ recorded-entries n.me (known n).version o.1 r.based
-              ∙ ap (recorded n.me o.1) s.entries
+              ∙ recorded-entries (me_of n) (known n).version o.1 r.based
+              ∙ ap (recorded (me_of n) o.1) s.entries
               ∙ ap (λ u. recorded u o.1 r.world.history) (sym c.same_me);
           at_nodes = λ j m is. subst (λ b. IsClosed b (known m).version) (sym based) (elim (set_or r.world.nodes index j o.0 m is) [
             | inl same ↦ subst (λ (x : State). IsClosed after_based (known x).version) (sym same) closed
-            | inr old ↦ keeps_closed r.based numbered n.me (known n) mine c.change (known m).version (bounded_node j m old) (s.at_nodes j m old)
+            | inr old ↦ keeps_closed r.based numbered (me_of n) (known n) mine c.knowledge (known m).version (bounded_node j m old) (s.at_nodes j m old)
           ]);
           at_packets = λ j p g is carries. subst (λ b. IsClosed b g.version) (sym based) (elim (last_or r.world.packets (sent o.1) j p is) [
             | inl new ↦ subst (λ (x : GossipState). IsClosed after_based x.version) (sym (c.carried p g new carries)) closed
-            | inr old ↦ keeps_closed r.based numbered n.me (known n) mine c.change g.version (bounded_packet j p g old carries) (s.at_packets j p g old carries)
+            | inr old ↦ keeps_closed r.based numbered (me_of n) (known n) mine c.knowledge g.version (bounded_packet j p g old carries) (s.at_packets j p g old carries)
           ]);
           at_bases = subst (λ b. (d : Entry) (base : Counts) → Contains b (d, base) → IsBounded (entries_in b) base × IsClosed b base × (count base d.author + 1 ≡ d.number)) (sym based)
-              (bases_closed r.based numbered n.me (known n) mine c.change (bounded_node index n at) own_closed s.at_bases);
+              (bases_closed r.based numbered (me_of n) (known n) mine c.knowledge (bounded_node index n at) own_closed s.at_bases);
         }
 
   pub answered_closing : (settings : SettingsModel) (a : Result Done Reason) → IsAnswer settings r.world a → IsSound (after r.world a) → Closing (remembers_answer r a)
   answered_closing settings (Err why) is sound = s
   answered_closing settings (Ok done) is sound = elim is as (λ d h. IsSound d.world → Closing (remembers d r)) [
     | begins u unknown free listed few ↦ begun settings u
-    | steps e index n founded at was_sent ↦ given e index n founded at was_sent
+    | steps e index n founded at runs was_sent ↦ given e index n founded at runs was_sent
     | nobody ↦ λ same. s
   ] sound
 

@@ -16,12 +16,14 @@ use Rattle.ak_history.specs.History.{entries_of, IsNumbered, view}
 use Rattle.ak_gossip.specs.Gossip.{GossipState, seen_by, same, both, accepted, noted}
 use Rattle.ak_node.specs.declared.node.State.{State}
 use Rattle.ak_node.specs.declared.node.NodeEvent.{NodeEvent}
-use Rattle.ak_node.specs.Node.{Outcome, known}
-use Rattle.ak_node.specs.Change.{Change, Keeps, Updates, Accepts, changed, made_by, Brings, IsLawful, Changes}
+use Rattle.ak_node.specs.Node.{Outcome, known, me_of}
+use Rattle.ak_membership.specs.Knowledge.{Knowledge, Keeps, Updates, Accepts, learnt, made_by}
+use Rattle.ak_node.specs.Change.{Changes, given_by}
 use Rattle.ak_world.specs.World.{with_update, recorded}
 use Rattle.ak_world.specs.Fold.{IsFold}
 use Rattle.ak_history.proofs.HistoryLemmas.{bounded-prefix, bounded-update, entries-author, entries-others}
 use Rattle.ak_world.proofs.IndexLemmas.{contains_at}
+use Rattle.ak_world.proofs.WhatHappened.{accepts_from}
 use Rattle.ak_history.proofs.ViewsMerged.{view-merged, view-later, view-update}
 
 -- ---- what a message carries
@@ -54,7 +56,7 @@ pub record Good (history : List Entry) (me : UniqueModel) (o : Outcome) : Type 0
   pub later : List Entry
   pub made : recorded me o.1 history ≡ later
   pub numbered : IsNumbered later
-  pub same_me : o.0.me ≡ me
+  pub same_me : me_of o.0 ≡ me
   pub knows : Knows later me (known o.0)
   pub others : (u : UniqueModel) → u ≢ me → entries_of u later ≡ entries_of u history
   pub kept : (g : GossipState) → IsFold history g → IsFold later g
@@ -121,15 +123,15 @@ from_updates author (a ∷ actions) history = from_updates author actions (with_
 
 -- ---- one change
 module _ (history : List Entry) (is_numbered : IsNumbered history) (me : UniqueModel) (own : GossipState) (k : Knows history me own) where
-  abbrev pub later_history : Change → List Entry
+  abbrev pub later_history : Knowledge → List Entry
   later_history c = after_updates me (made_by c) history
 
-  change_numbered : (c : Change) → IsNumbered (later_history c)
+  change_numbered : (c : Knowledge) → IsNumbered (later_history c)
   change_numbered Keeps = is_numbered
   change_numbered (Updates effects) = (refl, is_numbered)
   change_numbered (Accepts g) = is_numbered
 
-  change_knows : (c : Change) → ((g : GossipState) → c ≡ Accepts g → IsFold history g) → Knows (later_history c) me (changed me c own)
+  change_knows : (c : Knowledge) → ((g : GossipState) → c ≡ Accepts g → IsFold history g) → Knows (later_history c) me (learnt me c own)
   change_knows Keeps brings = k
   change_knows (Updates effects) brings =
       let entry : Entry = record { author = me; number = entries_of me history + 1; effects = effects } in
@@ -147,12 +149,12 @@ module _ (history : List Entry) (is_numbered : IsNumbered history) (me : UniqueM
       }
   change_knows (Accepts g) brings = noted_is history is_numbered me own g k (brings g refl)
 
-  change_others : (c : Change) (u : UniqueModel) → u ≢ me → entries_of u (later_history c) ≡ entries_of u history
+  change_others : (c : Knowledge) (u : UniqueModel) → u ≢ me → entries_of u (later_history c) ≡ entries_of u history
   change_others Keeps u apart = refl
   change_others (Updates effects) u apart = entries-others (record { author = me; number = entries_of me history + 1; effects = effects }) history u apart
   change_others (Accepts g) u apart = refl
 
-  change_kept : (c : Change) (g : GossipState) → IsFold history g → IsFold (later_history c) g
+  change_kept : (c : Knowledge) (g : GossipState) → IsFold history g → IsFold (later_history c) g
   change_kept Keeps g fold = fold
   change_kept (Updates effects) g fold =
       let entry : Entry = record { author = me; number = entries_of me history + 1; effects = effects } in
@@ -164,22 +166,19 @@ module _ (history : List Entry) (is_numbered : IsNumbered history) (me : UniqueM
 
 -- a packet brings the fold
 abbrev pub BringsFold : List Entry → NodeEvent → Type 0
-BringsFold history e = (g : GossipState) → Brings e g → IsFold history g
+BringsFold history e = (g : GossipState) → (given_by e).brings ≡ Some g → IsFold history g
 
-pub change_good : (history : List Entry) (is_numbered : IsNumbered history) (e : NodeEvent) (n : State) (o : Outcome) → BringsFold history e → Knows history n.me (known n) → Changes e n o → Good history n.me o
+pub change_good : (history : List Entry) (is_numbered : IsNumbered history) (e : NodeEvent) (n : State) (o : Outcome) → BringsFold history e → Knows history (me_of n) (known n) → Changes e n o → Good history (me_of n) o
 change_good history is_numbered e n o brings k c =
-    let later = later_history history is_numbered n.me (known n) k c.change in
-    let knows : Knows later n.me (known o.0) = subst (Knows later n.me) (sym c.knows) (change_knows history is_numbered n.me (known n) k c.change (λ g is. brings g (accepts_from c.change g is c.lawful))) in
+    let later = later_history history is_numbered (me_of n) (known n) k c.knowledge in
+    let knows : Knows later (me_of n) (known o.0) = subst (Knows later (me_of n)) (sym c.knows) (change_knows history is_numbered (me_of n) (known n) k c.knowledge (λ g is. brings g (accepts_from (given_by e) n.membership c.knowledge g is c.lawful))) in
     record {
       later = later;
-      made = from_updates n.me o.1 history ∙ ap (λ l. after_updates n.me l history) c.made;
-      numbered = change_numbered history is_numbered n.me (known n) k c.change;
+      made = from_updates (me_of n) o.1 history ∙ ap (λ l. after_updates (me_of n) l history) c.made;
+      numbered = change_numbered history is_numbered (me_of n) (known n) k c.knowledge;
       same_me = c.same_me;
       knows = knows;
-      others = change_others history is_numbered n.me (known n) k c.change;
-      kept = change_kept history is_numbered n.me (known n) k c.change;
+      others = change_others history is_numbered (me_of n) (known n) k c.knowledge;
+      kept = change_kept history is_numbered (me_of n) (known n) k c.knowledge;
       packets = record { at = λ index p is g carries. subst (IsFold later) (sym (c.carried p g (contains_at (sent o.1) index p is) carries)) knows.fold };
     }
-  where
-    accepts_from : (c : Change) (g : GossipState) → c ≡ Accepts g → IsLawful e n c → Brings e g
-    accepts_from c g is lawful = (subst (IsLawful e n) is lawful).0

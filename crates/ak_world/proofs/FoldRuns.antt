@@ -1,5 +1,5 @@
 -- Each event of a world keeps what is known in it the fold of its history, and a history only grows.
-use Rattle.std.proofs.Common.{◌≡◌, ◌≢◌, ℕ, zero, suc, ◌+◌, Bool, false, if◌then◌else◌, ◌⊎◌, inl, inr, List, [], ◌∷◌, ◌++◌, length, take, slice_get, slice_set, Option, Some, None, Result, Ok, Err, refl, sym, ap, ◌∙◌, subst, arith, true≢false, append_assoc}
+use Rattle.std.proofs.Common.{◌≡◌, ◌≢◌, ℕ, zero, suc, ◌+◌, Bool, false, if◌then◌else◌, ◌⊎◌, inl, inr, List, [], ◌∷◌, ◌++◌, length, take, slice_get, slice_set, Option, Some, None, Result, Ok, Err, IsTrue, refl, sym, ap, ◌∙◌, subst, arith, true≢false, append_assoc}
 use Rattle.std.proofs.lemmas.Bool.{lt-leb}
 use Rattle.std.proofs.lemmas.Option.{same_Some}
 use Rattle.std.specs.List.{list_any}
@@ -17,22 +17,21 @@ use Rattle.ak_wire.specs.declared.envelope.Envelope.{Envelope}
 use Rattle.ak_wire.specs.declared.envelope.Message.{Message}
 use Rattle.ak_node.specs.declared.node.State.{State}
 use Rattle.ak_node.specs.declared.node.NodeEvent.{NodeEvent}
-use Rattle.ak_node.specs.declared.node.NodeEvent.TheVariants as event
 use Rattle.ak_wire.specs.declared.action.Action.{Action}
 use Rattle.ak_member.specs.declared.effect.Effect.{Effect}
 use Rattle.ak_world.specs.declared.world.Reason.{Reason}
 use Rattle.ak_history.specs.History.{entries_of, IsNumbered, view}
 use Rattle.ak_gossip.specs.Gossip.{GossipState}
-use Rattle.ak_node.specs.Node.{Outcome, known, started, step}
+use Rattle.ak_node.specs.Node.{Outcome, known, me_of, started, step}
 use Rattle.ak_node.proofs.StepChanges.{step_changes}
 use Rattle.ak_world.specs.World.{WorldState, Done, empty_world, recorded, with_update, stepped, starts, is_process, happens, after, run_from, run}
 use Rattle.ak_wire.specs.Wire.{sent, effects_of}
 use Rattle.ak_world.specs.Fold.{IsFold, IsIn}
-use Rattle.ak_node.proofs.NodeLemmas.{any_here}
+use Rattle.ak_address.proofs.Elements.{any_there}
 use Rattle.ak_history.proofs.ViewsMerged.{view-prefix}
 use Rattle.ak_world.proofs.FoldLemmas.{CarriesFold, Packets, no_packets, more_packets, Knows, Good, BringsFold, change_good}
-use Rattle.ak_world.proofs.IndexLemmas.{set_at, set_back, push_at, prefix_at}
-use Rattle.ak_world.proofs.WhatHappened.{WasSent, begins, steps, nobody, IsAnswer, happened}
+use Rattle.ak_world.proofs.IndexLemmas.{contains_at, set_at, set_back, push_at, prefix_at}
+use Rattle.ak_world.proofs.WhatHappened.{WasSent, brought, begins, steps, nobody, IsAnswer, happened}
 
 -- nothing is shown where nothing is counted
 view-nothing : (history : List Entry) → IsNumbered history → empty_view ≡ view history map.empty
@@ -46,14 +45,14 @@ view-nothing (e ∷ history) is_numbered =
 -- ---- what is true of each world of a run
 -- no node is this process
 abbrev pub IsNew : UniqueModel → List State → Type 0
-IsNew u nodes = (index : ℕ) (n : State) → slice_get nodes index ≡ Some n → n.me ≢ u
+IsNew u nodes = (index : ℕ) (n : State) → slice_get nodes index ≡ Some n → me_of n ≢ u
 
 -- The history is numbered, each node counts all of its own updates, what nodes know and packets carry is the fold, the
 -- processes of different nodes differ, and a process that never started made no update.
 pub record Sound (nodes : List State) (packets : List Envelope) (history : List Entry) : Type 0 where
   pub is_numbered : IsNumbered history
-  pub each : (index : ℕ) (n : State) → slice_get nodes index ≡ Some n → Knows history n.me (known n)
-  pub apart : (i j : ℕ) (n m : State) → slice_get nodes i ≡ Some n → slice_get nodes j ≡ Some m → n.me ≡ m.me → i ≡ j
+  pub each : (index : ℕ) (n : State) → slice_get nodes index ≡ Some n → Knows history (me_of n) (known n)
+  pub apart : (i j : ℕ) (n m : State) → slice_get nodes i ≡ Some n → slice_get nodes j ≡ Some m → me_of n ≡ me_of m → i ≡ j
   pub fresh : (u : UniqueModel) → IsNew u nodes → entries_of u history ≡ 0
   pub carried : Packets history packets
 
@@ -61,7 +60,7 @@ abbrev pub IsSound : WorldState → Type 0
 IsSound w = Sound w.nodes w.packets w.history
 
 -- a process is one node
-pub one_node : (w : WorldState) → IsSound w → (i j : ℕ) (n m : State) → slice_get w.nodes i ≡ Some n → slice_get w.nodes j ≡ Some m → n.me ≡ m.me → n ≡ m
+pub one_node : (w : WorldState) → IsSound w → (i j : ℕ) (n m : State) → slice_get w.nodes i ≡ Some n → slice_get w.nodes j ≡ Some m → me_of n ≡ me_of m → n ≡ m
 one_node w s i j n m at also same = same_Some n m (sym at ∙ ap (slice_get w.nodes) (s.apart i j n m at also same) ∙ also)
 
 -- a world after this history
@@ -88,25 +87,25 @@ recorded-prefix author (a ∷ actions) history =
     update-prefix (Some effects) = (record { author = author; number = entries_of author history + 1; effects = effects } ∷ [], refl)
 
 -- ---- a step of one node
-module _ (nodes : List State) (packets : List Envelope) (history : List Entry) (s : Sound nodes packets history) (index : ℕ) (n : State) (at : slice_get nodes index ≡ Some n) (o : Outcome) (good : Good history n.me o) where
+module _ (nodes : List State) (packets : List Envelope) (history : List Entry) (s : Sound nodes packets history) (index : ℕ) (n : State) (at : slice_get nodes index ≡ Some n) (o : Outcome) (good : Good history (me_of n) o) where
   new_nodes : List State
   new_nodes = slice_set nodes index o.0
 
-  others_know : (j : ℕ) (m : State) → slice_get nodes j ≡ Some m → j ≢ index → Knows good.later m.me (known m)
+  others_know : (j : ℕ) (m : State) → slice_get nodes j ≡ Some m → j ≢ index → Knows good.later (me_of m) (known m)
   others_know j m is elsewhere =
-      let k : Knows history m.me (known m) = s.each j m is in
+      let k : Knows history (me_of m) (known m) = s.each j m is in
       record {
-        own = k.own ∙ sym (good.others m.me (λ same. elsewhere (s.apart j index m n is at same)));
+        own = k.own ∙ sym (good.others (me_of m) (λ same. elsewhere (s.apart j index m n is at same)));
         fold = good.kept (known m) k.fold;
       }
 
-  each_knows : (j : ℕ) (m : State) → slice_get (slice_set nodes index o.0) j ≡ Some m → Knows good.later m.me (known m)
-  each_knows = set_at (λ j (m : State). Knows good.later m.me (known m)) nodes index o.0 others_know (subst (λ u. Knows good.later u (known o.0)) (sym good.same_me) good.knows)
+  each_knows : (j : ℕ) (m : State) → slice_get (slice_set nodes index o.0) j ≡ Some m → Knows good.later (me_of m) (known m)
+  each_knows = set_at (λ j (m : State). Knows good.later (me_of m) (known m)) nodes index o.0 others_know (subst (λ u. Knows good.later u (known o.0)) (sym good.same_me) good.knows)
 
-  old_at : (j : ℕ) (m : State) → slice_get (slice_set nodes index o.0) j ≡ Some m → (k : State) × (slice_get nodes j ≡ Some k) × (k.me ≡ m.me)
-  old_at = set_at (λ j (m : State). (k : State) × (slice_get nodes j ≡ Some k) × (k.me ≡ m.me)) nodes index o.0 (λ j m is elsewhere. (m, is, refl)) (n, at, sym good.same_me)
+  old_at : (j : ℕ) (m : State) → slice_get (slice_set nodes index o.0) j ≡ Some m → (k : State) × (slice_get nodes j ≡ Some k) × (me_of k ≡ me_of m)
+  old_at = set_at (λ j (m : State). (k : State) × (slice_get nodes j ≡ Some k) × (me_of k ≡ me_of m)) nodes index o.0 (λ j m is elsewhere. (m, is, refl)) (n, at, sym good.same_me)
 
-  still_apart : (i j : ℕ) (a b : State) → slice_get (slice_set nodes index o.0) i ≡ Some a → slice_get (slice_set nodes index o.0) j ≡ Some b → a.me ≡ b.me → i ≡ j
+  still_apart : (i j : ℕ) (a b : State) → slice_get (slice_set nodes index o.0) i ≡ Some a → slice_get (slice_set nodes index o.0) j ≡ Some b → me_of a ≡ me_of b → i ≡ j
   still_apart i j a b is js same =
       let x = old_at i a is in
       let y = old_at j b js in
@@ -126,12 +125,12 @@ module _ (nodes : List State) (packets : List Envelope) (history : List Entry) (
     carried = more_packets good.later packets (sent o.1) (record { at = λ j e is. carries_kept history good.later good.kept e.message (s.carried.at j e is) }) good.packets;
   }
 
-  step_history : recorded o.0.me o.1 history ≡ good.later
+  step_history : recorded (me_of o.0) o.1 history ≡ good.later
   step_history = ap (λ u. recorded u o.1 history) good.same_me ∙ good.made
 
-step_next : (w : WorldState) (s : IsSound w) (index : ℕ) (n : State) → slice_get w.nodes index ≡ Some n → (o : Outcome) → Good w.history n.me o → Next w.history (stepped index o w).world
+step_next : (w : WorldState) (s : IsSound w) (index : ℕ) (n : State) → slice_get w.nodes index ≡ Some n → (o : Outcome) → Good w.history (me_of n) o → Next w.history (stepped index o w).world
 step_next w s index n at o good =
-    let prefix = recorded-prefix o.0.me o.1 w.history in
+    let prefix = recorded-prefix (me_of o.0) o.1 w.history in
     record {
       sound = subst (Sound (slice_set w.nodes index o.0) (w.packets ++ sent o.1)) (sym (step_history w.nodes w.packets w.history s index n at o good)) (step_sound w.nodes w.packets w.history s index n at o good);
       added = prefix.0;
@@ -140,22 +139,22 @@ step_next w s index n at o good =
 
 -- ---- a start
 pub unlike : (u : UniqueModel) (nodes : List State) → list_any (is_process u) nodes ≡ false → IsNew u nodes
-unlike u nodes none index n at same = true≢false (sym (any_here (is_process u) nodes index n at (ap (λ k. is_eq (unique_cmp k u)) same ∙ key_itself u)) ∙ none)
+unlike u nodes none index n at same = true≢false (sym (any_there (is_process u) nodes n (contains_at nodes index n at) (ap (λ k. is_eq (unique_cmp k u)) same ∙ key_itself u)) ∙ none)
 
 module _ (nodes : List State) (packets : List Envelope) (history : List Entry) (s : Sound nodes packets history) (settings : SettingsModel) (u : UniqueModel) (is_new : IsNew u nodes) where
   old_or_new : (j : ℕ) (m : State) → slice_get (nodes ++ started u settings ∷ []) j ≡ Some m → (slice_get nodes j ≡ Some m) ⊎ ((j ≡ length nodes) × (m ≡ started u settings))
   old_or_new = push_at (λ j (m : State). (slice_get nodes j ≡ Some m) ⊎ ((j ≡ length nodes) × (m ≡ started u settings))) nodes (started u settings) (λ j m is. inl is) (inr (refl, refl))
 
-  apart_by : (i j : ℕ) (a b : State) → (slice_get nodes i ≡ Some a) ⊎ ((i ≡ length nodes) × (a ≡ started u settings)) → (slice_get nodes j ≡ Some b) ⊎ ((j ≡ length nodes) × (b ≡ started u settings)) → a.me ≡ b.me → i ≡ j
+  apart_by : (i j : ℕ) (a b : State) → (slice_get nodes i ≡ Some a) ⊎ ((i ≡ length nodes) × (a ≡ started u settings)) → (slice_get nodes j ≡ Some b) ⊎ ((j ≡ length nodes) × (b ≡ started u settings)) → me_of a ≡ me_of b → i ≡ j
   apart_by i j a b (inl is) (inl js) same = s.apart i j a b is js same
-  apart_by i j a b (inl is) (inr js) same = absurd (is_new i a is (same ∙ ap (λ (x : State). x.me) js.1))
-  apart_by i j a b (inr is) (inl js) same = absurd (is_new j b js (sym same ∙ ap (λ (x : State). x.me) is.1))
+  apart_by i j a b (inl is) (inr js) same = absurd (is_new i a is (same ∙ ap me_of js.1))
+  apart_by i j a b (inr is) (inl js) same = absurd (is_new j b js (sym same ∙ ap me_of is.1))
   apart_by i j a b (inr is) (inr js) same = is.0 ∙ sym js.0
 
   start_sound : Sound (nodes ++ started u settings ∷ []) packets history
   start_sound = record {
     is_numbered = s.is_numbered;
-    each = push_at (λ j (m : State). Knows history m.me (known m)) nodes (started u settings) s.each (record {
+    each = push_at (λ j (m : State). Knows history (me_of m) (known m)) nodes (started u settings) s.each (record {
       own = count-empty u ∙ sym (s.fresh u is_new);
       fold = record {
         shown = view-nothing history s.is_numbered;
@@ -173,18 +172,18 @@ module _ (settings : SettingsModel) (w : WorldState) (s : IsSound w) where
   begun_next u unknown = record { sound = start_sound w.nodes w.packets w.history s settings u (unlike u w.nodes unknown); added = []; grown = refl }
 
   sent_fold : (e : NodeEvent) → WasSent w e → BringsFold w.history e
-  sent_fold e was_sent g (p, is, carries) = let from : WasSent w (event.Packet p) = subst (WasSent w) is was_sent in s.carried.at from.0 p from.1 g carries
+  sent_fold e was_sent g brings = let from = brought w e was_sent g brings in s.carried.at from.0 from.1 from.2 g from.3
 
-  given_next : (e : NodeEvent) (index : ℕ) (n : State) (founded : Bool) → slice_get w.nodes index ≡ Some n → WasSent w e → Next w.history (stepped index (step e n) (record w { founded = founded })).world
-  given_next e index n founded at was_sent =
+  given_next : (e : NodeEvent) (index : ℕ) (n : State) (founded : Bool) → slice_get w.nodes index ≡ Some n → IsTrue n.runs → WasSent w e → Next w.history (stepped index (step e n) (record w { founded = founded })).world
+  given_next e index n founded at runs was_sent =
       step_next (record w { founded = founded }) s index n at (step e n)
-      (change_good w.history s.is_numbered e (record n { steps = n.steps + 1 }) (step e n) (sent_fold e was_sent) (s.each index n at) (step_changes e n))
+      (change_good w.history s.is_numbered e (record n { steps = n.steps + 1 }) (step e n) (sent_fold e was_sent) (s.each index n at) (step_changes e n runs))
 
   answered_next : (a : Result Done Reason) → IsAnswer settings w a → Next w.history (after w a)
   answered_next (Err why) is = stays w s
   answered_next (Ok done) is = elim is as (λ d h. Next w.history d.world) [
     | begins u unknown free listed few ↦ begun_next u unknown
-    | steps e index n founded at was_sent ↦ given_next e index n founded at was_sent
+    | steps e index n founded at runs was_sent ↦ given_next e index n founded at runs was_sent
     | nobody ↦ stays w s
   ]
 

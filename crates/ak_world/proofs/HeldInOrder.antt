@@ -1,62 +1,41 @@
 -- What one process held stands in the order of time: a node covers all that it held before.
-use Rattle.std.proofs.Common.{◌≡◌, ℕ, zero, suc, Bool, true, false, ◌⊎◌, inl, inr, if◌then◌else◌, List, [], ◌∷◌, ◌++◌, length, take, Some, Result, Ok, Err, slice_get, slice_set, Contains, ◌≤◌, refl, sym, ap, ◌∙◌, subst, arith}
+use Rattle.std.proofs.Common.{◌≡◌, ℕ, zero, suc, Bool, false, ◌⊎◌, inl, inr, List, [], ◌∷◌, ◌++◌, length, take, Some, Result, Ok, Err, slice_get, slice_set, Contains, IsTrue, ◌≤◌, refl, sym, ap, ◌∙◌, subst, arith}
 use Rattle.std.proofs.lemmas.Option.{same_Some}
 use Rattle.ak_address.specs.Unique.{UniqueModel}
-use Rattle.ak_address.specs.Uniques.{with_one}
-use Rattle.ak_clock.specs.Version.{Counts, covers, relation_by, Covers}
-use Rattle.ak_clock.proofs.VersionLaws.{covers_itself, covers_along, covers_from_test, covers_equal, bumped_covers, merged_covers_first}
-use Rattle.ak_member.specs.Standing.{is_member}
-use Rattle.ak_gossip.specs.Gossip.{GossipState, same, both, accepted, noted, seen_by}
+use Rattle.ak_clock.specs.Version.{Counts, Covers}
+use Rattle.ak_clock.proofs.VersionLaws.{covers_itself, covers_along, covers_equal}
+use Rattle.ak_gossip.specs.Gossip.{GossipState}
 use Rattle.ak_address.proofs.Elements.{first_or_rest}
 use Rattle.ak_schedule.specs.Settings.{SettingsModel}
 use Rattle.ak_schedule.specs.declared.event.Event.{Event}
 use Rattle.ak_node.specs.declared.node.State.{State}
 use Rattle.ak_node.specs.declared.node.NodeEvent.{NodeEvent}
-use Rattle.ak_node.specs.Node.{Outcome, known, started, step}
+use Rattle.ak_node.specs.Node.{Outcome, known, me_of, started, step}
 use Rattle.ak_world.specs.declared.world.Reason.{Reason}
 use Rattle.std.specs.List.{list_any}
 use Rattle.ak_world.proofs.RememberedLemmas.{answer-world}
 use Rattle.ak_world.specs.World.{WorldState, Done, empty_world, is_process, stepped, starts, happens, after, run_from, run}
 use Rattle.ak_world.specs.Remembered.{Remembered, holding, remembers, remembers_answer, remembered_from}
-use Rattle.ak_node.specs.Change.{Change, Keeps, Updates, Accepts, changed}
 use Rattle.ak_world.specs.Held.{Holds}
 use Rattle.ak_world.proofs.FoldRuns.{IsSound, happens_next, run_sound, run-append, unlike, one_node}
+use Rattle.ak_membership.proofs.MembershipLemmas.{learnt_covers}
 use Rattle.ak_node.proofs.StepChanges.{step_changes}
 use Rattle.ak_world.proofs.IndexLemmas.{set_here, set_elsewhere, push_here, prefix_at}
 use Rattle.ak_world.proofs.WhatHappened.{begins, steps, nobody, IsAnswer, happened}
-
-seen_covers : (me : UniqueModel) (g : GossipState) (v : Counts) → Covers g.version v → Covers (seen_by me g).version v
-seen_covers me g v over = by_case (is_member g.view.standings me)
-  where
-    by_case : (b : Bool) → Covers (if b then record g { seen = with_one g.seen me } else g).version v
-    by_case true = over
-    by_case false = over
-
-accepted_covers : (me : UniqueModel) (own g : GossipState) (a b : Bool) → covers own.version g.version ≡ a → covers g.version own.version ≡ b → Covers (noted me (accepted (relation_by a b) own g)).1.version own.version
-accepted_covers me own g true true p q = seen_covers me (same own g) own.version (covers_itself own.version)
-accepted_covers me own g true false p q = covers_itself own.version
-accepted_covers me own g false true p q = seen_covers me g own.version (covers_from_test g.version own.version q)
-accepted_covers me own g false false p q = seen_covers me (both own g) own.version (merged_covers_first own.version g.version)
-
--- a version never falls
-pub changed_covers : (me : UniqueModel) (c : Change) (own : GossipState) → Covers (changed me c own).version own.version
-changed_covers me Keeps own = covers_itself own.version
-changed_covers me (Updates effects) own = bumped_covers own.version me
-changed_covers me (Accepts g) own = accepted_covers me own g (covers own.version g.version) (covers g.version own.version) refl refl
 
 -- the node that is this process covers this version
 pub record Over (nodes : List State) (who : UniqueModel) (v : Counts) : Type 0 where
   pub index : ℕ
   pub node : State
   pub at : slice_get nodes index ≡ Some node
-  pub is_who : node.me ≡ who
+  pub is_who : me_of node ≡ who
   pub over : Covers (known node).version v
 
 -- ---- each event keeps what nodes cover
-module _ (nodes : List State) (e : NodeEvent) (index : ℕ) (n : State) (at : slice_get nodes index ≡ Some n) where
-  step_covers : Covers (known (step e n).0).version (known n).version
-  step_covers = let c = step_changes e n in subst (λ (g : GossipState). Covers g.version (known n).version) (sym c.knows) (changed_covers n.me c.change (known n))
+pub step_covers : (e : NodeEvent) (n : State) → IsTrue n.runs → Covers (known (step e n).0).version (known n).version
+step_covers e n runs = let c = step_changes e n runs in subst (λ (g : GossipState). Covers g.version (known n).version) (sym c.knows) (learnt_covers (me_of n) c.knowledge (known n))
 
+module _ (nodes : List State) (e : NodeEvent) (index : ℕ) (n : State) (at : slice_get nodes index ≡ Some n) (runs : IsTrue n.runs) where
   stepped_over : (who : UniqueModel) (v : Counts) → Over nodes who v → Over (slice_set nodes index (step e n).0) who v
   stepped_over who v h = elim (set_elsewhere nodes index h.index (step e n).0 h.node h.at) [
     | inl is ↦
@@ -65,8 +44,8 @@ module _ (nodes : List State) (e : NodeEvent) (index : ℕ) (n : State) (at : sl
           index = index;
           node = (step e n).0;
           at = set_here nodes index n (step e n).0 at;
-          is_who = (step_changes e n).same_me ∙ ap (λ (x : State). x.me) (sym node_is) ∙ h.is_who;
-          over = covers_along (known (step e n).0).version (known n).version v step_covers (subst (λ (x : State). Covers (known x).version v) node_is h.over);
+          is_who = (step_changes e n runs).same_me ∙ ap me_of (sym node_is) ∙ h.is_who;
+          over = covers_along (known (step e n).0).version (known n).version v (step_covers e n runs) (subst (λ (x : State). Covers (known x).version v) node_is h.over);
         }
     | inr there ↦ record { index = h.index; node = h.node; at = there; is_who = h.is_who; over = h.over }
   ]
@@ -78,7 +57,7 @@ answered_over : (settings : SettingsModel) (w : WorldState) (a : Result Done Rea
 answered_over settings w (Err why) is who v h = h
 answered_over settings w (Ok done) is who v h = elim is as (λ d k. Over d.world.nodes who v) [
   | begins u unknown free listed few ↦ begun_over w.nodes (started u settings) who v h
-  | steps e index n founded at was_sent ↦ stepped_over w.nodes e index n at who v h
+  | steps e index n founded at runs was_sent ↦ stepped_over w.nodes e index n at runs who v h
   | nobody ↦ h
 ]
 
@@ -87,7 +66,7 @@ run_over settings w [] who v h = h
 run_over settings w (e ∷ events) who v h = run_over settings (after w (happens settings e w)) events who v (answered_over settings w (happens settings e w) (happened settings w e) who v h)
 
 -- ---- in the words of the run
-later_take : (i j : ℕ) (events : List Event) → i ≤ j → (more : List Event) × (take j events ≡ take i events ++ more)
+pub later_take : (i j : ℕ) (events : List Event) → i ≤ j → (more : List Event) × (take j events ≡ take i events ++ more)
 later_take zero j events le = (take j events, refl)
 later_take (suc i) zero events le = absurd (omega arith)
 later_take (suc i) (suc j) [] le = ([], refl)
@@ -112,20 +91,20 @@ pub record InOrder (held : List (UniqueModel × Counts)) (nodes : List State) : 
 -- one more version, of a node that covers all that its process held
 pushed : (held : List (UniqueModel × Counts)) (nodes : List State) (index : ℕ) (n : State) → slice_get nodes index ≡ Some n
     → ((who : UniqueModel) (v : Counts) → Contains held (who, v) → Over nodes who v)
-    → ((v : Counts) → Contains held (n.me, v) → Covers (known n).version v)
+    → ((v : Counts) → Contains held (me_of n, v) → Covers (known n).version v)
     → ((who : UniqueModel) (v w : Counts) → Contains held (who, v) → Contains held (who, w) → Covers v w ⊎ Covers w v)
-    → InOrder ((n.me, (known n).version) ∷ held) nodes
+    → InOrder ((me_of n, (known n).version) ∷ held) nodes
 pushed held nodes index n at below over comparable = record {
-  below = λ who v there. elim (first_or_rest (n.me, (known n).version) (who, v) held there) [
+  below = λ who v there. elim (first_or_rest (me_of n, (known n).version) (who, v) held there) [
     | inl is ↦ record { index = index; node = n; at = at; is_who = sym (ap (λ (x : UniqueModel × Counts). x.0) is); over = subst (Covers (known n).version) (sym (ap (λ (x : UniqueModel × Counts). x.1) is)) (covers_itself (known n).version) }
     | inr old ↦ below who v old
   ];
-  comparable = λ who v w first second. elim (first_or_rest (n.me, (known n).version) (who, v) held first) [
-    | inl is ↦ elim (first_or_rest (n.me, (known n).version) (who, w) held second) [
+  comparable = λ who v w first second. elim (first_or_rest (me_of n, (known n).version) (who, v) held first) [
+    | inl is ↦ elim (first_or_rest (me_of n, (known n).version) (who, w) held second) [
       | inl js ↦ inl (subst (λ x. Covers x w) (sym (ap (λ (x : UniqueModel × Counts). x.1) is)) (subst (Covers (known n).version) (sym (ap (λ (x : UniqueModel × Counts). x.1) js)) (covers_itself (known n).version)))
       | inr old ↦ inl (subst (λ x. Covers x w) (sym (ap (λ (x : UniqueModel × Counts). x.1) is)) (over w (subst (λ q. Contains held (q, w)) (ap (λ (x : UniqueModel × Counts). x.0) is) old)))
     ]
-    | inr before ↦ elim (first_or_rest (n.me, (known n).version) (who, w) held second) [
+    | inr before ↦ elim (first_or_rest (me_of n, (known n).version) (who, w) held second) [
       | inl js ↦ inr (subst (λ x. Covers x v) (sym (ap (λ (x : UniqueModel × Counts). x.1) js)) (over v (subst (λ q. Contains held (q, v)) (ap (λ (x : UniqueModel × Counts). x.0) js) before)))
       | inr old ↦ comparable who v w before old
     ]
@@ -133,20 +112,20 @@ pushed held nodes index n at below over comparable = record {
 }
 
 module _ (r : Remembered) (sound : IsSound r.world) (s : InOrder r.held r.world.nodes) where
-  given : (e : NodeEvent) (index : ℕ) (n : State) (founded : Bool) → slice_get r.world.nodes index ≡ Some n
+  given : (e : NodeEvent) (index : ℕ) (n : State) (founded : Bool) → slice_get r.world.nodes index ≡ Some n → IsTrue n.runs
       → InOrder (remembers (stepped index (step e n) (record r.world { founded = founded })) r).held (slice_set r.world.nodes index (step e n).0)
-  given e index n founded at =
+  given e index n founded at runs =
       let o : Outcome = step e n in
       let here = set_here r.world.nodes index n o.0 at in
       subst (λ h. InOrder h (slice_set r.world.nodes index o.0)) (sym (ap (λ x. holding x r.held) here))
       (pushed r.held (slice_set r.world.nodes index o.0) index o.0 here
-      (λ who v there. stepped_over r.world.nodes e index n at who v (s.below who v there))
-      (λ v there. covers_along (known o.0).version (known n).version v (step_covers r.world.nodes e index n at) (own_over v (subst (λ q. Contains r.held (q, v)) (step_changes e n).same_me there)))
+      (λ who v there. stepped_over r.world.nodes e index n at runs who v (s.below who v there))
+      (λ v there. covers_along (known o.0).version (known n).version v (step_covers e n runs) (own_over v (subst (λ q. Contains r.held (q, v)) (step_changes e n runs).same_me there)))
       s.comparable)
     where
-      own_over : (v : Counts) → Contains r.held (n.me, v) → Covers (known n).version v
+      own_over : (v : Counts) → Contains r.held (me_of n, v) → Covers (known n).version v
       own_over v there =
-          let h = s.below n.me v there in
+          let h = s.below (me_of n) v there in
           subst (λ (x : State). Covers (known x).version v) (one_node r.world sound h.index index h.node n h.at at h.is_who) h.over
 
   begun : (settings : SettingsModel) (u : UniqueModel) → list_any (is_process u) r.world.nodes ≡ false → InOrder (remembers (starts settings u r.world) r).held (r.world.nodes ++ started u settings ∷ [])
@@ -163,7 +142,7 @@ module _ (r : Remembered) (sound : IsSound r.world) (s : InOrder r.held r.world.
   answered_in_order settings (Err why) is = s
   answered_in_order settings (Ok done) is = elim is as (λ d h. InOrder (remembers d r).held d.world.nodes) [
     | begins u unknown free listed few ↦ begun settings u unknown
-    | steps e index n founded at was_sent ↦ given e index n founded at
+    | steps e index n founded at runs was_sent ↦ given e index n founded at runs
     | nobody ↦ s
   ]
 

@@ -4,6 +4,7 @@ use Rattle.std.proofs.lemmas.Option.{same_Some, get_or_from_slice_get, slice_get
 use Rattle.ak_address.proofs.Elements.{contains_rest}
 use Rattle.ak_history.proofs.HistoryLemmas.{contains_first}
 use Rattle.ak_node.specs.declared.node.State.{State}
+use Rattle.ak_node.specs.Node.{me_of}
 
 pub contains_at : {X : Type 0} (xs : List X) (index : ℕ) (x : X) → slice_get xs index ≡ Some x → Contains xs x
 contains_at xs index x at = (index, slice_get_within xs index x at, get_or_from_slice_get xs index x x at)
@@ -36,10 +37,10 @@ set_elsewhere (y ∷ ys) (suc index) zero x m is = inr is
 set_elsewhere (y ∷ ys) (suc index) (suc j) x m is = elim (set_elsewhere ys index j x m is) [ inl same ↦ inl (ap suc same) | inr there ↦ inr there ]
 
 -- a process that stood at an index stands there still
-pub set_back : (xs : List State) (index : ℕ) (n x : State) → slice_get xs index ≡ Some n → x.me ≡ n.me
-    → (j : ℕ) (m : State) → slice_get xs j ≡ Some m → (k : State) × (slice_get (slice_set xs index x) j ≡ Some k) × (k.me ≡ m.me)
+pub set_back : (xs : List State) (index : ℕ) (n x : State) → slice_get xs index ≡ Some n → me_of x ≡ me_of n
+    → (j : ℕ) (m : State) → slice_get xs j ≡ Some m → (k : State) × (slice_get (slice_set xs index x) j ≡ Some k) × (me_of k ≡ me_of m)
 set_back xs index n x at same j m is = elim (set_elsewhere xs index j x m is) [
-  | inl here ↦ (x, ap (slice_get (slice_set xs index x)) here ∙ set_here xs index n x at, same ∙ ap (λ (s : State). s.me) (same_Some n m (sym at ∙ ap (slice_get xs) (sym here) ∙ is)))
+  | inl here ↦ (x, ap (slice_get (slice_set xs index x)) here ∙ set_here xs index n x at, same ∙ ap me_of (same_Some n m (sym at ∙ ap (slice_get xs) (sym here) ∙ is)))
   | inr there ↦ (m, there, refl)
 ]
 

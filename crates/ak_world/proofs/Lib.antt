@@ -3,8 +3,12 @@ pub mod ClosedRuns
 pub mod FoldLemmas
 pub mod FoldRuns
 pub mod HeldInOrder
+pub mod InRunLemmas
 pub mod IndexLemmas
 pub mod MadeFrom
+pub mod Naming
+pub mod Noted
+pub mod Processes
 pub mod RememberedLemmas
 pub mod SeenHeld
 pub mod StepLemmas

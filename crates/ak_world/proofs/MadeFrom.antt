@@ -14,7 +14,7 @@ use Rattle.ak_history.proofs.HistoryLemmas.{contains_first, entries-prefix, numb
 use Rattle.ak_schedule.specs.Settings.{SettingsModel}
 use Rattle.ak_schedule.specs.declared.event.Event.{Event}
 use Rattle.ak_node.specs.declared.node.State.{State}
-use Rattle.ak_node.specs.Node.{known}
+use Rattle.ak_node.specs.Node.{known, me_of}
 use Rattle.ak_world.specs.declared.world.Reason.{Reason}
 use Rattle.ak_world.specs.World.{WorldState, Done, empty_world, happens, run}
 use Rattle.ak_world.specs.Fold.{IsIn}
@@ -36,7 +36,7 @@ recorded_more author base (a ∷ actions) based x there = recorded_more author b
 
 basing_more : (o : Option State) (actions : List Action) (based : List (Entry × Counts)) (x : Entry × Counts) → Contains based x → Contains (basing o actions based) x
 basing_more None actions based x there = there
-basing_more (Some n) actions based x there = recorded_more n.me (known n).version actions based x there
+basing_more (Some n) actions based x there = recorded_more (me_of n) (known n).version actions based x there
 
 answer_more : (r : Remembered) (a : Result Done Reason) (x : Entry × Counts) → Contains r.based x → Contains (remembers_answer r a).based x
 answer_more r (Err why) x there = there
@@ -72,13 +72,13 @@ recorded_new author base (a ∷ actions) based entry there =
 record NewFrom (o : Option State) (based : List (Entry × Counts)) (entry : Entry) : Type 0 where
   node : State
   is_node : o ≡ Some node
-  author : entry.author ≡ node.me
+  author : entry.author ≡ me_of node
   there : Contains based (entry, (known node).version)
 
 basing_new : (o : Option State) (actions : List Action) (based : List (Entry × Counts)) (entry : Entry) → Contains (entries_in (basing o actions based)) entry → (Contains (entries_in based) entry → ⊥)
     → NewFrom o (basing o actions based) entry
 basing_new None actions based entry there new = absurd (new there)
-basing_new (Some n) actions based entry there new = elim (recorded_new n.me (known n).version actions based entry there) [
+basing_new (Some n) actions based entry there new = elim (recorded_new (me_of n) (known n).version actions based entry there) [
   | inl old ↦ absurd (new old)
   | inr made ↦ record { node = n; is_node = refl; author = made.0; there = made.1 }
 ]

@@ -22,19 +22,19 @@ use Rattle.ak_wire.specs.declared.envelope.Envelope.{Envelope}
 use Rattle.ak_wire.specs.Wire.{sent, gossip_of}
 use Rattle.ak_node.specs.declared.node.State.{State}
 use Rattle.ak_node.specs.declared.node.NodeEvent.{NodeEvent}
-use Rattle.ak_node.specs.declared.node.NodeEvent.TheVariants as event
-use Rattle.ak_node.specs.Node.{Outcome, known, started, step}
+use Rattle.ak_node.specs.Node.{Outcome, known, me_of, started, step}
 use Rattle.ak_world.specs.declared.world.Reason.{Reason}
 use Rattle.ak_world.specs.World.{WorldState, Done, empty_world, stepped, starts, happens, after, run}
 use Rattle.ak_world.specs.Held.{Holds, Held}
 use Rattle.ak_world.specs.Remembered.{Remembered, holding, remembers, remembers_answer, remembered_from, nothing_remembered, remembered}
-use Rattle.ak_node.specs.Change.{Change, Keeps, Updates, Accepts, changed, Brings, IsLawful}
+use Rattle.ak_membership.specs.Knowledge.{Knowledge, Keeps, Updates, Accepts, learnt}
+use Rattle.ak_node.specs.Change.{given_by}
 use Rattle.ak_world.specs.Fold.{IsIn}
 use Rattle.ak_world.proofs.RememberedLemmas.{answer-world, remembered-world}
 use Rattle.ak_world.proofs.WorldLemmas.{run-push}
 use Rattle.ak_world.proofs.IndexLemmas.{set_here, set_or, last_or, push_here}
 use Rattle.ak_node.proofs.StepChanges.{step_changes}
-use Rattle.ak_world.proofs.WhatHappened.{WasSent, begins, steps, nobody, IsAnswer, happened}
+use Rattle.ak_world.proofs.WhatHappened.{WasSent, brought, accepts_from, begins, steps, nobody, IsAnswer, happened}
 
 -- ---- what is held of a gossip
 pub record Knew (held : List (UniqueModel × Counts)) (g : GossipState) : Type 0 where
@@ -123,13 +123,13 @@ module _ (held : List (UniqueModel × Counts)) (me : UniqueModel) (own : GossipS
     no_zero = λ u e. merged_no_zero (map.get own.version u) (map.get incoming.version u) (k.no_zero u) (h.no_zero u) (sym (get-merged_tables max own.version incoming.version u) ∙ e);
   }) now
 
-  pub changed_knew : (c : Change) → ((g : GossipState) → c ≡ Accepts g → Knew held g) → Contains held (me, (changed me c own).version) → Knew held (changed me c own)
-  changed_knew Keeps brings now = k
-  changed_knew (Updates effects) brings now = record {
+  pub learnt_knew : (c : Knowledge) → ((g : GossipState) → c ≡ Accepts g → Knew held g) → Contains held (me, (learnt me c own).version) → Knew held (learnt me c own)
+  learnt_knew Keeps brings now = k
+  learnt_knew (Updates effects) brings now = record {
     each = λ u seen. subst (λ q. Contains held (q, bumped own.version me)) (sym (one_alone me u seen)) now;
     no_zero = λ u. bumped_no_zero own.version me u k.no_zero;
   }
-  changed_knew (Accepts g) brings now = taking g (covers own.version g.version) (covers g.version own.version) refl refl (brings g refl) now
+  learnt_knew (Accepts g) brings now = taking g (covers own.version g.version) (covers g.version own.version) refl refl (brings g refl) now
 
 -- ---- a world
 pub record Seeing (held : List (UniqueModel × Counts)) (nodes : List State) (packets : List Envelope) : Type 0 where
@@ -155,20 +155,20 @@ module _ (r : Remembered) (s : IsSeeing r) where
         at_packets = λ j p g is carries. longer r.held _ g (s.at_packets j p g is carries);
       })
 
-  module _ (e : NodeEvent) (index : ℕ) (n : State) (founded : Bool) (at : slice_get r.world.nodes index ≡ Some n) (was_sent : WasSent r.world e) where
-    brought : (g : GossipState) → Brings e g → Knew r.held g
-    brought g (p, is, carries) = let from : WasSent r.world (event.Packet p) = subst (WasSent r.world) is was_sent in s.at_packets from.0 p g from.1 carries
+  module _ (e : NodeEvent) (index : ℕ) (n : State) (founded : Bool) (at : slice_get r.world.nodes index ≡ Some n) (runs : IsTrue n.runs) (was_sent : WasSent r.world e) where
+    brought_knew : (g : GossipState) → (given_by e).brings ≡ Some g → Knew r.held g
+    brought_knew g brings = let from = brought r.world e was_sent g brings in s.at_packets from.0 from.1 g from.2 from.3
 
     given : IsSeeing (remembers (stepped index (step e n) (record r.world { founded = founded })) r)
     given =
         let o : Outcome = step e n in
-        let c = step_changes e n in
-        let held : List (UniqueModel × Counts) = (o.0.me, (known o.0).version) ∷ r.held in
-        let here : Contains held (n.me, (changed n.me c.change (known n)).version) =
-        subst (λ q. Contains held (q, (changed n.me c.change (known n)).version)) c.same_me (subst (λ (g : GossipState). Contains held (o.0.me, g.version)) c.knows (contains_first _ r.held)) in
+        let c = step_changes e n runs in
+        let held : List (UniqueModel × Counts) = (me_of o.0, (known o.0).version) ∷ r.held in
+        let here : Contains held (me_of n, (learnt (me_of n) c.knowledge (known n)).version) =
+        subst (λ q. Contains held (q, (learnt (me_of n) c.knowledge (known n)).version)) c.same_me (subst (λ (g : GossipState). Contains held (me_of o.0, g.version)) c.knows (contains_first _ r.held)) in
         let knew : Knew held (known o.0) =
         subst (Knew held) (sym c.knows)
-        (changed_knew held n.me (known n) (longer r.held _ (known n) (s.at_nodes index n at)) c.change (λ g is. longer r.held _ g (brought g (accepts_from c.change g is c.lawful))) here) in
+        (learnt_knew held (me_of n) (known n) (longer r.held _ (known n) (s.at_nodes index n at)) c.knowledge (λ g is. longer r.held _ g (brought_knew g (accepts_from (given_by e) n.membership c.knowledge g is c.lawful))) here) in
         subst (λ h. Seeing h (slice_set r.world.nodes index o.0) (r.world.packets ++ sent o.1)) (sym (ap (λ x. holding x r.held) (set_here r.world.nodes index n o.0 at))) (record {
           at_nodes = λ j m is. elim (set_or r.world.nodes index j o.0 m is) [ inl same ↦ subst (λ (x : State). Knew held (known x)) (sym same) knew | inr old ↦ longer r.held _ (known m) (s.at_nodes j m old) ];
           at_packets = λ j p g is carries. elim (last_or r.world.packets (sent o.1) j p is) [
@@ -176,15 +176,12 @@ module _ (r : Remembered) (s : IsSeeing r) where
             | inr old ↦ longer r.held _ g (s.at_packets j p g old carries)
           ];
         })
-      where
-        accepts_from : (c : Change) (g : GossipState) → c ≡ Accepts g → IsLawful e (record n { steps = n.steps + 1 }) c → Brings e g
-        accepts_from c g is lawful = (subst (IsLawful e (record n { steps = n.steps + 1 })) is lawful).0
 
   pub answered_seeing : (settings : SettingsModel) (a : Result Done Reason) → IsAnswer settings r.world a → IsSeeing (remembers_answer r a)
   answered_seeing settings (Err why) is = s
   answered_seeing settings (Ok done) is = elim is as (λ d h. IsSeeing (remembers d r)) [
     | begins u unknown free listed few ↦ begun settings u
-    | steps e index n founded at was_sent ↦ given e index n founded at was_sent
+    | steps e index n founded at runs was_sent ↦ given e index n founded at runs was_sent
     | nobody ↦ s
   ]
 
@@ -222,7 +219,7 @@ module _ (settings : SettingsModel) (past : List Event) (e : Event) (r : Remembe
     where
       by_node : (o : Option State) → slice_get w.nodes index ≡ o → Contains (holding o r.held) (u, v) → WasHeld settings (past ++ e ∷ []) u v
       by_node None at there = one_more settings past e u v (all u v there)
-      by_node (Some n) at there = elim (first_or_rest (n.me, (known n).version) (u, v) r.held there) [
+      by_node (Some n) at there = elim (first_or_rest (me_of n, (known n).version) (u, v) r.held there) [
         | inl same ↦ record {
           first = past ++ e ∷ [];
           more = [];

@@ -1,15 +1,14 @@
 -- Lemmas of the definitions of a world: what a list of actions does by parts, how many nodes a run has and how many
 -- events each was given, and which node a process is.
-use Rattle.std.proofs.Common.{◌≡◌, is_ok, OnOk, ℕ, zero, suc, ◌+◌, ◌<◌, ◌≤◌, ◌^◌, leb, ltb, Bool, true, false, cond, not, ◌||◌, List, [], ◌∷◌, ◌++◌, set, length, Option, Some, None, is_some, option_map, position, slice_get, Result, Ok, Err, if◌then◌else◌, refl, sym, ap, ◌∙◌, subst, arith, append_assoc, one-add, le-leb, true≢false, length-append, take, get_or}
+use Rattle.std.proofs.Common.{◌≡◌, is_ok, OnOk, ℕ, zero, suc, ◌+◌, ◌<◌, ◌≤◌, ◌^◌, leb, ltb, Bool, true, false, cond, not, ◌||◌, List, [], ◌∷◌, ◌++◌, set, length, Option, Some, None, is_some, option_map, position, slice_get, Result, Ok, Err, IsTrue, if◌then◌else◌, refl, sym, ap, ◌∙◌, subst, arith, append_assoc, one-add, le-leb, true≢false, length-append, take, get_or}
 use Rattle.std.proofs.Math.ListN.{length-set}
 use Rattle.std.proofs.lemmas.Option.{slice_get-map, slice_get-get_or}
 use Rattle.std.proofs.lemmas.Bool.{leb-false, lt-leb}
 use Rattle.std.proofs.lemmas.Bool.Decides.{nat_tests}
 use Rattle.std.proofs.lemmas.List.{take_more, map-set}
 use Rattle.std.proofs.lemmas.List.Sums.{prefix_len-le-length}
-use Rattle.std.specs.Ordering.{is_eq}
 use Rattle.std.specs.List.{list_any, prefix_len, position_or_len}
-use Rattle.ak_address.specs.Unique.{AddressModel, UniqueModel, address_cmp}
+use Rattle.ak_address.specs.Unique.{AddressModel, UniqueModel}
 use Rattle.ak_schedule.specs.Settings.{SettingsModel, is_listed}
 use Rattle.ak_schedule.specs.declared.event.Event.{Event}
 use Rattle.ak_schedule.specs.declared.event.Event.TheVariants.{Start, Join}
@@ -26,10 +25,10 @@ use Rattle.ak_world.specs.declared.world.Refused.{Refused}
 use Rattle.ak_world.specs.declared.world.Reason as reason
 use Rattle.ak_world.specs.declared.world.Step.{Step}
 use Rattle.ak_history.specs.History.{entries_of}
-use Rattle.ak_node.specs.Node.{started, is_for, step}
+use Rattle.ak_node.specs.Node.{me_of, started, step}
 use Rattle.ak_node.proofs.StepChanges.{step_changes}
 use Rattle.ak_node.specs.NodeContracts.{NodeModel}
-use Rattle.ak_world.specs.World.{WorldState, Done, recorded, with_update, gives, acts, arrives, delivers, starts, stepped, is_process, is_in_use, happens, after, run_from, run, empty_world, node_of, receiver_of, packet_at}
+use Rattle.ak_world.specs.World.{WorldState, Done, recorded, with_update, gives, acts_at, acts, arrives, delivers, starts, stepped, is_process, runs_at, is_in_use, is_full, is_reached, happens, after, run_from, run, empty_world, node_of, receiver_of, packet_at}
 use Rattle.ak_wire.specs.Wire.{sent, effects_of}
 use Rattle.ak_wire.proofs.Sending.{sent-append}
 use Rattle.ak_world.proofs.IndexLemmas.{set_at, push_at}
@@ -54,8 +53,10 @@ pub sent-none : (a : Action) → ((e : Envelope) → a ≡ Send e → ⊥) → s
 sent-none (Send e) other = absurd (other e refl)
 sent-none (Update number effects) other = refl
 sent-none action.View other = refl
+sent-none action.Settled other = refl
 sent-none (action.Refused why) other = refl
 sent-none action.Dead other = refl
+sent-none action.Stopped other = refl
 
 pub recorded-append : (author : UniqueModel) (a b : List Action) (history : List Entry) → recorded author (a ++ b) history ≡ recorded author b (recorded author a history)
 recorded-append author [] b history = refl
@@ -76,8 +77,10 @@ pub recorded-none : (author : UniqueModel) (now : List Entry) (a : Action) → (
 recorded-none author now (Send e) other = refl
 recorded-none author now (Update number effects) other = absurd (other number effects refl)
 recorded-none author now action.View other = refl
+recorded-none author now action.Settled other = refl
 recorded-none author now (action.Refused why) other = refl
 recorded-none author now action.Dead other = refl
+recorded-none author now action.Stopped other = refl
 
 pub recorded-pushed : (author : UniqueModel) (now new : List Entry) (a : Action) (k n : ℕ) (fs es : List Effect) → a ≡ Update n es → fs ≡ es → k ≡ entries_of author now + 1
     → new ≡ record { author = author; number = k; effects = fs } ∷ now → new ≡ recorded author (a ∷ []) now
@@ -120,9 +123,9 @@ some_if false k = refl
 pub is_some-position : {X : Type 0} (p : X → Bool) (xs : List X) → is_some (position p xs) ≡ list_any p xs
 is_some-position p xs = some_if (ltb (position_or_len p xs) (length xs)) (position_or_len p xs) ∙ found_one p xs
 
--- each step of a node counts one event
-step_steps : (e : NodeEvent) (n : State) → (step e n).0.steps ≡ n.steps + 1
-step_steps e n = (step_changes e n).same_steps
+-- each step of a running node counts one event
+step_steps : (e : NodeEvent) (n : State) → IsTrue n.runs → (step e n).0.steps ≡ n.steps + 1
+step_steps e n runs = (step_changes e n runs).same_steps
 
 -- at most 64 nodes, each with at most k events
 record IsYoung (k : ℕ) (w : WorldState) : Type 0 where
@@ -145,10 +148,10 @@ answered_young k settings w (Ok done) is young = elim is as (λ d h. IsYoung (k 
     few = subst (λ n. n ≤ 64) (sym (length-append w.nodes (started u settings ∷ []))) (below_64 (length w.nodes) few);
     steps = push_at (λ j (m : State). m.steps ≤ k + 1) w.nodes (started u settings) (older k (k + 1) w (omega arith) young).steps (omega arith);
   }
-  | steps e index n founded at was_sent ↦ record {
+  | steps e index n founded at runs was_sent ↦ record {
     few = let same = length-set w.nodes index (step e n).0 in omega (arith, same, young.few);
     steps = set_at (λ j (m : State). m.steps ≤ k + 1) w.nodes index (step e n).0 (λ j m is elsewhere. (older k (k + 1) w (omega arith) young).steps j m is)
-        (let counted = step_steps e n in let below : n.steps ≤ k = young.steps index n at in omega (arith, counted));
+        (let counted = step_steps e n runs in let below : n.steps ≤ k = young.steps index n at in omega (arith, counted));
   }
   | nobody ↦ older k (k + 1) w (omega arith) young
 ]
@@ -187,7 +190,7 @@ state-at xs i n lt is =
 pub went-given : (nodes new_nodes : List NodeModel) (packets new_packets : List Envelope) (history new_history : List Entry) (founded : Bool)
     (index : ℕ) (e : NodeEvent) (n m : NodeModel) (actions : List Action) (u : UniqueModel) (number : Option ℕ) (first : ℕ)
     → slice_get (states nodes) index ≡ Some n.state → m.state ≡ (step e n.state).0 → actions ≡ (step e n.state).1
-    → new_nodes ≡ set nodes index m → new_packets ≡ packets ++ sent actions → u ≡ m.state.me → new_history ≡ recorded u actions history
+    → new_nodes ≡ set nodes index m → new_packets ≡ packets ++ sent actions → u ≡ me_of m.state → new_history ≡ recorded u actions history
     → length new_packets < 2 ^ 63 → number ≡ Some index → first ≡ length packets + 1
     → Went (record { nodes = states nodes; packets = packets; history = history; founded = founded })
     (gives e index (slice_get (states nodes) index) (record { nodes = states nodes; packets = packets; history = history; founded = founded }))
@@ -199,8 +202,8 @@ went-given nodes new_nodes packets new_packets history new_history founded index
     let nodes_eq : states new_nodes ≡ set (states nodes) index o.0 =
     ap states nodes_are ∙ map-set (λ (x : NodeModel). x.state) nodes index m ∙ ap (λ (x : State). set (states nodes) index x) state_is in
     let packets_eq : new_packets ≡ packets ++ sent o.1 = packets_are ∙ ap (λ (xs : List Action). packets ++ sent xs) actions_are in
-    let history_eq : new_history ≡ recorded o.0.me o.1 history =
-    history_is ∙ ap (λ (x : UniqueModel). recorded x actions history) (author ∙ ap (λ (x : State). x.me) state_is) ∙ ap (λ (xs : List Action). recorded o.0.me xs history) actions_are in
+    let history_eq : new_history ≡ recorded (me_of o.0) o.1 history =
+    history_is ∙ ap (λ (x : UniqueModel). recorded x actions history) (author ∙ ap me_of state_is) ∙ ap (λ (xs : List Action). recorded (me_of o.0) xs history) actions_are in
     record {
       done = stepped index o w;
       happened = ap (λ (x : Option State). gives e index x w) at;
@@ -216,15 +219,13 @@ pub position-within : {X : Type 0} (p : X → Bool) (xs : List X) (i : ℕ) → 
 position-within p xs i h = grind (arith, nat_tests, prefix_len-le-length (λ x. not (p x)) xs)
 
 -- a node that is there is given an event, which is accepted
-pub state-there : (xs : List NodeModel) (i : ℕ) → i < length xs → (n : State) × (slice_get (states xs) i ≡ Some n)
+state-there : (xs : List State) (i : ℕ) → i < length xs → (n : State) × (slice_get xs i ≡ Some n)
 state-there [] i lt = absurd (omega arith)
-state-there (x ∷ xs) zero lt = (x.state, refl)
+state-there (x ∷ xs) zero lt = (x, refl)
 state-there (x ∷ xs) (suc i) lt = state-there xs i (omega arith)
 
-pub given-accepted : (e : NodeEvent) (nodes : List NodeModel) (index : ℕ) (w : WorldState) → w.nodes ≡ states nodes → index < length nodes → IsAccepted (gives e index (slice_get w.nodes index) w)
-given-accepted e nodes index w are lt =
-    let there = state-there nodes index lt in
-    (stepped index (step e there.0) w, ap (λ (o : Option State). gives e index o w) (ap (λ (ns : List State). slice_get ns index) are ∙ there.1))
+pub given-accepted : (e : NodeEvent) (index : ℕ) (w : WorldState) → index < length w.nodes → IsAccepted (gives e index (slice_get w.nodes index) w)
+given-accepted e index w lt = let there = state-there w.nodes index lt in (stepped index (step e there.0) w, ap (λ (o : Option State). gives e index o w) there.1)
 
 -- an answer is accepted where an equal one is
 pub accepted-too : (a b : Result Done reason.Reason) → b ≡ a → IsAccepted a → IsAccepted b
@@ -234,8 +235,8 @@ accepted-too a b same accepted = (accepted.0, same ∙ accepted.1)
 pub found-node : (u : UniqueModel) (nodes : List NodeModel) (r o : Option ℕ) → r ≡ position (λ (n : NodeModel). is_process u n.state) nodes → r ≡ o → position (is_process u) (states nodes) ≡ o
 found-node u nodes r o answers is = position-states (is_process u) nodes ∙ sym answers ∙ is
 
-pub found-receiver : (e : Envelope) (nodes : List NodeModel) (r o : Option ℕ) → r ≡ position (λ (n : NodeModel). is_for n.state.me e) nodes → r ≡ o → position (λ (n : State). is_for n.me e) (states nodes) ≡ o
-found-receiver e nodes r o answers is = position-states (λ (n : State). is_for n.me e) nodes ∙ sym answers ∙ is
+pub found-receiver : (e : Envelope) (nodes : List NodeModel) (r o : Option ℕ) → r ≡ position (λ (n : NodeModel). is_reached e n.state) nodes → r ≡ o → position (is_reached e) (states nodes) ≡ o
+found-receiver e nodes r o answers is = position-states (is_reached e) nodes ∙ sym answers ∙ is
 
 -- one answer in place of another
 pub same-answer : (w v : WorldState) (a b : Result Done reason.Reason) (r : Result Step Refused) → b ≡ a → Scenes w a r v → Scenes w b r v
@@ -246,8 +247,8 @@ pub any-process : (u : UniqueModel) (nodes : List NodeModel) (r : Option ℕ) �
 any-process u nodes r answers =
     list_any-states (is_process u) nodes ∙ sym (is_some-position (λ (n : NodeModel). is_process u n.state) nodes) ∙ ap is_some (sym answers)
 
-pub any-address : (a : AddressModel) (nodes : List NodeModel) → list_any (λ (n : State). is_eq (address_cmp n.me.address a)) (states nodes) ≡ list_any (λ (n : NodeModel). is_eq (address_cmp n.state.me.address a)) nodes
-any-address a nodes = list_any-states (λ (n : State). is_eq (address_cmp n.me.address a)) nodes
+pub any-address : (a : AddressModel) (nodes : List NodeModel) → list_any (runs_at a) (states nodes) ≡ list_any (λ (n : NodeModel). runs_at a n.state) nodes
+any-address a nodes = list_any-states (runs_at a) nodes
 
 -- the tests of a start, as the calls answer them: the address is listed, the process was started, a node runs there
 pub start-listed : (xs : List AddressModel) (a : AddressModel) (u : UniqueModel) (b c : Bool) → a ≡ u.address → b ≡ is_listed xs a → b ≡ c → is_listed xs u.address ≡ c
@@ -257,11 +258,11 @@ pub start-known : (nodes kept : List NodeModel) (u : UniqueModel) (r : Option �
 start-known nodes kept u r b c answers same some is =
     any-process u nodes r (answers ∙ ap (position (λ (n : NodeModel). is_process u n.state)) same) ∙ sym some ∙ is
 
-pub start-used : (nodes kept : List NodeModel) (a : AddressModel) (u : UniqueModel) (b c : Bool) → a ≡ u.address → b ≡ list_any (λ (n : NodeModel). is_eq (address_cmp n.state.me.address a)) kept → kept ≡ nodes → b ≡ c
-    → list_any (λ (n : State). is_eq (address_cmp n.me.address u.address)) (states nodes) ≡ c
+pub start-used : (nodes kept : List NodeModel) (a : AddressModel) (u : UniqueModel) (b c : Bool) → a ≡ u.address → b ≡ list_any (λ (n : NodeModel). runs_at a n.state) kept → kept ≡ nodes → b ≡ c
+    → list_any (runs_at u.address) (states nodes) ≡ c
 start-used nodes kept a u b c at answers same is =
-    ap (λ (x : AddressModel). list_any (λ (n : State). is_eq (address_cmp n.me.address x)) (states nodes)) (sym at)
-    ∙ any-address a nodes ∙ sym (answers ∙ ap (list_any (λ (n : NodeModel). is_eq (address_cmp n.state.me.address a))) same) ∙ is
+    ap (λ (x : AddressModel). list_any (runs_at x) (states nodes)) (sym at)
+    ∙ any-address a nodes ∙ sym (answers ∙ ap (list_any (λ (n : NodeModel). runs_at a n.state)) same) ∙ is
 
 pub many-nodes : (nodes : List NodeModel) → 64 ≤ length nodes → leb 64 (length (states nodes)) ≡ true
 many-nodes nodes many = ap (leb 64) (length-states nodes) ∙ le-leb 64 (length nodes) many
@@ -270,29 +271,52 @@ pub few-nodes : (nodes : List NodeModel) → length nodes < 64 → leb 64 (lengt
 few-nodes nodes few = ap (leb 64) (length-states nodes) ∙ lt-leb 64 (length nodes) few
 
 -- the answer to a start, by its tests
-abbrev start_by : SettingsModel → UniqueModel → WorldState → Bool → Bool → Bool → Bool → Result Done reason.Reason
-start_by settings u w l a b c =
-    if not l then Err reason.TheVariants.Unlisted else (if a then Err reason.TheVariants.UniqueUsed else (if b then Err reason.TheVariants.AddressInUse else (if c then Err reason.TheVariants.TooManyStarts else Ok (starts settings u w))))
+abbrev start_by : SettingsModel → UniqueModel → WorldState → Bool → Bool → Bool → Bool → Bool → Result Done reason.Reason
+start_by settings u w l a b f c =
+    if not l then Err reason.TheVariants.Unlisted
+    else (if a then Err reason.TheVariants.UniqueUsed
+    else (if b then Err reason.TheVariants.AddressInUse
+    else (if f then Err reason.TheVariants.TooManyPackets
+    else (if c then Err reason.TheVariants.TooManyStarts
+    else Ok (starts settings u w)))))
 
-pub start-answer : (settings : SettingsModel) (u : UniqueModel) (w : WorldState) (l a b c : Bool) → is_listed settings.listed u.address ≡ l → list_any (is_process u) w.nodes ≡ a → is_in_use u.address w ≡ b → leb 64 (length w.nodes) ≡ c
-    → happens settings (Start u) w ≡ start_by settings u w l a b c
-start-answer settings u w l a b c pl pa pb pc =
-    ap (λ x. start_by settings u w x (list_any (is_process u) w.nodes) (is_in_use u.address w) (leb 64 (length w.nodes))) pl
-    ∙ ap (λ x. start_by settings u w l x (is_in_use u.address w) (leb 64 (length w.nodes))) pa
-    ∙ ap (λ x. start_by settings u w l a x (leb 64 (length w.nodes))) pb
-    ∙ ap (start_by settings u w l a b) pc
+pub start-answer : (settings : SettingsModel) (u : UniqueModel) (w : WorldState) (l a b f c : Bool) → is_listed settings.listed u.address ≡ l → list_any (is_process u) w.nodes ≡ a → is_in_use u.address w ≡ b → is_full w ≡ f → leb 64 (length w.nodes) ≡ c
+    → happens settings (Start u) w ≡ start_by settings u w l a b f c
+start-answer settings u w l a b f c pl pa pb pf pc =
+    ap (λ x. start_by settings u w x (list_any (is_process u) w.nodes) (is_in_use u.address w) (is_full w) (leb 64 (length w.nodes))) pl
+    ∙ ap (λ x. start_by settings u w l x (is_in_use u.address w) (is_full w) (leb 64 (length w.nodes))) pa
+    ∙ ap (λ x. start_by settings u w l a x (is_full w) (leb 64 (length w.nodes))) pb
+    ∙ ap (λ x. start_by settings u w l a b x (leb 64 (length w.nodes))) pf
+    ∙ ap (start_by settings u w l a b f) pc
 
 -- the answer to a join, by its test
 pub join-answer : (settings : SettingsModel) (u : UniqueModel) (target : AddressModel) (w : WorldState) (l : Bool) → is_listed settings.listed target ≡ l
     → happens settings (Join u target) w ≡ (if not l then Err reason.TheVariants.Unlisted else acts (event.TheVariants.Join target) (node_of u w) w)
 join-answer settings u target w l pl = ap (λ (x : Bool). if not x then Err reason.TheVariants.Unlisted else acts (event.TheVariants.Join target) (node_of u w) w) pl
 
+-- the answer to an event of a process, by its tests
+abbrev act_by : NodeEvent → ℕ → Option State → WorldState → Bool → Bool → Result Done reason.Reason
+act_by e index o w stopped full = if stopped then Err reason.TheVariants.NodeStopped else (if full then Err reason.TheVariants.TooManyPackets else gives e index o w)
+
+pub act-answer : (e : NodeEvent) (index : ℕ) (n : State) (w : WorldState) (stopped full : Bool) → slice_get w.nodes index ≡ Some n → not n.runs ≡ stopped → is_full w ≡ full
+    → acts e (Some index) w ≡ act_by e index (slice_get w.nodes index) w stopped full
+act-answer e index n w stopped full at ps pf =
+    ap (λ (o : Option State). acts_at e index o w) at
+    ∙ ap (λ x. act_by e index (Some n) w x (is_full w)) ps
+    ∙ ap (act_by e index (Some n) w stopped) pf
+    ∙ ap (λ (o : Option State). act_by e index o w stopped full) (sym at)
+
 -- a packet that reaches no process, and one that reaches a node
-pub dead-delivery : (w : WorldState) (number : ℕ) (e : Envelope) (s : Step) → packet_at w number ≡ Some e → receiver_of e w ≡ None → s.node ≡ None → s.first_packet ≡ length w.packets + 1 → s.first_packet < 2 ^ 64
+pub delivery-answer : (w : WorldState) (number : ℕ) (e : Envelope) (full : Bool) → packet_at w number ≡ Some e → is_full w ≡ full
+    → delivers (packet_at w number) w ≡ (if full then Err reason.TheVariants.TooManyPackets else arrives e (receiver_of e w) w)
+delivery-answer w number e full packet is =
+    ap (λ (o : Option Envelope). delivers o w) packet ∙ ap (λ (b : Bool). if b then Err reason.TheVariants.TooManyPackets else arrives e (receiver_of e w) w) is
+
+pub dead-delivery : (w : WorldState) (number : ℕ) (e : Envelope) (s : Step) → packet_at w number ≡ Some e → is_full w ≡ false → receiver_of e w ≡ None → s.node ≡ None → s.first_packet ≡ length w.packets + 1 → s.first_packet < 2 ^ 64
     → s.actions ≡ [] → Went w (delivers (packet_at w number) w) s w
-dead-delivery w number e s packet unreached none first_is few no_actions = record {
+dead-delivery w number e s packet room unreached none first_is few no_actions = record {
   done = record { world = w; node = None; actions = [] };
-  happened = ap (λ (o : Option Envelope). delivers o w) packet ∙ ap (λ (o : Option ℕ). arrives e o w) unreached;
+  happened = delivery-answer w number e false packet room ∙ ap (λ (o : Option ℕ). arrives e o w) unreached;
   world = refl;
   shown = record { node = none; first_packet = first_is; actions = no_actions };
   numbers =
@@ -300,10 +324,10 @@ dead-delivery w number e s packet unreached none first_is few no_actions = recor
       omega (arith, nothing_sent, few);
 }
 
-pub delivery : (w : WorldState) (number : ℕ) (e f : Envelope) (index : ℕ) → packet_at w number ≡ Some e → receiver_of e w ≡ Some index → f ≡ e
+pub delivery : (w : WorldState) (number : ℕ) (e f : Envelope) (index : ℕ) → packet_at w number ≡ Some e → is_full w ≡ false → receiver_of e w ≡ Some index → f ≡ e
     → delivers (packet_at w number) w ≡ gives (event.TheVariants.Packet f) index (slice_get w.nodes index) w
-delivery w number e f index packet reached copied =
-    ap (λ (o : Option Envelope). delivers o w) packet
+delivery w number e f index packet room reached copied =
+    delivery-answer w number e false packet room
     ∙ ap (λ (o : Option ℕ). arrives e o w) reached
     ∙ ap (λ (x : Envelope). gives (event.TheVariants.Packet x) index (slice_get w.nodes index) w) (sym copied)
 

@@ -7,7 +7,7 @@ use Rattle.ak_schedule.specs.Settings.{SettingsModel}
 use Rattle.ak_schedule.specs.declared.event.Event.{Event}
 use Rattle.ak_history.specs.declared.entry.Entry.{Entry}
 use Rattle.ak_node.specs.declared.node.State.{State}
-use Rattle.ak_node.specs.Node.{known}
+use Rattle.ak_node.specs.Node.{known, me_of}
 use Rattle.ak_world.specs.World.{WorldState, run}
 
 -- a node of the world is this process and has exactly this version
@@ -15,7 +15,7 @@ pub record Holds (w : WorldState) (who : UniqueModel) (version : Counts) : Type 
   pub index : ℕ
   pub node : State
   pub at : slice_get w.nodes index ≡ Some node
-  pub is_who : node.me ≡ who
+  pub is_who : me_of node ≡ who
   pub version_is : (known node).version ≡ version
 
 -- a process held exactly this version after some of the first events: from the end of one of its steps on

@@ -11,7 +11,7 @@ use Rattle.ak_wire.specs.declared.action.Action.{Action}
 use Rattle.ak_member.specs.declared.effect.Effect.{Effect}
 use Rattle.ak_wire.specs.Wire.{effects_of}
 use Rattle.ak_node.specs.declared.node.State.{State}
-use Rattle.ak_node.specs.Node.{known}
+use Rattle.ak_node.specs.Node.{known, me_of}
 use Rattle.ak_world.specs.declared.world.Reason.{Reason}
 use Rattle.ak_world.specs.World.{WorldState, Done, empty_world, happens}
 
@@ -38,12 +38,12 @@ recorded_from author base (a ∷ actions) based = recorded_from author base acti
 
 -- after an event the acting node holds what it knows then
 abbrev pub holding : Option State → List (UniqueModel × Counts) → List (UniqueModel × Counts)
-holding (Some n) held = (n.me, (known n).version) ∷ held
+holding (Some n) held = (me_of n, (known n).version) ∷ held
 holding None held = held
 
 -- the acting node made its entries from what it knew before
 abbrev pub basing : Option State → List Action → List (Entry × Counts) → List (Entry × Counts)
-basing (Some n) actions based = recorded_from n.me (known n).version actions based
+basing (Some n) actions based = recorded_from (me_of n) (known n).version actions based
 basing None actions based = based
 
 -- what one event did is remembered; the same `happens` says what it did

@@ -10,12 +10,12 @@ use Rattle.ak_wire.specs.declared.envelope.Envelope.{Envelope}
 use Rattle.ak_wire.specs.Wire.{kind_text}
 use Rattle.ak_report.specs.ActionText.{item, actions_text}
 use Rattle.ak_node.specs.declared.node.State.{State}
-use Rattle.ak_node.specs.Node.{known}
+use Rattle.ak_node.specs.Node.{known, me_of}
 use Rattle.ak_world.specs.World.{WorldState, Done, packet_at}
 
 -- what a delivered packet was, or that it reached nobody
 abbrev pub arrival_text : Option State → Option Envelope → List ℕ
-arrival_text (Some n) (Some e) = item (codes "at " ++ unique_text n.me ++ codes " " ++ kind_text e.message ++ codes " from " ++ unique_text e.from)
+arrival_text (Some n) (Some e) = item (codes "at " ++ unique_text (me_of n) ++ codes " " ++ kind_text e.message ++ codes " from " ++ unique_text e.from)
 arrival_text (Some n) None = item (codes "dead")
 arrival_text None e = item (codes "dead")
 

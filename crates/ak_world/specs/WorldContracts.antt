@@ -1,5 +1,6 @@
 -- Words of the contracts of a world's calls.
 use Rattle.std.specs.Prelude.{◌≡◌, ℕ, ◌+◌, ◌^◌, ◌<◌, ◌≤◌, Bool, true, false, List, [], ◌∷◌, ◌++◌, map, length, slice_get, Some, Result, Ok, Err}
+use Rattle.ak_address.specs.Unique.{UniqueModel}
 use Rattle.ak_schedule.specs.Settings.{SettingsModel}
 use Rattle.ak_schedule.specs.declared.event.Event.{Event}
 use Rattle.ak_world.specs.declared.world.Scene.{Scene}
@@ -8,8 +9,9 @@ use Rattle.ak_world.specs.declared.world.Reason.{Reason}
 use Rattle.ak_world.specs.declared.world.Refused.{Refused}
 use Rattle.ak_world.specs.declared.world.Refused as refused
 use Rattle.ak_node.specs.declared.node.State.{State}
+use Rattle.ak_node.specs.declared.node.NodeEvent.{NodeEvent}
 use Rattle.ak_node.specs.NodeContracts.{NodeModel}
-use Rattle.ak_world.specs.World.{WorldState, Done, happens, run}
+use Rattle.ak_world.specs.World.{WorldState, Done, node_of, gives, acts, happens, run}
 use Rattle.ak_wire.specs.Wire.{sent}
 
 -- a world with its settings and the events that it accepted, in their order; a spent one has run out of memory
@@ -55,6 +57,11 @@ abbrev pub Scenes : WorldState → Result Done Reason → Result Step Refused �
 Scenes old answer (Ok step) new = Went old answer step new
 Scenes old answer (Err (refused.TheVariants.Invalid why)) new = Stayed old answer why new
 Scenes old answer (Err refused.TheVariants.NoMemory) new = IsAccepted answer
+
+-- Which node acts, or why none does: the same for every event that the process may be given.
+abbrev pub Acts : UniqueModel → WorldState → Result ℕ Reason → Type 0
+Acts who w (Ok index) = (index < length w.nodes) × ((e : NodeEvent) → acts e (node_of who w) w ≡ gives e index (slice_get w.nodes index) w)
+Acts who w (Err why) = (e : NodeEvent) → acts e (node_of who w) w ≡ Err why
 
 -- few nodes were started, and each was given few events
 pub record IsReady (w : WorldState) : Type 0 where

@@ -21,8 +21,12 @@ const HEADERS: [&str; 9] = [
 ];
 
 pub(crate) fn settings(alloc: Global) -> Result<Settings, Fail> {
+    settings_of(alloc, HEADERS)
+}
+
+pub(crate) fn settings_of(alloc: Global, headers: [&str; 9]) -> Result<Settings, Fail> {
     let mut draft = Draft::new(alloc);
-    'headers: for line in HEADERS {
+    'headers: for line in headers {
         if draft.header(alloc, line.as_bytes())? {
             return Ok(draft.finish().map_err(|_| "a header is missing")?);
         }

@@ -7,7 +7,7 @@ ghost use Rattle.ak_wire.specs.declared.action.Action.TheVariants.{Update};
 ghost use Rattle.ak_schedule.specs.Settings.{SettingsModel};
 ghost use Rattle.ak_schedule.specs.declared.event.Event.{Event};
 ghost use Rattle.ak_node.specs.declared.node.State.{State};
-ghost use Rattle.ak_node.specs.Node.{known};
+ghost use Rattle.ak_node.specs.Node.{known, me_of};
 ghost use Rattle.ak_world.specs.Fold.{IsFold, IsIn};
 ghost use Rattle.ak_gossip.specs.Gossip.{GossipState};
 ghost use Rattle.ak_history.specs.declared.entry.Entry.{Entry};
@@ -15,6 +15,8 @@ ghost use Rattle.ak_history.specs.History.{entries_of, IsNumbered, is_covered};
 ghost use Rattle.ak_world.specs.World.{Done, happens, run};
 ghost use Rattle.ak_world.specs.StepText.{acting};
 ghost use Rattle.ak_world.specs.Held.{Holds, Held, Enters, Made};
+ghost use Rattle.ak_settled.specs.SettledView.{NotedView};
+ghost use Rattle.ak_world.specs.InRun.{WasStarted, HasStopped, AllServe, RunAlone, IsConfirmed, IsNamedIn, IsSettled, HasNoted};
 
 /// After any events, what each node knows and what each packet carries is the fold of the history: its members with
 /// their statuses, its tombstones and its rows are those that its version shows, and its version counts no entry that was
@@ -28,8 +30,8 @@ pub fn what_is_known_is_the_fold()
 pub fn nodes_count_their_own_updates()
     ensures numbered { (settings : SettingsModel) (events : List Event) → IsNumbered (run settings events).history }
     ensures counted { (settings : SettingsModel) (events : List Event) (index : ℕ) (n : State) → slice_get (run settings events).nodes index ≡ Some n
-        → count (known n).version n.me ≡ entries_of n.me (run settings events).history }
-    ensures apart { (settings : SettingsModel) (events : List Event) (i j : ℕ) (n m : State) → slice_get (run settings events).nodes i ≡ Some n → slice_get (run settings events).nodes j ≡ Some m → n.me ≡ m.me → i ≡ j }
+        → count (known n).version (me_of n) ≡ entries_of (me_of n) (run settings events).history }
+    ensures apart { (settings : SettingsModel) (events : List Event) (i j : ℕ) (n m : State) → slice_get (run settings events).nodes i ≡ Some n → slice_get (run settings events).nodes j ≡ Some m → me_of n ≡ me_of m → i ≡ j }
 {}
 
 /// In one run, at the same time or at different times, equal versions have equal members, tombstones and rows.
@@ -42,7 +44,7 @@ pub fn equal_versions_have_equal_members()
 pub fn updates_number_their_entries()
     ensures { (settings : SettingsModel) (events : List Event) (event : Event) (done : Done) → happens settings event (run settings events) ≡ Ok done
         → (number : ℕ) (effects : List Effect) → Contains done.actions (Update number effects)
-        → IsSomeAnd (acting done) (λ n. Enters (run settings events).history done.world.history (record { author = n.me; number = number; effects = effects })) }
+        → IsSomeAnd (acting done) (λ n. Enters (run settings events).history done.world.history (record { author = me_of n; number = number; effects = effects })) }
 {}
 
 /// After any events, each process in the seen set of a node or of a gossip in a packet held exactly that version at the end
@@ -63,4 +65,34 @@ pub fn who_knows_an_entry_knows_what_its_author_knew()
 pub fn later_versions_cover_earlier_ones()
     ensures { (settings : SettingsModel) (events : List Event) (i j : ℕ) (who : UniqueModel) (earlier later : Counts) → i ≤ j
         → Holds (run settings (take i events)) who earlier → Holds (run settings (take j events)) who later → Covers later earlier }
+{}
+
+/// After any events, each running node that knows anybody is a member of its own view, and not Down there.
+pub fn running_nodes_serve()
+    ensures { (settings : SettingsModel) (events : List Event) → AllServe (run settings events) }
+{}
+
+/// After any events, whoever is said to have stopped has stopped: a process with a confirmed tombstone in what a node knows, in
+/// a packet or in a noted settled view, a process that a node has heard say so, and the sender of a packet that says so.
+pub fn confirmed_means_stopped()
+    ensures { (settings : SettingsModel) (events : List Event) (who : UniqueModel) → IsConfirmed (run settings events) who → HasStopped (run settings events).nodes who }
+{}
+
+/// After any events, at one address at most one process runs.
+pub fn one_process_runs_at_an_address()
+    ensures { (settings : SettingsModel) (events : List Event) → RunAlone (run settings events) }
+{}
+
+/// After any events, whoever is named in the world was started, and its address is listed.
+pub fn who_is_named_was_started()
+    ensures { (settings : SettingsModel) (events : List Event) (who : UniqueModel) → IsNamedIn (run settings events) who → WasStarted settings (run settings events).nodes who }
+{}
+
+/// After any events, what a node has noted as settled is the view of the history at its version, which the process held at the
+/// end of one of its steps; what the node knows covers it, and it shows the node neither as Down nor as a tombstone. Of two
+/// versions that one process noted as settled in a run, the later covers the earlier.
+pub fn settled_views_are_of_the_history()
+    ensures settled { (settings : SettingsModel) (events : List Event) (index : ℕ) (n : State) (noted : NotedView) → slice_get (run settings events).nodes index ≡ Some n → n.membership.settled.view ≡ Some noted → IsSettled settings events n noted }
+    ensures grows { (settings : SettingsModel) (events : List Event) (i j : ℕ) (who : UniqueModel) (earlier later : Counts) → i ≤ j
+        → HasNoted (run settings (take i events)) who earlier → HasNoted (run settings (take j events)) who later → Covers later earlier }
 {}

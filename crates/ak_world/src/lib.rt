@@ -4,15 +4,19 @@
 #[cfg(test)]
 mod fold_tests;
 mod laws;
+#[cfg(test)]
+mod life_tests;
 mod print;
 #[cfg(test)]
 mod seen_tests;
 mod world;
 
 pub use laws::{
-    equal_versions_have_equal_members, later_versions_cover_earlier_ones,
-    nodes_count_their_own_updates, updates_number_their_entries, what_is_known_is_the_fold,
-    who_has_seen_a_version_held_it, who_knows_an_entry_knows_what_its_author_knew,
+    confirmed_means_stopped, equal_versions_have_equal_members, later_versions_cover_earlier_ones,
+    nodes_count_their_own_updates, one_process_runs_at_an_address, running_nodes_serve,
+    settled_views_are_of_the_history, updates_number_their_entries, what_is_known_is_the_fold,
+    who_has_seen_a_version_held_it, who_is_named_was_started,
+    who_knows_an_entry_knows_what_its_author_knew,
 };
 pub use print::{print_step, print_summary};
 pub use world::{Reason, Refused, Step, World};

@@ -3,8 +3,7 @@ ghost use Rattle.std.specs.Option.{option_copied, option_map};
 ghost use Rattle.ak_wire.specs.Wire.{sent};
 ghost use Rattle.ak_world.specs.World as rules;
 ghost use Rattle.std.specs.List.{list_any, position};
-ghost use Rattle.std.specs.Ordering.{is_eq};
-ghost use Rattle.ak_address.specs.Unique.{UniqueModel, address_cmp};
+ghost use Rattle.ak_address.specs.Unique.{UniqueModel};
 ghost use Rattle.ak_address.specs.Uniques.{has};
 ghost use Rattle.ak_clock.specs.Version.{Counts, Covers};
 ghost use Rattle.ak_history.specs.declared.entry.Entry.{Entry};
@@ -12,8 +11,10 @@ ghost use Rattle.ak_history.specs.History.{is_covered};
 ghost use Rattle.ak_world.specs.Held.{Holds, Held, Made};
 ghost use Rattle.ak_world.specs.Fold.{IsFold, IsIn};
 ghost use Rattle.ak_gossip.specs.Gossip.{GossipState};
-ghost use Rattle.ak_node.specs.Node.{is_for};
-ghost use Rattle.ak_world.specs.WorldContracts.{Applies, Scenes, IsReady, state_of};
+ghost use Rattle.ak_settled.specs.SettledView.{NotedView};
+ghost use Rattle.ak_node.specs.declared.node.State.{State};
+ghost use Rattle.ak_world.specs.InRun.{WasStarted, HasStopped, AllServe, RunAlone, IsConfirmed, IsNamedIn, IsSettled, HasNoted};
+ghost use Rattle.ak_world.specs.WorldContracts.{Applies, Scenes, IsReady, Acts, state_of};
 ghost use Rattle.ak_node.specs.NodeContracts.{NodeModel};
 
 use ak_address::{Address, Unique};
@@ -37,11 +38,15 @@ pub enum Reason {
     SecondFound,
     /// The process that acts was never started.
     UnknownNode,
+    /// The process that acts has stopped.
+    NodeStopped,
     /// There is no packet of that number: so many were sent.
     NoPacket { sent: u64 },
+    /// As many packets were sent as may be: 200,000.
+    TooManyPackets,
     /// As many processes were started as may be: 64.
     TooManyStarts,
-    /// The event is of a kind that is not built yet.
+    /// Entities are not built yet.
     NotBuilt,
 }
 
@@ -66,6 +71,9 @@ pub struct Step {
 // A schedule may start this many processes.
 const MOST_STARTS: usize = 64;
 
+// A world with this many packets accepts no event.
+const MOST_PACKETS: usize = 200_000;
+
 // What a world is made of, without its list of events.
 #[derive(Drop)]
 pub(crate) struct Scene {
@@ -83,20 +91,38 @@ fn node_of(nodes: &[Node], who: &Unique) -> Option<usize>
     nodes.iter().position(|node| node.me().compare(who).is_eq())
 }
 
+// The node runs, and the packet is for it.
+fn is_reached(node: &Node, envelope: &Envelope) -> bool
+    ensures { result ≡ rules.is_reached envelope.now node.now.state }
+{
+    if node.stopped() {
+        return false;
+    }
+    is_for(node.me(), envelope)
+}
+
 // Which node the packet reaches.
 fn receiver_of(nodes: &[Node], envelope: &Envelope) -> Option<usize>
-    ensures { result ≡ position (λ (n : NodeModel). is_for n.state.me envelope.now) nodes.now }
+    ensures { result ≡ position (λ (n : NodeModel). rules.is_reached envelope.now n.state) nodes.now }
 {
-    nodes.iter().position(|node| is_for(node.me(), envelope))
+    nodes.iter().position(|node| is_reached(node, envelope))
+}
+
+// The node runs at the address.
+fn runs_at(node: &Node, address: &Address) -> bool
+    ensures { result ≡ rules.runs_at address.now node.now.state }
+{
+    if node.stopped() {
+        return false;
+    }
+    node.me().address.compare(address).is_eq()
 }
 
 // A node runs at the address.
 fn is_in_use(nodes: &[Node], address: &Address) -> bool
-    ensures { result ≡ list_any (λ (n : NodeModel). is_eq (address_cmp n.state.me.address address.now)) nodes.now }
+    ensures { result ≡ list_any (λ (n : NodeModel). rules.runs_at address.now n.state) nodes.now }
 {
-    nodes
-        .iter()
-        .any(|node| node.me().address.compare(address).is_eq())
+    nodes.iter().any(|node| runs_at(node, address))
 }
 
 impl Scene {
@@ -112,6 +138,9 @@ impl Scene {
         }
         if is_in_use(&self.nodes, &who.address) {
             return Err(Refused::Invalid(Reason::AddressInUse));
+        }
+        if self.is_full() {
+            return Err(Refused::Invalid(Reason::TooManyPackets));
         }
         if self.nodes.len() >= MOST_STARTS {
             return Err(Refused::Invalid(Reason::TooManyStarts));
@@ -160,8 +189,9 @@ impl Scene {
         if !self.settings.is_listed(target) {
             return Err(Refused::Invalid(Reason::Unlisted));
         }
-        let Some(index) = node_of(&self.nodes, who) else {
-            return Err(Refused::Invalid(Reason::UnknownNode));
+        let index = match self.actor(who) {
+            Ok(index) => index,
+            Err(why) => return Err(Refused::Invalid(why)),
         };
         let Ok(target) = target.copy(alloc) else {
             return Err(Refused::NoMemory);
@@ -169,15 +199,49 @@ impl Scene {
         self.give(alloc, index, NodeEvent::Join(target))
     }
 
+    fn leave(&mut self, alloc: Global, who: &Unique, member: &Unique) -> Result<Step, Refused>
+        requires ready { IsReady (state_of self.old) }
+        ensures settings { self.new.settings ≡ self.old.settings }
+        ensures scenes { Scenes (state_of self.old) (rules.happens self.old.settings (Event.Leave who.now member.now) (state_of self.old)) result (state_of self.new) }
+    {
+        let index = match self.actor(who) {
+            Ok(index) => index,
+            Err(why) => return Err(Refused::Invalid(why)),
+        };
+        let Ok(member) = member.copy(alloc) else {
+            return Err(Refused::NoMemory);
+        };
+        self.give(alloc, index, NodeEvent::Leave(member))
+    }
+
+    fn down(&mut self, alloc: Global, who: &Unique, member: &Unique) -> Result<Step, Refused>
+        requires ready { IsReady (state_of self.old) }
+        ensures settings { self.new.settings ≡ self.old.settings }
+        ensures scenes { Scenes (state_of self.old) (rules.happens self.old.settings (Event.Down who.now member.now) (state_of self.old)) result (state_of self.new) }
+    {
+        let index = match self.actor(who) {
+            Ok(index) => index,
+            Err(why) => return Err(Refused::Invalid(why)),
+        };
+        let Ok(member) = member.copy(alloc) else {
+            return Err(Refused::NoMemory);
+        };
+        self.give(alloc, index, NodeEvent::Down(member))
+    }
+
     fn deliver(&mut self, alloc: Global, number: u64) -> Result<Step, Refused>
         requires ready { IsReady (state_of self.old) }
         ensures settings { self.new.settings ≡ self.old.settings }
         ensures scenes { Scenes (state_of self.old) (rules.happens self.old.settings (Event.Deliver number) (state_of self.old)) result (state_of self.new) }
     {
+        let is_full = self.is_full();
         let Some(envelope) = packet_at(&self.packets, number) else {
             let sent = self.packets.len() as u64;
             return Err(Refused::Invalid(Reason::NoPacket { sent }));
         };
+        if is_full {
+            return Err(Refused::Invalid(Reason::TooManyPackets));
+        }
         let Some(index) = receiver_of(&self.nodes, envelope) else {
             return Ok(Step {
                 node: None,
@@ -189,15 +253,38 @@ impl Scene {
         self.give(alloc, index, NodeEvent::Packet(envelope))
     }
 
+    // As many packets were sent as may be.
+    fn is_full(&self) -> bool
+        ensures { result ≡ rules.is_full (state_of self.now) }
+    {
+        self.packets.len() >= MOST_PACKETS
+    }
+
+    // Which node acts, or why none does.
+    fn actor(&self, who: &Unique) -> Result<usize, Reason>
+        ensures { Acts who.now (state_of self.now) result }
+    {
+        let Some(index) = node_of(&self.nodes, who) else {
+            return Err(Reason::UnknownNode);
+        };
+        if self.nodes[index].stopped() {
+            return Err(Reason::NodeStopped);
+        }
+        if self.is_full() {
+            return Err(Reason::TooManyPackets);
+        }
+        Ok(index)
+    }
+
     // The process is given an event.
     fn act(&mut self, alloc: Global, who: &Unique, event: NodeEvent) -> Result<Step, Refused>
         requires ready { IsReady (state_of self.old) }
         ensures settings { self.new.settings ≡ self.old.settings }
         ensures scenes { Scenes (state_of self.old) (rules.acts event (rules.node_of who.now (state_of self.old)) (state_of self.old)) result (state_of self.new) }
     {
-        match node_of(&self.nodes, who) {
-            Some(index) => return self.give(alloc, index, event),
-            None => return Err(Refused::Invalid(Reason::UnknownNode)),
+        match self.actor(who) {
+            Ok(index) => return self.give(alloc, index, event),
+            Err(why) => return Err(Refused::Invalid(why)),
         }
     }
 
@@ -234,8 +321,12 @@ impl Scene {
             Event::Start(who) => self.start(alloc, who),
             Event::Found(who) => self.found(alloc, who),
             Event::Join(who, target) => self.join(alloc, who, target),
+            Event::Tick(who, word) => self.act(alloc, who, NodeEvent::Tick(*word)),
             Event::Deliver(number) => self.deliver(alloc, *number),
-            _ => Err(Refused::Invalid(Reason::NotBuilt)),
+            Event::Leave(who, member) => self.leave(alloc, who, member),
+            Event::Down(who, member) => self.down(alloc, who, member),
+            Event::Offer(_, _, _) => Err(Refused::Invalid(Reason::NotBuilt)),
+            Event::Stop(who) => self.act(alloc, who, NodeEvent::Stop),
         }
     }
 
@@ -345,11 +436,12 @@ impl Model for World {
     ghost use Rattle.ak_schedule.specs.Settings.{coded_settings};
     ghost use Rattle.ak_gossip.specs.Gossip.{coded_gossip};
     ghost use Rattle.ak_member.specs.View.{coded_uniques};
+    ghost use Rattle.ak_membership.specs.contracts.membership.Membership as membership;
     ghost use Rattle.ak_world.specs.WorldContracts.{WorldModel, state_of, IsWorld};
 
     ghost Value = { WorldModel };
 
-    ghost coded = { Prim.hlevel (codes, coded_address, coded_unique, coded_uniques, coded_settings, coded_gossip) };
+    ghost coded = { Prim.hlevel (codes, coded_address, coded_unique, coded_uniques, coded_settings, coded_gossip, membership.the_row.coded) };
 
     ghost view = { λ w. record { settings = w.scene.settings; state = state_of w.scene; events = w.accepted.items; spent = w.is_spent } };
 
@@ -387,6 +479,14 @@ impl World {
     /// Each process in the seen set of a node or of a gossip in a packet held exactly that version at the end of one of its
     /// steps so far. Whoever knows an entry, a node or a packet, knows all that its author knew when it made the entry. Of
     /// two versions that one process held, the later covers the earlier.
+    ///
+    /// Each running node that knows anybody is a member of its own view, and not Down there. At one address at most one
+    /// process runs. Whoever is said to have stopped has: a process with a confirmed tombstone, one that a node has heard
+    /// say so, and one whose packet says so. Whoever is named anywhere was started, at a listed address.
+    ///
+    /// What a node has noted as settled is the view of the history at its version, which the process held at the end of one
+    /// of its steps; what the node knows covers it, and it shows the node neither as Down nor as a tombstone. Of two versions
+    /// that one process noted as settled, the later covers the earlier.
     pub fn apply(&mut self, alloc: Global, event: &Event) -> Result<Step, Refused>
         requires { length self.old.events < 2 ^ 62 }
         ensures applied { Applies event.now self.old result self.new }
@@ -397,6 +497,12 @@ impl World {
         ensures seen { self.new.spent ≡ false → (g : GossipState) → IsIn g self.new.state → (who : UniqueModel) → IsTrue (has g.seen who) → Held self.new.settings self.new.events who g.version }
         ensures closed { self.new.spent ≡ false → (g : GossipState) → IsIn g self.new.state → (entry : Entry) (base : Counts) → Made self.new.settings self.new.events entry base → IsTrue (is_covered g.version entry) → Covers g.version base }
         ensures ordered { self.new.spent ≡ false → (i j : ℕ) (who : UniqueModel) (earlier later : Counts) → i ≤ j → Holds (rules.run self.new.settings (take i self.new.events)) who earlier → Holds (rules.run self.new.settings (take j self.new.events)) who later → Covers later earlier }
+        ensures serving { self.new.spent ≡ false → AllServe self.new.state }
+        ensures confirmed { self.new.spent ≡ false → (who : UniqueModel) → IsConfirmed self.new.state who → HasStopped self.new.state.nodes who }
+        ensures alone { self.new.spent ≡ false → RunAlone self.new.state }
+        ensures started { self.new.spent ≡ false → (who : UniqueModel) → IsNamedIn self.new.state who → WasStarted self.new.settings self.new.state.nodes who }
+        ensures settled { self.new.spent ≡ false → (index : ℕ) (n : State) (noted : NotedView) → slice_get self.new.state.nodes index ≡ Some n → n.membership.settled.view ≡ Some noted → IsSettled self.new.settings self.new.events n noted }
+        ensures grows { self.new.spent ≡ false → (i j : ℕ) (who : UniqueModel) (earlier later : Counts) → i ≤ j → HasNoted (rules.run self.new.settings (take i self.new.events)) who earlier → HasNoted (rules.run self.new.settings (take j self.new.events)) who later → Covers later earlier }
     {
         if self.is_spent {
             return Err(Refused::NoMemory);

@@ -1,10 +1,21 @@
-use Rattle.std.proofs.Common.{sym, ◌∙◌, true≢false}
-use Rattle.ak_node.proofs.NodeLemmas.{step_keeps_node, nothing_known_is_node}
+use Rattle.std.proofs.Common.{sym, ap, ◌∙◌, true≢false}
+use Rattle.ak_membership.specs.declared.state.MembershipState.{MembershipState}
+use Rattle.ak_membership.specs.Membership.{started}
+use Rattle.ak_node.proofs.NodeLemmas.{step_keeps_node, starts_as_node, serves}
 use Rattle.ak_node.proofs.node.Node.step.Goals as goal
-
-pub invariant_of-self-in-Err : goal.invariant_of-self-in-Err
-invariant_of-self-in-Err c = (nothing_known_is_node _ c.empty.ensures, λ spent. c.empty.ensures)
 
 pub invariant_of-self : goal.invariant_of-self
 invariant_of-self c =
     (step_keeps_node c.args.event c.self.inside.state c.step.new.self c.self.invariant.0 c.in-Ok.ensures.does.state_after, λ spent. absurd (true≢false (sym spent ∙ c.if-self.false)))
+
+pub invariant_of-self-in-Err : goal.invariant_of-self-in-Err
+invariant_of-self-in-Err c =
+    let is = c.forget.ensures in (
+      starts_as_node _ (is ∙ (λ i. started (ap (λ (m : MembershipState). m.me) (sym is) i) (ap (λ (m : MembershipState). m.settings) (sym is) i))),
+      λ spent. ap (λ (m : MembershipState). m.gossip) is,
+    )
+
+pub returns-in-Ok-clause-serves : goal.returns-in-Ok-clause-serves
+returns-in-Ok-clause-serves c =
+    serves c.step.new.self c.invariant.ensures.itself
+    (step_keeps_node c.args.event c.self.inside.state c.step.new.self c.self.invariant.0 c.in-Ok.ensures.does.state_after)

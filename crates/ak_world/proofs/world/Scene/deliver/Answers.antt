@@ -1,8 +1,7 @@
 use Rattle.std.proofs.Common.{◌≡◌, List, Some, None, position, refl, sym, ap, ◌∙◌}
 use Rattle.ak_wire.specs.declared.envelope.Envelope.{Envelope}
-use Rattle.ak_node.specs.Node.{is_for}
 use Rattle.ak_node.specs.NodeContracts.{NodeModel}
-use Rattle.ak_world.specs.World.{numbered}
+use Rattle.ak_world.specs.World.{is_reached, numbered}
 use Rattle.ak_world.specs.WorldContracts.{state_of}
 use Rattle.ak_world.proofs.WorldLemmas.{found-receiver, same-answer, dead-delivery, delivery}
 use Rattle.ak_world.proofs.world.Scene.deliver.Goals as goal
@@ -13,8 +12,8 @@ returns-in_default-receiver_of-clause-scenes c =
     let packet : numbered c.args.self.now.packets.items c.args.number ≡ Some e =
     sym (ap (λ (ps : List Envelope). numbered ps c.args.number) c.deref.ensures.value) ∙ sym c.in-Some.ensures in
     let nobody = found-receiver e c.args.self.now.nodes.items c.receiver_of.result None
-    (c.receiver_of.ensures ∙ ap (position (λ (n : NodeModel). is_for n.state.me e)) c.deref-2.ensures.value) c.in_default-receiver_of.is in
-    dead-delivery (state_of c.args.self.now) c.args.number e _ packet nobody refl c.next_packet.ensures c.next_packet.type_inv c.empty.ensures
+    (c.receiver_of.ensures ∙ ap (position (λ (n : NodeModel). is_reached e n.state)) c.deref-2.ensures.value) c.in_default-receiver_of.is in
+    dead-delivery (state_of c.args.self.now) c.args.number e _ packet (sym c.is_full-is_full.ensures ∙ c.if-is_full.false) nobody refl c.next_packet.ensures c.next_packet.type_inv c.empty.ensures
 
 pub returns-clause-scenes : goal.returns-clause-scenes
 returns-clause-scenes c =
@@ -22,5 +21,5 @@ returns-clause-scenes c =
     let packet : numbered c.args.self.now.packets.items c.args.number ≡ Some e =
     sym (ap (λ (ps : List Envelope). numbered ps c.args.number) c.deref.ensures.value) ∙ sym c.in-Some.ensures in
     let reached = found-receiver e c.args.self.now.nodes.items c.receiver_of.result (Some c.in-Some-receiver_of.index)
-    (c.receiver_of.ensures ∙ ap (position (λ (n : NodeModel). is_for n.state.me e)) c.deref-2.ensures.value) c.in-Some-receiver_of.is in
-    same-answer _ _ _ _ _ (delivery (state_of c.args.self.now) c.args.number e c.in_ok-envelope.envelope c.in-Some-receiver_of.index packet reached c.in_ok-envelope.ensures) c.give.ensures.scenes
+    (c.receiver_of.ensures ∙ ap (position (λ (n : NodeModel). is_reached e n.state)) c.deref-2.ensures.value) c.in-Some-receiver_of.is in
+    same-answer _ _ _ _ _ (delivery (state_of c.args.self.now) c.args.number e c.in_ok-envelope.envelope c.in-Some-receiver_of.index packet (sym c.is_full-is_full.ensures ∙ c.if-is_full.false) reached c.in_ok-envelope.ensures) c.give.ensures.scenes

@@ -1,5 +1,6 @@
 use Rattle.std.proofs.Common.{◌≡◌, ◌<◌, List, ◌++◌, length, refl, ap, ◌∙◌, get_or-set_same}
 use Rattle.ak_wire.specs.declared.action.Action.{Action}
+use Rattle.ak_node.specs.Node.{me_of}
 use Rattle.ak_node.specs.NodeContracts.{NodeModel}
 use Rattle.ak_wire.specs.Wire.{sent}
 use Rattle.ak_world.specs.World.{recorded}
@@ -22,7 +23,7 @@ returns c = record {
       (c.in_ok-keep_packets.ensures.kept ∙ ap (λ (xs : List Action). c.args.self.now.packets.items ++ sent xs) c.as_slice.ensures)
       (let within : c.args.index < length c.args.self.now.nodes.items = c.requires.index in
       let at : c.index.result.now ≡ c.step.new.self = rw get_or-set_same at c.index.ensures in
-      c.me.ensures ∙ ap (λ (x : NodeModel). x.state.me) at)
+      c.me.ensures ∙ ap (λ (x : NodeModel). me_of x.state) at)
       (c.in_ok-keep_entries.ensures ∙ ap (λ (xs : List Action). recorded c.me.result.now xs c.args.self.now.history) c.as_slice-2.ensures)
       c.in_ok-keep_packets.ensures.numbered
       c.number_of.ensures

@@ -7,6 +7,8 @@ use Rattle.ak_world.proofs.FoldRuns.{folds-of_run, views_at_times}
 use Rattle.ak_world.proofs.SeenHeld.{seen-of_run}
 use Rattle.ak_world.proofs.MadeFrom.{closed-of_run}
 use Rattle.ak_world.proofs.HeldInOrder.{held_in_order}
+use Rattle.ak_world.proofs.InRunLemmas.{serve-of_run, confirmed-of_run, alone-of_run, started-of_run, settled-of_run}
+use Rattle.ak_world.proofs.Noted.{noted_in_order}
 use Rattle.ak_world.proofs.WorldLemmas.{ready_run, run-went, at-ok}
 use Rattle.ak_world.proofs.world.World.apply.Goals as goal
 
@@ -74,3 +76,56 @@ returns-then-is_ok-clause-ordered c =
 pub returns-in-Err-Invalid-clause-ordered : goal.returns-in-Err-Invalid-clause-ordered
 returns-in-Err-Invalid-clause-ordered c =
     λ alive. held_in_order c.happens.new.self.settings c.self.inside.accepted.items
+
+pub returns-then-is_ok-clause-serving : goal.returns-then-is_ok-clause-serving
+returns-then-is_ok-clause-serving c =
+    λ alive. serve-of_run c.happens.new.self.settings c.keep_event.new.accepted.items (state_of c.happens.new.self) (returns-then-is_ok-clause-run c alive)
+
+pub returns-in-Err-Invalid-clause-serving : goal.returns-in-Err-Invalid-clause-serving
+returns-in-Err-Invalid-clause-serving c =
+    let is_run : c.self.inside.is_spent ≡ false → state_of c.happens.new.self ≡ run c.happens.new.self.settings c.self.inside.accepted.items = grind (arith, common_steps) in
+    λ alive. serve-of_run c.happens.new.self.settings c.self.inside.accepted.items (state_of c.happens.new.self) (is_run alive)
+
+pub returns-then-is_ok-clause-confirmed : goal.returns-then-is_ok-clause-confirmed
+returns-then-is_ok-clause-confirmed c =
+    λ alive. confirmed-of_run c.happens.new.self.settings c.keep_event.new.accepted.items (state_of c.happens.new.self) (returns-then-is_ok-clause-run c alive)
+
+pub returns-in-Err-Invalid-clause-confirmed : goal.returns-in-Err-Invalid-clause-confirmed
+returns-in-Err-Invalid-clause-confirmed c =
+    let is_run : c.self.inside.is_spent ≡ false → state_of c.happens.new.self ≡ run c.happens.new.self.settings c.self.inside.accepted.items = grind (arith, common_steps) in
+    λ alive. confirmed-of_run c.happens.new.self.settings c.self.inside.accepted.items (state_of c.happens.new.self) (is_run alive)
+
+pub returns-then-is_ok-clause-alone : goal.returns-then-is_ok-clause-alone
+returns-then-is_ok-clause-alone c =
+    λ alive. alone-of_run c.happens.new.self.settings c.keep_event.new.accepted.items (state_of c.happens.new.self) (returns-then-is_ok-clause-run c alive)
+
+pub returns-in-Err-Invalid-clause-alone : goal.returns-in-Err-Invalid-clause-alone
+returns-in-Err-Invalid-clause-alone c =
+    let is_run : c.self.inside.is_spent ≡ false → state_of c.happens.new.self ≡ run c.happens.new.self.settings c.self.inside.accepted.items = grind (arith, common_steps) in
+    λ alive. alone-of_run c.happens.new.self.settings c.self.inside.accepted.items (state_of c.happens.new.self) (is_run alive)
+
+pub returns-then-is_ok-clause-started : goal.returns-then-is_ok-clause-started
+returns-then-is_ok-clause-started c =
+    λ alive. started-of_run c.happens.new.self.settings c.keep_event.new.accepted.items (state_of c.happens.new.self) (returns-then-is_ok-clause-run c alive)
+
+pub returns-in-Err-Invalid-clause-started : goal.returns-in-Err-Invalid-clause-started
+returns-in-Err-Invalid-clause-started c =
+    let is_run : c.self.inside.is_spent ≡ false → state_of c.happens.new.self ≡ run c.happens.new.self.settings c.self.inside.accepted.items = grind (arith, common_steps) in
+    λ alive. started-of_run c.happens.new.self.settings c.self.inside.accepted.items (state_of c.happens.new.self) (is_run alive)
+
+pub returns-then-is_ok-clause-settled : goal.returns-then-is_ok-clause-settled
+returns-then-is_ok-clause-settled c =
+    λ alive. settled-of_run c.happens.new.self.settings c.keep_event.new.accepted.items (state_of c.happens.new.self) (returns-then-is_ok-clause-run c alive)
+
+pub returns-in-Err-Invalid-clause-settled : goal.returns-in-Err-Invalid-clause-settled
+returns-in-Err-Invalid-clause-settled c =
+    let is_run : c.self.inside.is_spent ≡ false → state_of c.happens.new.self ≡ run c.happens.new.self.settings c.self.inside.accepted.items = grind (arith, common_steps) in
+    λ alive. settled-of_run c.happens.new.self.settings c.self.inside.accepted.items (state_of c.happens.new.self) (is_run alive)
+
+pub returns-then-is_ok-clause-grows : goal.returns-then-is_ok-clause-grows
+returns-then-is_ok-clause-grows c =
+    λ alive. noted_in_order c.happens.new.self.settings c.keep_event.new.accepted.items
+
+pub returns-in-Err-Invalid-clause-grows : goal.returns-in-Err-Invalid-clause-grows
+returns-in-Err-Invalid-clause-grows c =
+    λ alive. noted_in_order c.happens.new.self.settings c.self.inside.accepted.items

@@ -1,0 +1,7 @@
+pub mod Causes
+pub mod MayMake
+pub mod MayRise
+pub mod MembershipLemmas
+pub mod RuleLemmas
+pub mod Walk
+pub mod WalkLemmas

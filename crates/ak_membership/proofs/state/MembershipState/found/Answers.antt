@@ -1,0 +1,7 @@
+use Rattle.std.proofs.Common.{[], ◌∷◌, ap, ◌∙◌}
+use Rattle.ak_member.specs.declared.effect.Effect.TheVariants.{Joined}
+use Rattle.ak_membership.proofs.RuleLemmas.{may_found}
+use Rattle.ak_membership.proofs.state.MembershipState.found.Goals as goal
+
+pub update-requires : goal.update-requires
+update-requires c = may_found c.args.self.now c.invariant.ensures c.in_ok-effects.effects c.requires c.if-knows.ensures (c.in_ok-effects.ensures ∙ ap (λ u. Joined u ∷ []) c.in_ok-me.ensures)

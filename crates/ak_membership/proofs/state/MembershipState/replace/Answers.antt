@@ -1,0 +1,7 @@
+use Rattle.ak_membership.proofs.RuleLemmas.{may_replace}
+use Rattle.std.proofs.Common.{ap, ◌∙◌}
+use Rattle.ak_membership.specs.Membership.{replaced}
+use Rattle.ak_membership.proofs.state.MembershipState.replace.Goals as goal
+
+pub update_any-requires : goal.update_any-requires
+update_any-requires c = may_replace c.args.self.now c.invariant.ensures c.in_ok-effects.effects c.args.from.now c.requires (c.in_ok-effects.ensures ∙ ap (replaced c.args.from.now) c.members.ensures)

@@ -1,0 +1,5 @@
+pub mod Closing
+pub mod Knowledge
+pub mod Membership
+pub mod MembershipContracts
+pub mod Tick

@@ -1,0 +1,68 @@
+-- Words of the contracts of a membership's calls.
+use Rattle.std.specs.Prelude.{◌≡◌, false, Result, Ok, Err}
+use Rattle.std.specs.FinMap as map
+use Rattle.std.specs.Coded.{Coded, coded_ℕ}
+use Rattle.ak_address.specs.Unique.{UniqueModel, coded_unique}
+use Rattle.ak_clock.specs.Version.{Counts, Covers}
+use Rattle.ak_gossip.specs.Gossip.{GossipState, is_known}
+use Rattle.ak_settled.specs.Settled.{version_of}
+use Rattle.ak_membership.specs.declared.change.Change.{Change}
+use Rattle.ak_membership.specs.declared.change.Closing.{Closing}
+use Rattle.ak_membership.specs.declared.change.MemberFault.{MemberFault}
+use Rattle.ak_membership.specs.declared.change.MemberFault.TheVariants.{NotUp, UnknownMember, NotMember, Unlisted, ForeignCount, TooManyUniques, NoMemory}
+use Rattle.ak_membership.specs.declared.state.MembershipState.{MembershipState}
+use Rattle.ak_membership.specs.Membership.{Outcome, started}
+
+-- the version that was last shown is stored as its counts
+abbrev pub coded_counts : Coded Counts
+coded_counts = map.code coded_unique coded_ℕ
+
+-- what a rule makes of what is known is this, with this change
+pub record Makes (outcome : Outcome) (after : MembershipState) (change : Change) : Type 0 where
+  pub state_after : after ≡ outcome.0
+  pub change_told : change ≡ outcome.1
+
+-- a node that knows anybody knows itself
+abbrev pub KnowsItself : UniqueModel → GossipState → Type 0
+KnowsItself me g = is_known g.view.standings me ≡ false → map.len g.view.standings ≡ 0
+
+-- what is true of every membership: it knows itself where it knows anybody, and what it knows covers its settled view
+pub record IsMembership (m : MembershipState) : Type 0 where
+  pub itself : KnowsItself m.me m.gossip
+  pub settled_before : Covers m.gossip.version (version_of m.settled.view)
+
+-- whatever a rule answers, it is the same process with the same settings
+pub record IsSameProcess (old new : MembershipState) : Type 0 where
+  pub me : new.me ≡ old.me
+  pub settings : new.settings ≡ old.settings
+
+-- out of memory is one of the answers of a call that may refuse
+abbrev pub or_no_memory : {E : Type 0} → Result Change E → Result Change MemberFault
+or_no_memory (Ok change) = Ok change
+or_no_memory (Err error) = Err NoMemory
+
+-- What a call that may refuse answered and left: the rule's change; or the rule's refusal, and nothing changed. Memory runs out
+-- only where the rule allows that, and then nothing changed.
+abbrev pub Answers : Type 0 → Result Outcome MemberFault → MembershipState → Result Change MemberFault → MembershipState → Type 0
+Answers free outcome old (Ok change) new = (o : Outcome) × (outcome ≡ Ok o) × Makes o new change
+Answers free outcome old (Err NotUp) new = (outcome ≡ Err NotUp) × (new ≡ old)
+Answers free outcome old (Err UnknownMember) new = (outcome ≡ Err UnknownMember) × (new ≡ old)
+Answers free outcome old (Err NotMember) new = (outcome ≡ Err NotMember) × (new ≡ old)
+Answers free outcome old (Err Unlisted) new = (outcome ≡ Err Unlisted) × (new ≡ old)
+Answers free outcome old (Err (ForeignCount own theirs)) new = (outcome ≡ Err (ForeignCount own theirs)) × (new ≡ old)
+Answers free outcome old (Err (TooManyUniques union)) new = (outcome ≡ Err (TooManyUniques union)) × (new ≡ old)
+Answers free outcome old (Err NoMemory) new = free × (new ≡ old)
+
+-- the rule does not refuse
+abbrev pub IsAccepted : Result Outcome MemberFault → Type 0
+IsAccepted outcome = (o : Outcome) × (outcome ≡ Ok o)
+
+-- what the closing makes of what is known is this, and this is due
+pub record Closes (close : MembershipState × Closing) (after : MembershipState) (due : Closing) : Type 0 where
+  pub state_after : after ≡ close.0
+  pub is_due : due ≡ close.1
+
+-- after the call it is the same process with the same settings, and knows nothing
+pub record Forgets (old new : MembershipState) : Type 0 where
+  pub process : IsSameProcess old new
+  pub forgot : new ≡ started old.me old.settings

@@ -1,0 +1,12 @@
+//! What a process knows of its cluster: it joins, hears gossip, leads, leaves and is removed (Akka's Cluster Specification,
+//! "Membership Lifecycle").
+#![tactic(auto)]
+
+mod change;
+mod members;
+mod membership;
+mod state;
+
+pub use change::{Change, Closing, MemberFault, Reply};
+pub use membership::Membership;
+pub use state::MembershipState;

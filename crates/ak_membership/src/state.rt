@@ -1,0 +1,559 @@
+ghost use Rattle.std.specs.Prelude.{◌≡◌, ◌<◌, ◌^◌, nat_le, [], ◌∷◌, IfOk, OnOk, OnErr, MatchOption, IsTrue, true, false, None, if◌then◌else◌};
+ghost use Rattle.std.specs.FinMap as map;
+ghost use Rattle.ak_clock.specs.Version.{Covers};
+ghost use Rattle.ak_gossip.specs.Gossip.{MayUpdate, is_known};
+ghost use Rattle.ak_member.specs.Standing as standing;
+ghost use Rattle.ak_schedule.specs.Settings.{is_listed};
+ghost use Rattle.ak_settled.specs.Settled.{version_of, after_note};
+ghost use Rattle.ak_leader.specs.Leader as leads;
+ghost use Rattle.ak_membership.specs.Closing as closing;
+ghost use Rattle.ak_membership.specs.Membership as rules;
+ghost use Rattle.ak_membership.specs.MembershipContracts.{Makes, Answers, IsAccepted, Closes, KnowsItself, or_no_memory};
+ghost use Rattle.ak_membership.specs.Tick as ticks;
+
+use crate::change::{Change, Closing, MemberFault, Reply};
+use crate::members::{
+    downed_beside, has_member_beside, is_down, is_joining, is_known, is_up, joining_addresses,
+};
+use ak_address::{Address, Unique, Uniques};
+use ak_clock::{BOUND, Relation, Version};
+use ak_converge::{converged, settled_by};
+use ak_gossip::{Gossip, GossipFault, Received};
+use ak_leader::{actions, founding, leader};
+use ak_member::{Effect, Effects, Status};
+use ak_schedule::Settings;
+use ak_settled::Settled;
+use std::alloc::{AllocError, Global};
+
+/// A view that holds this many uniques admits no further process.
+const MOST_AT_JOIN: usize = 64;
+
+/// What a process keeps of its cluster, as plain data.
+#[derive(Drop)]
+pub struct MembershipState {
+    /// The process that it is.
+    pub me: Unique,
+    pub settings: Settings,
+    pub gossip: Gossip,
+    /// The version that was last shown: that at the last closing.
+    pub shown: Version,
+    /// It founded the cluster.
+    pub founder: bool,
+    /// The address through which it joins.
+    pub target: Option<Address>,
+    /// How many ticks it had as a member.
+    pub ticks: u64,
+    /// The members that said that they stop.
+    pub confirmed: Uniques,
+    /// The last view that it noted as settled.
+    pub settled: Settled,
+}
+
+// Nothing changed.
+fn unchanged(alloc: Global) -> Change
+    ensures { result ≡ rules.no_change }
+{
+    Change {
+        number: None,
+        effects: Effects::empty(alloc),
+        reply: Reply::Nothing,
+    }
+}
+
+// One effect alone.
+fn one(alloc: Global, effect: Effect) -> Result<Effects, AllocError>
+    ensures { IfOk result (λ effects. effects ≡ effect ∷ []) }
+{
+    let mut effects = Effects::empty(alloc);
+    effects.push(effect)?;
+    Ok(effects)
+}
+
+// Out of memory is one of the answers of a call that may refuse.
+fn or_no_memory(change: Result<Change, AllocError>) -> Result<Change, MemberFault>
+    ensures { result ≡ or_no_memory change }
+{
+    match change {
+        Ok(change) => Ok(change),
+        Err(_) => Err(MemberFault::NoMemory),
+    }
+}
+
+fn is_other(old: &Version, new: &Version) -> bool
+    ensures { result ≡ closing.is_other old.now new.now }
+{
+    match old.compare(new) {
+        Relation::Same => false,
+        Relation::Before => true,
+        Relation::After => true,
+        Relation::Concurrent => true,
+    }
+}
+
+impl MembershipState {
+    /// Whether the process is a member of its own view. Takes no memory.
+    pub(crate) fn is_member(&self) -> bool
+        ensures { result ≡ rules.is_member self.now }
+    {
+        self.gossip.members().get(&self.me).is_some()
+    }
+
+    fn has_member(&self, who: &Unique) -> bool
+        ensures { result ≡ standing.is_member self.now.gossip.view.standings who.now }
+    {
+        self.gossip.members().get(who).is_some()
+    }
+
+    fn knows(&self, who: &Unique) -> bool
+        ensures { result ≡ is_known self.now.gossip.view.standings who.now }
+    {
+        is_known(self.gossip.members(), who)
+    }
+
+    /// Whether its view shows it as Down or as a tombstone. Takes no memory.
+    pub(crate) fn is_gone(&self) -> bool
+        ensures { result ≡ rules.is_gone self.now }
+    {
+        self.gossip.members().is_gone(&self.me)
+    }
+
+    // The address of the process is one of the cluster's.
+    fn is_listed(&self, who: &Unique) -> bool
+        ensures { result ≡ is_listed self.now.settings.listed who.now.address }
+    {
+        self.settings.is_listed(&who.address)
+    }
+
+    fn is_up(&self, who: &Unique) -> bool
+        ensures { result ≡ rules.is_member_with rules.is_up self.now.gossip.view.standings who.now }
+    {
+        is_up(self.gossip.members(), who)
+    }
+
+    fn is_down(&self, who: &Unique) -> bool
+        ensures { result ≡ rules.is_member_with standing.is_down self.now.gossip.view.standings who.now }
+    {
+        is_down(self.gossip.members(), who)
+    }
+
+    // Another member is at the address of this process.
+    fn has_member_beside(&self, who: &Unique) -> bool
+        ensures { result ≡ rules.has_member_beside who.now self.now.gossip.view.standings }
+    {
+        has_member_beside(who, self.gossip.members())
+    }
+
+    // What is known holds as many processes as a view may that admits others.
+    fn is_full(&self) -> bool
+        ensures { result ≡ nat_le rules.most_at_join (map.len self.now.gossip.view.standings) }
+    {
+        self.gossip.members().uniques() >= MOST_AT_JOIN
+    }
+
+    fn may_count(&self) -> bool
+        ensures { result ≡ rules.may_count self.now }
+    {
+        self.gossip.version().count(&self.me) < BOUND
+    }
+
+    // The next update, by these effects.
+    fn make(&mut self, alloc: Global, effects: Effects) -> Result<Change, AllocError>
+        requires { MayUpdate self.old.me effects self.old.gossip }
+        ensures ok { IfOk result (λ change. Makes (rules.made effects self.old) self.new change) }
+        ensures err { OnErr result (self.new ≡ self.old) }
+    {
+        let number = self.gossip.update(alloc, &self.me, &effects)?;
+        Ok(Change {
+            number: Some(number),
+            effects,
+            reply: Reply::Nothing,
+        })
+    }
+
+    // The same, where a number is left for it.
+    fn update(&mut self, alloc: Global, effects: Effects) -> Result<Change, AllocError>
+        requires { IsTrue (rules.may_count self.old) → MayUpdate self.old.me effects self.old.gossip }
+        ensures ok { IfOk result (λ change. Makes (rules.update effects self.old) self.new change) }
+        ensures err { OnErr result (self.new ≡ self.old) }
+    {
+        if self.may_count() {
+            return self.make(alloc, effects);
+        }
+        Ok(unchanged(alloc))
+    }
+
+    // The same, where there are effects.
+    fn update_any(&mut self, alloc: Global, effects: Effects) -> Result<Change, AllocError>
+        requires { IsTrue (rules.may_count self.old) → MayUpdate self.old.me effects self.old.gossip }
+        ensures ok { IfOk result (λ change. Makes (rules.update_any effects self.old) self.new change) }
+        ensures err { OnErr result (self.new ≡ self.old) }
+    {
+        if effects.len() == 0 {
+            return Ok(unchanged(alloc));
+        }
+        self.update(alloc, effects)
+    }
+
+    // A member rises to this status, without a number.
+    fn raise(&mut self, alloc: Global, who: &Unique, status: Status) -> Result<Change, AllocError>
+        requires { IsTrue (rules.may_count self.old) → MayUpdate self.old.me (Effect.Rise who.now status 0 ∷ []) self.old.gossip }
+        ensures ok { IfOk result (λ change. Makes (rules.update (Effect.Rise who.now status 0 ∷ []) self.old) self.new change) }
+        ensures err { OnErr result (self.new ≡ self.old) }
+    {
+        let raised = who.copy(alloc)?;
+        let effects = one(alloc, Effect::Rise(raised, status, 0))?;
+        self.update(alloc, effects)
+    }
+
+    pub(crate) fn found(&mut self, alloc: Global) -> Result<Change, AllocError>
+        requires { KnowsItself self.old.me self.old.gossip }
+        ensures ok { IfOk result (λ change. Makes (rules.found self.old) self.new change) }
+        ensures err { OnErr result (self.new ≡ self.old) }
+    {
+        if self.knows(&self.me) {
+            return Ok(unchanged(alloc));
+        }
+        self.gossip.invariant();
+        let me = self.me.copy(alloc)?;
+        let effects = one(alloc, Effect::Joined(me))?;
+        let change = self.update(alloc, effects)?;
+        self.founder = true;
+        Ok(change)
+    }
+
+    pub(crate) fn leave(&mut self, alloc: Global, who: &Unique) -> Result<Change, MemberFault>
+        ensures { Answers (IsAccepted (rules.leave who.now self.old)) (rules.leave who.now self.old) self.old result self.new }
+    {
+        if !self.is_member() {
+            return Err(MemberFault::NotMember);
+        }
+        if !self.has_member(who) {
+            return Err(MemberFault::UnknownMember);
+        }
+        if !self.is_up(who) {
+            return Err(MemberFault::NotUp);
+        }
+        self.gossip.invariant();
+        or_no_memory(self.raise(alloc, who, Status::Leaving))
+    }
+
+    pub(crate) fn down(&mut self, alloc: Global, who: &Unique) -> Result<Change, MemberFault>
+        ensures { Answers (IsAccepted (rules.down who.now self.old)) (rules.down who.now self.old) self.old result self.new }
+    {
+        if !self.is_member() {
+            return Err(MemberFault::NotMember);
+        }
+        if !self.has_member(who) {
+            return Err(MemberFault::UnknownMember);
+        }
+        if self.is_down(who) {
+            return Ok(unchanged(alloc));
+        }
+        self.gossip.invariant();
+        or_no_memory(self.raise(alloc, who, Status::Down))
+    }
+
+    pub(crate) fn on_join(&mut self, alloc: Global, from: &Unique) -> Result<Change, MemberFault>
+        ensures { Answers (IsAccepted (rules.on_join from.now self.old)) (rules.on_join from.now self.old) self.old result self.new }
+    {
+        if !self.is_member() {
+            return Err(MemberFault::NotMember);
+        }
+        if !self.is_listed(from) {
+            return Err(MemberFault::Unlisted);
+        }
+        if self.has_member(from) {
+            let mut change = unchanged(alloc);
+            change.reply = Reply::Welcome;
+            return Ok(change);
+        }
+        if self.knows(from) {
+            return Ok(unchanged(alloc));
+        }
+        if self.has_member_beside(from) {
+            return or_no_memory(self.replace(alloc, from));
+        }
+        if self.is_full() {
+            self.gossip.invariant();
+            let union = self.gossip.uniques() + 1;
+            return Err(MemberFault::TooManyUniques { union });
+        }
+        or_no_memory(self.admit(alloc, from))
+    }
+
+    // The members at the address of a new process go Down.
+    fn replace(&mut self, alloc: Global, from: &Unique) -> Result<Change, AllocError>
+        requires { IsTrue (rules.is_member self.old) }
+        ensures ok { IfOk result (λ change. Makes (rules.update_any (rules.replaced from.now self.old.gossip.view.standings) self.old) self.new change) }
+        ensures err { OnErr result (self.new ≡ self.old) }
+    {
+        self.gossip.invariant();
+        let effects = downed_beside(alloc, from, self.gossip.members())?;
+        self.update_any(alloc, effects)
+    }
+
+    // The process becomes a member, and is welcomed.
+    fn admit(&mut self, alloc: Global, from: &Unique) -> Result<Change, AllocError>
+        requires member { IsTrue (rules.is_member self.old) }
+        requires room { false ≡ nat_le rules.most_at_join (map.len self.old.gossip.view.standings) }
+        ensures ok { IfOk result (λ change. Makes (rules.admitted from.now self.old) self.new change) }
+        ensures err { OnErr result (self.new ≡ self.old) }
+    {
+        if !self.may_count() {
+            return Ok(unchanged(alloc));
+        }
+        self.gossip.invariant();
+        let joined = from.copy(alloc)?;
+        let effects = one(alloc, Effect::Joined(joined))?;
+        let mut change = self.make(alloc, effects)?;
+        change.reply = Reply::Welcome;
+        Ok(change)
+    }
+
+    pub(crate) fn on_gossip(
+        &mut self,
+        alloc: Global,
+        incoming: &Gossip,
+    ) -> Result<Change, MemberFault>
+        ensures { Answers (Unit {0}) (rules.on_gossip incoming.now self.old) self.old result self.new }
+    {
+        if !self.is_known_in(incoming) {
+            return Ok(unchanged(alloc));
+        }
+        let known = incoming.seen().contains(&self.me);
+        match self.gossip.receive(alloc, &self.me, incoming) {
+            Err(GossipFault::ForeignCount { own, theirs }) => {
+                return Err(MemberFault::ForeignCount { own, theirs });
+            }
+            Err(GossipFault::TooManyUniques { union }) => {
+                return Err(MemberFault::TooManyUniques { union });
+            }
+            Err(GossipFault::NoMemory) => return Err(MemberFault::NoMemory),
+            Ok(received) => return Ok(self.hears(alloc, received, known)),
+        }
+    }
+
+    // A gossip knows the node, as a member or as a tombstone.
+    fn is_known_in(&self, incoming: &Gossip) -> bool
+        ensures { result ≡ is_known incoming.now.view.standings self.now.me }
+    {
+        is_known(incoming.members(), &self.me)
+    }
+
+    // What is answered to a gossip that was accepted. Its sender is answered with what the node knows then, but where both
+    // know the same and the sender knows that the node does; a node that is Down or a tombstone then answers nobody (this
+    // project's choice).
+    fn hears(&self, alloc: Global, received: Received, known: bool) -> Change
+        ensures { result ≡ (rules.hears known received self.now).1 }
+    {
+        let mut change = unchanged(alloc);
+        if received == Received::Same && known {
+            return change;
+        }
+        if self.is_gone() {
+            return change;
+        }
+        change.reply = Reply::Gossip;
+        change
+    }
+
+    pub(crate) fn on_confirmed(&mut self, alloc: Global, from: &Unique) -> Result<(), AllocError>
+        ensures ok { OnOk result (self.new ≡ rules.on_confirmed from.now self.old) }
+        ensures err { OnErr result (self.new ≡ self.old) }
+    {
+        if self.has_member(from) {
+            return self.confirmed.insert(alloc, from);
+        }
+        Ok(())
+    }
+
+    // The founder, Joining itself, founds the cluster.
+    fn founds(&self) -> bool
+        ensures { result ≡ ticks.founds self.now }
+    {
+        if !self.founder {
+            return false;
+        }
+        if !is_joining(self.gossip.members(), &self.me) {
+            return false;
+        }
+        if !converged(
+            self.gossip.members(),
+            self.gossip.rows(),
+            self.gossip.seen(),
+        ) {
+            return false;
+        }
+        self.gossip.invariant();
+        self.settings.settling() <= joining_addresses(self.gossip.members())
+    }
+
+    fn has_settled(&self) -> bool
+        ensures { result ≡ ticks.has_settled self.now }
+    {
+        self.gossip.invariant();
+        settled_by(
+            self.settings.settling(),
+            self.gossip.members(),
+            self.gossip.rows(),
+            self.gossip.seen(),
+        )
+    }
+
+    fn is_leader(&self) -> bool
+        ensures { result ≡ ticks.is_process self.now.me (leads.leader self.now.gossip.view) }
+    {
+        match leader(self.gossip.members(), self.gossip.rows()) {
+            Some(who) => who.compare(&self.me).is_eq(),
+            None => false,
+        }
+    }
+
+    // The node leads, in a settled view.
+    fn leads(&self) -> bool
+        ensures { result ≡ ticks.leads self.now }
+    {
+        if self.has_settled() {
+            return self.is_leader();
+        }
+        false
+    }
+
+    // The Joining members become the first that are Up.
+    fn establish(&mut self, alloc: Global) -> Result<Change, AllocError>
+        requires { IsTrue (rules.is_member self.old) }
+        ensures ok { IfOk result (λ change. Makes (rules.update (leads.founding_effects self.old.gossip.view.standings) self.old) self.new change) }
+        ensures err { OnErr result (self.new ≡ self.old) }
+    {
+        self.gossip.invariant();
+        let effects = founding(alloc, self.gossip.members())?;
+        self.update(alloc, effects)
+    }
+
+    // What the leader does.
+    fn lead(&mut self, alloc: Global) -> Result<Change, AllocError>
+        requires member { IsTrue (rules.is_member self.old) }
+        requires leads { true ≡ ticks.leads self.old }
+        ensures ok { IfOk result (λ change. Makes (rules.update_any (leads.leaders_effects self.old.gossip.view self.old.confirmed) self.old) self.new change) }
+        ensures err { OnErr result (self.new ≡ self.old) }
+    {
+        self.gossip.invariant();
+        let effects = self.leaders_effects(alloc)?;
+        self.update_any(alloc, effects)
+    }
+
+    fn leaders_effects(&self, alloc: Global) -> Result<Effects, AllocError>
+        ensures { IfOk result (λ effects. effects ≡ leads.leaders_effects self.now.gossip.view self.now.confirmed) }
+    {
+        actions(
+            alloc,
+            self.gossip.members(),
+            self.gossip.rows(),
+            &self.confirmed,
+        )
+    }
+
+    // At most one update, the first that applies.
+    fn updates(&mut self, alloc: Global) -> Result<Change, AllocError>
+        requires { IsTrue (rules.is_member self.old) }
+        ensures ok { IfOk result (λ change. Makes (ticks.updates self.old) self.new change) }
+        ensures err { OnErr result (self.new ≡ self.old) }
+    {
+        if self.founds() {
+            return self.establish(alloc);
+        }
+        if self.leads() {
+            return self.lead(alloc);
+        }
+        Ok(unchanged(alloc))
+    }
+
+    pub(crate) fn tick(&mut self, alloc: Global) -> Result<Change, AllocError>
+        requires { self.old.ticks < 2 ^ 62 }
+        ensures ok { IfOk result (λ change. Makes (ticks.tick self.old) self.new change) }
+        ensures err { OnErr result (self.new ≡ self.old) }
+    {
+        if !self.is_member() {
+            return Ok(unchanged(alloc));
+        }
+        self.ticks += 1;
+        match self.updates(alloc) {
+            Ok(change) => Ok(change),
+            Err(error) => {
+                self.ticks -= 1;
+                Err(error)
+            }
+        }
+    }
+
+    // A settled view is to be noted.
+    fn is_noted(&self) -> bool
+        ensures { result ≡ closing.is_noted self.now }
+    {
+        if !self.has_settled() {
+            return false;
+        }
+        if !self.settled.exists() {
+            return true;
+        }
+        is_other(self.settled.version(), self.gossip.version())
+    }
+
+    // Notes the settled view, where it is to be noted. An error leaves it as it was.
+    fn note(&mut self, alloc: Global, settled: bool) -> Result<(), AllocError>
+        requires { Covers self.old.gossip.version (version_of self.old.settled.view) }
+        ensures ok { OnOk result (self.new ≡ record self.old { settled = if settled then after_note self.old.gossip.version self.old.gossip.view.standings self.old.settled else self.old.settled }) }
+        ensures err { OnErr result (self.new ≡ self.old) }
+    {
+        if settled {
+            return self
+                .settled
+                .note(alloc, self.gossip.version(), self.gossip.members());
+        }
+        Ok(())
+    }
+
+    pub(crate) fn forget(&mut self, alloc: Global)
+        ensures { self.new ≡ rules.started self.old.me self.old.settings }
+    {
+        self.gossip = Gossip::empty(alloc);
+        self.shown = Version::empty(alloc);
+        self.founder = false;
+        self.target = None;
+        self.ticks = 0;
+        self.confirmed = Uniques::empty(alloc);
+        self.settled = Settled::none(alloc);
+    }
+
+    pub(crate) fn close(&mut self, alloc: Global, stopping: bool) -> Result<Closing, AllocError>
+        requires { Covers self.old.gossip.version (version_of self.old.settled.view) }
+        ensures ok { IfOk result (λ due. Closes (closing.close stopping self.old) self.new due) }
+        ensures err { OnErr result (self.new ≡ self.old) }
+    {
+        let viewed = is_other(&self.shown, self.gossip.version());
+        let stopped = stopping || self.is_gone();
+        let settled = !stopped && self.is_noted();
+        let shown = shown_after(alloc, &self.shown, self.gossip.version())?;
+        self.note(alloc, settled)?;
+        if let Some(shown) = shown {
+            self.shown = shown;
+        }
+        Ok(Closing {
+            viewed,
+            stopped,
+            settled,
+        })
+    }
+}
+
+// The new version, where it is another.
+fn shown_after(alloc: Global, old: &Version, new: &Version) -> Result<Option<Version>, AllocError>
+    ensures { IfOk result (λ shown. MatchOption shown (new.now ≡ old.now) (λ version. version ≡ new.now)) }
+{
+    match old.compare(new) {
+        Relation::Same => return Ok(None),
+        _ => {}
+    }
+    let version = new.copy(alloc)?;
+    Ok(Some(version))
+}
