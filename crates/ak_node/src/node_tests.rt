@@ -1,0 +1,291 @@
+use crate::node::{Node, NodeEvent};
+use ak_address::{Address, Unique, parse_unique};
+use ak_gossip::{Gossip, Indices, Part, Parts, parts_valid};
+use ak_schedule::{Draft, Settings};
+use ak_wire::{Action, Actions, Envelope, Message};
+use std::alloc::{AllocError, Global};
+use std::test::Fail;
+
+const HEADERS: [&str; 9] = [
+    "listed a:1 b:1 c:1 d:1",
+    "strategy static-quorum 3",
+    "margin 2",
+    "deadline 9",
+    "stable 9",
+    "shards 10",
+    "buffer 2",
+    "threshold 1",
+    "limit 1",
+];
+
+fn settings(alloc: Global) -> Result<Settings, Fail> {
+    let mut draft = Draft::new(alloc);
+    'headers: for line in HEADERS {
+        if draft.header(alloc, line.as_bytes())? {
+            return Ok(draft.finish().map_err(|_| "a header is missing")?);
+        }
+    }
+    Err("a header is missing")?
+}
+
+// The process with uid 1 at port 1 of the host of this letter.
+fn process(alloc: Global, letter: u8) -> Result<Unique, Fail> {
+    Ok(parse_unique(alloc, &[letter, b':', b'1', b'#', b'1'])?)
+}
+
+// Another process at the same address, with this uid; 0 counts as 1.
+fn beside(alloc: Global, who: &Unique, uid: u32) -> Result<Unique, AllocError> {
+    let address = who.address.copy(alloc)?;
+    let uid = u64::from(uid.max(1));
+    Ok(Unique { address, uid })
+}
+
+// A Joining member that has not seen the gossip, of which so many updates are counted.
+fn push_part(
+    alloc: Global,
+    unique: Unique,
+    count: u64,
+    parts: &mut Parts,
+) -> Result<(), AllocError> {
+    parts.push(Part {
+        unique,
+        count,
+        state: 1,
+        up_number: 0,
+        seen: false,
+        row_number: 0,
+        subjects: Indices::new(Vec::new(alloc)),
+    })
+}
+
+fn gossip_of(alloc: Global, parts: &Parts) -> Result<Gossip, Fail> {
+    if parts_valid(parts.as_slice()) {
+        return Ok(Gossip::from_parts(alloc, parts.as_slice())?);
+    }
+    Err("the parts are not valid")?
+}
+
+// A gossip of the processes of these letters, each with its count.
+fn gossip(alloc: Global, lines: &[(u8, u64)]) -> Result<Gossip, Fail> {
+    let mut parts = Parts::empty(alloc);
+    'lines: for line in lines {
+        push_part(alloc, process(alloc, line.0)?, line.1, &mut parts)?;
+    }
+    gossip_of(alloc, &parts)
+}
+
+// A gossip of a, of which no update is counted, and of so many others, all at m, of which one is counted each.
+fn crowd(alloc: Global, others: u32) -> Result<Gossip, Fail> {
+    let mut parts = Parts::empty(alloc);
+    push_part(alloc, process(alloc, b'a')?, 0, &mut parts)?;
+    let first = process(alloc, b'm')?;
+    'others: for more in 0..others {
+        push_part(
+            alloc,
+            beside(alloc, &first, more.saturating_add(1))?,
+            1,
+            &mut parts,
+        )?;
+    }
+    gossip_of(alloc, &parts)
+}
+
+// The node of this letter, which knows nothing.
+fn start(alloc: Global, letter: u8) -> Result<Node, Fail> {
+    Ok(Node::start(alloc, process(alloc, letter)?, &settings(alloc)?)?)
+}
+
+// What the node does at an event.
+fn step(alloc: Global, node: &mut Node, event: NodeEvent) -> Result<Actions, Fail> {
+    if node.steps() >= 1000 {
+        return Err("too many steps")?;
+    }
+    Ok(node.step(alloc, event)?)
+}
+
+// A message of the process of this letter, for the node.
+fn envelope(alloc: Global, node: &Node, from: u8, message: Message) -> Result<Envelope, Fail> {
+    let from = process(alloc, from)?;
+    let to = node.me().address.copy(alloc)?;
+    Ok(Envelope {
+        from,
+        to,
+        uid: 0,
+        message,
+    })
+}
+
+// What the node does where the message of the process of this letter reaches it.
+fn given(alloc: Global, node: &mut Node, from: u8, message: Message) -> Result<Actions, Fail> {
+    let envelope = envelope(alloc, node, from, message)?;
+    step(alloc, node, NodeEvent::Packet(envelope))
+}
+
+// What it does where the process of this letter asks to join.
+fn asked(alloc: Global, node: &mut Node, from: u8) -> Result<Actions, Fail> {
+    given(alloc, node, from, Message::Join)
+}
+
+// What it does at a gossip of these lines that the process of this letter sends.
+fn told(alloc: Global, node: &mut Node, from: u8, lines: &[(u8, u64)]) -> Result<Actions, Fail> {
+    let gossip = gossip(alloc, lines)?;
+    given(alloc, node, from, Message::Gossip(gossip))
+}
+
+// What it does at the gossip of a crowd that c sends.
+fn told_of_crowd(alloc: Global, node: &mut Node, others: u32) -> Result<Actions, Fail> {
+    let gossip = crowd(alloc, others)?;
+    given(alloc, node, b'c', Message::Gossip(gossip))
+}
+
+fn is_refusal(actions: &Actions, code: u8) -> bool {
+    match actions.as_slice() {
+        [Action::Refused(why)] => *why == code,
+        _ => false,
+    }
+}
+
+fn is_answer_with_view(actions: &Actions) -> bool {
+    match actions.as_slice() {
+        [Action::Send(_), Action::View] => true,
+        _ => false,
+    }
+}
+
+fn is_founding(actions: &Actions) -> bool {
+    match actions.as_slice() {
+        [Action::Update(number, _), Action::View] => *number == 1,
+        _ => false,
+    }
+}
+
+fn is_admission(actions: &Actions) -> bool {
+    match actions.as_slice() {
+        [Action::Update(number, _), Action::Send(_), Action::View] => *number == 1,
+        _ => false,
+    }
+}
+
+// From one process to exactly the other.
+fn goes(envelope: &Envelope, from: &Unique, to: &Unique) -> bool {
+    let sent_by = envelope.from.compare(from).is_eq();
+    let sent_to = envelope.to.compare(&to.address).is_eq();
+    sent_by && sent_to && envelope.uid == to.uid
+}
+
+// A gossip in which nobody is known.
+fn is_gossip_of_nobody(message: &Message) -> bool {
+    match message {
+        Message::Gossip(gossip) => gossip.uniques() == 0 && gossip.version().len() == 0,
+        _ => false,
+    }
+}
+
+fn answers_with_nobody(actions: &Actions, from: &Unique, to: &Unique) -> bool {
+    match actions.as_slice() {
+        [Action::Send(envelope)] => {
+            goes(envelope, from, to) && is_gossip_of_nobody(&envelope.message)
+        }
+        _ => false,
+    }
+}
+
+// The whole of what is done is one gossip of nobody, from one process to the other.
+fn is_answer_with_nobody(alloc: Global, actions: &Actions, from: u8, to: u8) -> Result<bool, Fail> {
+    let from = process(alloc, from)?;
+    let to = process(alloc, to)?;
+    Ok(answers_with_nobody(actions, &from, &to))
+}
+
+// A node that knows nothing and is not founded is told of itself alone, with no update counted: it knows the same, so it
+// answers with what it knows, which is nobody, and its view is not another.
+#[test]
+fn an_empty_node_answers_a_gossip_that_names_it(rt: HostRuntime) -> Result<(), Fail> {
+    let mut node = start(rt.alloc(), b'b')?;
+    let actions = told(rt.alloc(), &mut node, b'a', &[(b'b', 0)])?;
+    assert!(rt; is_answer_with_nobody(rt.alloc(), &actions, b'b', b'a')?);
+    Ok(())
+}
+
+// What a founder, a, whose own count is 1, does when the process of this letter asks to join.
+fn founder_asked(alloc: Global, from: u8) -> Result<Actions, Fail> {
+    let mut node = founder(alloc)?;
+    asked(alloc, &mut node, from)
+}
+
+fn founder_told(alloc: Global, from: u8, lines: &[(u8, u64)]) -> Result<Actions, Fail> {
+    let mut node = founder(alloc)?;
+    told(alloc, &mut node, from, lines)
+}
+
+fn founder(alloc: Global) -> Result<Node, Fail> {
+    let mut node = start(alloc, b'a')?;
+    let actions = step(alloc, &mut node, NodeEvent::Found)?;
+    if is_founding(&actions) {
+        return Ok(node);
+    }
+    Err("it does not found")?
+}
+
+// A member refuses a process at an address that is not listed.
+#[test]
+fn unlisted_processes_are_refused(rt: HostRuntime) -> Result<(), Fail> {
+    assert!(rt; is_refusal(&founder_asked(rt.alloc(), b'z')?, 4));
+    Ok(())
+}
+
+// A node refuses a gossip that counts more of its updates than it made.
+#[test]
+fn foreign_counts_are_refused(rt: HostRuntime) -> Result<(), Fail> {
+    let lines = [(b'a', 2), (b'b', 0)];
+    assert!(rt; is_refusal(&founder_told(rt.alloc(), b'b', &lines)?, 5));
+    Ok(())
+}
+
+// The node a, which took in the gossip of a crowd with so many others.
+fn in_crowd(alloc: Global, others: u32) -> Result<Node, Fail> {
+    let mut node = start(alloc, b'a')?;
+    let actions = told_of_crowd(alloc, &mut node, others)?;
+    if is_answer_with_view(&actions) {
+        return Ok(node);
+    }
+    Err("it does not take the gossip in")?
+}
+
+// What it does when b asks to join.
+fn crowd_asked(alloc: Global, others: u32) -> Result<Actions, Fail> {
+    let mut node = in_crowd(alloc, others)?;
+    asked(alloc, &mut node, b'b')
+}
+
+// Where 64 are known nobody more is admitted; where 63 are, one is.
+#[test]
+fn at_most_64_admit_another(rt: HostRuntime) -> Result<(), Fail> {
+    assert!(rt; is_refusal(&crowd_asked(rt.alloc(), 63)?, 6));
+    assert!(rt; is_admission(&crowd_asked(rt.alloc(), 62)?));
+    Ok(())
+}
+
+// The node a, which knows itself and b.
+fn of_two(alloc: Global) -> Result<Node, Fail> {
+    let mut node = start(alloc, b'a')?;
+    let actions = told(alloc, &mut node, b'b', &[(b'a', 0), (b'b', 1)])?;
+    if is_answer_with_view(&actions) {
+        return Ok(node);
+    }
+    Err("it does not take the gossip in")?
+}
+
+// What it does at the gossip of a crowd in which b is not.
+fn two_told_of_crowd(alloc: Global, others: u32) -> Result<Actions, Fail> {
+    let mut node = of_two(alloc)?;
+    told_of_crowd(alloc, &mut node, others)
+}
+
+// A gossip is refused where more than 128 would be known: a and b here, a and 127 others there.
+#[test]
+fn at_most_128_are_known(rt: HostRuntime) -> Result<(), Fail> {
+    assert!(rt; is_refusal(&two_told_of_crowd(rt.alloc(), 127)?, 6));
+    assert!(rt; is_answer_with_view(&two_told_of_crowd(rt.alloc(), 126)?));
+    Ok(())
+}
