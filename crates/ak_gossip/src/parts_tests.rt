@@ -220,45 +220,81 @@ fn a_gossip_is_made_of_parts(rt: HostRuntime) -> Result<(), Fail> {
     Ok(())
 }
 
+fn all_valid(alloc: Global, cases: &[[Line; 2]]) -> Result<bool, AllocError> {
+    'cases: for case in cases {
+        if !valid(alloc, case)? {
+            return Ok(false);
+        }
+    }
+    Ok(true)
+}
+
 #[test]
-fn valid_parts_are_accepted(rt: HostRuntime) -> Result<(), Fail> {
+fn valid_states_are_accepted(rt: HostRuntime) -> Result<(), Fail> {
     let cases = [
         [plain(1, 2, 1), plain(2, 1, 0)],
         [plain(1, 3, 9), plain(2, 4, 9)],
         [plain(1, 5, 0), plain(2, 5, 4611686018427387904)],
-        [plain(1, 6, 0), plain(2, 7, 0)],
-        [counted(1, 4611686018427387904), counted(2, 0)],
-        [observer(1, 3, &[0, 1]), observer(2, 1, &[])],
     ];
-    for case in cases {
-        assert!(rt; valid(rt.alloc(), &case)?);
-    }
-    assert!(rt; valid(rt.alloc(), &[])?);
+    assert!(rt; all_valid(rt.alloc(), &cases)?);
     Ok(())
 }
 
 #[test]
-fn other_parts_are_refused(rt: HostRuntime) -> Result<(), Fail> {
+fn valid_counts_and_rows_are_accepted(rt: HostRuntime) -> Result<(), Fail> {
     let cases = [
-        [plain(1, 1, 0), counted(2, 4611686018427387905)],
-        [plain(1, 1, 0), plain(2, 0, 0)],
-        [plain(1, 1, 0), plain(2, 8, 0)],
-        [plain(1, 1, 0), plain(2, 2, 0)],
-        [plain(1, 1, 0), plain(2, 2, 4611686018427387905)],
-        [plain(1, 1, 0), plain(2, 1, 1)],
-        [plain(1, 1, 0), plain(2, 6, 1)],
-        [plain(1, 1, 0), seen(2, 6)],
-        [plain(1, 1, 0), observer(2, 4, &[])],
-        [plain(1, 1, 0), observer(2, 0, &[0])],
-        [plain(1, 1, 0), observer(2, 1, &[1, 0])],
-        [plain(1, 1, 0), observer(2, 1, &[1, 1])],
-        [plain(1, 1, 0), observer(2, 1, &[2])],
-        [plain(2, 1, 0), plain(1, 1, 0)],
-        [plain(1, 1, 0), plain(1, 1, 0)],
+        [plain(1, 6, 0), plain(2, 7, 0)],
+        [counted(1, 4611686018427387904), counted(2, 0)],
+        [observer(1, 3, &[0, 1]), observer(2, 1, &[])],
     ];
-    for case in cases {
-        assert!(rt; !valid(rt.alloc(), &case)?);
+    assert!(rt; all_valid(rt.alloc(), &cases)?);
+    assert!(rt; valid(rt.alloc(), &[])?);
+    Ok(())
+}
+
+// After a plain first part each of these is refused.
+fn none_valid(alloc: Global, seconds: &[Line]) -> Result<bool, AllocError> {
+    'seconds: for second in seconds {
+        if valid(alloc, &[plain(1, 1, 0), *second])? {
+            return Ok(false);
+        }
     }
+    Ok(true)
+}
+
+#[test]
+fn other_states_are_refused(rt: HostRuntime) -> Result<(), Fail> {
+    let seconds = [
+        plain(2, 0, 0),
+        plain(2, 8, 0),
+        plain(2, 2, 0),
+        plain(2, 2, 4611686018427387905),
+        plain(2, 1, 1),
+        plain(2, 6, 1),
+        seen(2, 6),
+        counted(2, 4611686018427387905),
+    ];
+    assert!(rt; none_valid(rt.alloc(), &seconds)?);
+    Ok(())
+}
+
+#[test]
+fn other_rows_are_refused(rt: HostRuntime) -> Result<(), Fail> {
+    let seconds = [
+        observer(2, 4, &[]),
+        observer(2, 0, &[0]),
+        observer(2, 1, &[1, 0]),
+        observer(2, 1, &[1, 1]),
+        observer(2, 1, &[2]),
+    ];
+    assert!(rt; none_valid(rt.alloc(), &seconds)?);
+    Ok(())
+}
+
+#[test]
+fn parts_out_of_order_are_refused(rt: HostRuntime) -> Result<(), Fail> {
+    assert!(rt; !valid(rt.alloc(), &[plain(2, 1, 0), plain(1, 1, 0)])?);
+    assert!(rt; !valid(rt.alloc(), &[plain(1, 1, 0), plain(1, 1, 0)])?);
     Ok(())
 }
 

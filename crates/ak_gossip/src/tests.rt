@@ -105,37 +105,53 @@ fn merge_with_tombstone(rt: HostRuntime) -> Result<(), Fail> {
     Ok(())
 }
 
+fn base() -> [Line; 2] {
+    [joining(1, 2), joining(2, 0)]
+}
+
+fn risen() -> [Line; 2] {
+    [up(1, 3, 1), joining(2, 0)]
+}
+
+fn other() -> [Line; 2] {
+    [joining(1, 2), up(2, 1, 2)]
+}
+
 #[test]
 fn gossips_are_received(rt: HostRuntime) {
-    let base = [joining(1, 2), joining(2, 0)];
-    let risen = [up(1, 3, 1), joining(2, 0)];
-    let other = [joining(1, 2), up(2, 1, 2)];
+    let alloc = rt.alloc();
+    assert_eq!(rt; answer(alloc, &base(), 1, &base()), Ok(Received::Same));
+    assert_eq!(rt; answer(alloc, &base(), 2, &risen()), Ok(Received::Newer));
+    assert_eq!(rt; answer(alloc, &risen(), 1, &base()), Ok(Received::Older));
+    assert_eq!(rt; answer(alloc, &risen(), 1, &other()), Ok(Received::Merged));
+}
+
+#[test]
+fn foreign_counts_are_refused(rt: HostRuntime) {
     let foreign = GossipFault::ForeignCount { own: 2, theirs: 3 };
-    for (own, me, incoming, wanted) in [
-        (base, 1, base, Ok(Received::Same)),
-        (base, 2, risen, Ok(Received::Newer)),
-        (risen, 1, base, Ok(Received::Older)),
-        (risen, 1, other, Ok(Received::Merged)),
-        (base, 1, risen, Err(foreign)),
-    ] {
-        assert_eq!(rt; answer(rt.alloc(), &own, me, &incoming), wanted);
-    }
+    assert_eq!(rt; answer(rt.alloc(), &base(), 1, &risen()), Err(foreign));
+}
+
+// What so many answer at the gossip of 64 others, and how many are known then.
+fn crowd_told(
+    alloc: Global,
+    many: u32,
+    me: u32,
+) -> Result<(Result<Received, GossipFault>, u32), AllocError> {
+    let other = crowd(alloc, 101, 64)?;
+    let mut own = crowd(alloc, 1, many)?;
+    let answer = received(alloc, &mut own, me, &other);
+    Ok((answer, own.uniques()))
 }
 
 #[test]
 fn at_most_128_are_accepted(rt: HostRuntime) -> Result<(), Fail> {
-    let other = crowd(rt.alloc(), 101, 64)?;
-    let excess = GossipFault::TooManyUniques { union: 129 };
-    let foreign = GossipFault::ForeignCount { own: 0, theirs: 3 };
-    for (many, me, wanted, uniques) in [
-        (64, 1, Ok(Received::Merged), 128),
-        (65, 1, Err(excess), 65),
-        (65, 101, Err(foreign), 65),
-    ] {
-        let mut own = crowd(rt.alloc(), 1, many)?;
-        assert_eq!(rt; received(rt.alloc(), &mut own, me, &other), wanted);
-        assert_eq!(rt; own.uniques(), uniques);
-    }
+    let merged = Ok(Received::Merged);
+    assert_eq!(rt; crowd_told(rt.alloc(), 64, 1)?, (merged, 128));
+    let excess = Err(GossipFault::TooManyUniques { union: 129 });
+    assert_eq!(rt; crowd_told(rt.alloc(), 65, 1)?, (excess, 65));
+    let foreign = Err(GossipFault::ForeignCount { own: 0, theirs: 3 });
+    assert_eq!(rt; crowd_told(rt.alloc(), 65, 101)?, (foreign, 65));
     Ok(())
 }
 
