@@ -1,17 +1,18 @@
 -- What the walks of a ring and of a detector come to.
-use Rattle.std.proofs.Common.{◌≡◌, ℕ, zero, suc, ◌+◌, ◌-◌, ◌≤◌, Bool, true, false, cond, ◌&&◌, ◌||◌, if◌then◌else◌, List, [], ◌∷◌, ◌++◌, map, length, take, drop, slice_get, nat_lt, Option, Some, None, is_some, unwrap_or, option_to_list, refl, sym, ap, ◌∙◌, arith}
+use Rattle.std.proofs.Common.{◌≡◌, ℕ, zero, suc, ◌+◌, ◌-◌, ◌≤◌, Bool, true, false, cond, ◌&&◌, ◌||◌, if◌then◌else◌, List, [], ◌∷◌, ◌++◌, map, min, length, take, drop, slice_get, nat_lt, Option, Some, None, is_some, unwrap_or, option_to_list, refl, sym, ap, ◌∙◌, arith}
 use Rattle.std.specs.List.{fold, filter}
 use Rattle.std.specs.FinMap as finmap
 use Rattle.std.specs.Ordering.{is_eq, eq_by_cmp}
 use Rattle.std.proofs.lemmas.List.{length-append}
+use Rattle.std.proofs.lemmas.Bool.Decides.{nat_tests}
 use Rattle.std.proofs.lemmas.List.Sums.{fold-append}
 use Rattle.ak_address.specs.Unique.{UniqueModel, unique_cmp}
-use Rattle.ak_address.specs.Uniques.{UniqueSet, no_one, has, with_one, how_many, in_order}
+use Rattle.ak_address.specs.Uniques.{UniqueSet, no_one, has, with_one, how_many, in_order, set_of}
 use Rattle.ak_address.specs.Changed.{keys_of}
 use Rattle.ak_address.specs.Counters.{Counters, counter, with_each, above}
 use Rattle.ak_address.proofs.TableLaws.{same_key, same_table, get-empty, get-insert}
 use Rattle.ak_address.proofs.UniquesLaws.{same_uniques}
-use Rattle.ak_address.proofs.ChangedLaws.{has-keys_of, changed-empty, changed-changed}
+use Rattle.ak_address.proofs.ChangedLaws.{entries-changed, has-keys_of, changed-empty, changed-changed}
 use Rattle.ak_address.proofs.CountersLaws.{among, among-filter, has-set_of, set_of-in_order, has-walked, set_walked, get-with_each, keys-with_each, passes, among_passing}
 use Rattle.ak_member.specs.declared.status.Status.{Status}
 use Rattle.ak_member.specs.declared.standing.Standing.{Standing}
@@ -169,3 +170,22 @@ keys-heard who c = by_presence (finmap.contains_key c who) refl
 
 pub pair_there : (o p : Option UniqueModel) → o ≡ p → option_to_list o ≡ option_to_list p
 pair_there o p is = ap option_to_list is
+
+-- ---- whom the next tick finds silent
+module _ (deadline : ℕ) (least : 1 ≤ deadline) where
+  above_next : (n : ℕ) → nat_lt deadline (min (n + 1) (deadline + 1)) ≡ nat_lt (deadline - 1) n
+  above_next n = grind (arith, nat_tests)
+
+  pairs_next : (es : List (UniqueModel × ℕ)) → above_pairs deadline (map (λ (e : UniqueModel × ℕ). (e.0, min (e.1 + 1) (deadline + 1))) es) ≡ above_pairs (deadline - 1) es
+  pairs_next [] = refl
+  pairs_next (e ∷ es) = (λ i. map (λ (x : UniqueModel × ℕ). x.0) (if above_next e.1 i then (e.0, min (e.1 + 1) (deadline + 1)) ∷ rest else rest)) ∙ by_case (nat_lt (deadline - 1) e.1) (pairs_next es)
+    where
+      rest : List (UniqueModel × ℕ)
+      rest = filter (λ (x : UniqueModel × ℕ). nat_lt deadline x.1) (map (λ (x : UniqueModel × ℕ). (x.0, min (x.1 + 1) (deadline + 1))) es)
+
+      by_case : (b : Bool) → above_pairs deadline (map (λ (x : UniqueModel × ℕ). (x.0, min (x.1 + 1) (deadline + 1))) es) ≡ above_pairs (deadline - 1) es → map (λ (x : UniqueModel × ℕ). x.0) (if b then (e.0, min (e.1 + 1) (deadline + 1)) ∷ rest else rest) ≡ map (λ (x : UniqueModel × ℕ). x.0) (if b then e ∷ filter (λ (x : UniqueModel × ℕ). nat_lt (deadline - 1) x.1) es else filter (λ (x : UniqueModel × ℕ). nat_lt (deadline - 1) x.1) es)
+      by_case true later = ap (λ l. e.0 ∷ l) later
+      by_case false later = later
+
+  pub silent_by_next : (counters : Counters) → silent (deadline - 1) counters ≡ silent deadline (ticked deadline counters)
+  silent_by_next counters = ap set_of (sym (ap (above_pairs deadline) (entries-changed (λ n. min (n + 1) (deadline + 1)) counters) ∙ pairs_next (finmap.entries counters)))

@@ -1,4 +1,4 @@
-ghost use Rattle.std.specs.Prelude.{◌≡◌, ◌<◌, ◌-◌, ◌^◌, IfOk, OnOk, OnErr, slice_get, option_copied, option_map, option_to_list};
+ghost use Rattle.std.specs.Prelude.{◌≡◌, ◌<◌, ◌≤◌, ◌-◌, ◌^◌, IfOk, OnOk, OnErr, slice_get, option_copied, option_map, option_to_list};
 ghost use Rattle.std.specs.List.{fold, filter};
 ghost use Rattle.std.specs.FinMap as map;
 ghost use Rattle.ak_address.specs.Changed.{keys_of};
@@ -46,9 +46,26 @@ impl Detector {
         Detector { watched, counters }
     }
 
-    /// Watches the node's ring, and on whoever is silent by this deadline and still a member: one that is silent is
-    /// reported until it is heard or removed (this project's choice). A counter is kept, a new one is 0. After an error
-    /// the detector is as it was; only memory can fail.
+    /// The detector that watches the node's ring, and on whoever is silent by this deadline and still a member: one that is
+    /// silent is reported until it is heard or removed (this project's choice). A counter is kept, a new one is 0. Only memory
+    /// can fail.
+    pub fn watching(
+        &self,
+        alloc: Global,
+        me: &Unique,
+        members: &Members,
+        deadline: u32,
+    ) -> Result<Detector, AllocError>
+        ensures { IfOk result (λ detector. detector ≡ watching me.now members.now deadline self.now) }
+    {
+        let mut watched = watch_ring(alloc, me, members)?;
+        let silent = silent_in(alloc, &self.counters, deadline)?;
+        add_members(alloc, members, &silent, &mut watched)?;
+        let counters = counters_for(alloc, &self.counters, &watched)?;
+        Ok(Detector { watched, counters })
+    }
+
+    /// Watches so from now on. After an error the detector is as it was; only memory can fail.
     pub fn watch(
         &mut self,
         alloc: Global,
@@ -59,12 +76,7 @@ impl Detector {
         ensures ok { OnOk result (self.new ≡ watching me.now members.now deadline self.old) }
         ensures err { OnErr result (self.new ≡ self.old) }
     {
-        let mut watched = watch_ring(alloc, me, members)?;
-        let silent = silent_in(alloc, &self.counters, deadline)?;
-        add_members(alloc, members, &silent, &mut watched)?;
-        let counters = counters_for(alloc, &self.counters, &watched)?;
-        self.watched = watched;
-        self.counters = counters;
+        *self = self.watching(alloc, me, members, deadline)?;
         Ok(())
     }
 
@@ -89,6 +101,15 @@ impl Detector {
         ensures { IfOk result (λ them. them ≡ silent deadline self.now) }
     {
         silent_in(alloc, &self.counters, deadline)
+    }
+
+    /// Those that will be silent after one more tick. Only memory can fail.
+    pub fn silent_next(&self, alloc: Global, deadline: u32) -> Result<Uniques, AllocError>
+        requires { 1 ≤ deadline }
+        ensures { IfOk result (λ them. them ≡ silent deadline (ticked deadline self.now)) }
+    {
+        let them = silent_in(alloc, &self.counters, deadline - 1)?;
+        Ok(them)
     }
 
     /// Those that are watched. Takes no memory.

@@ -1,9 +1,10 @@
--- Entries that may be made: those that raise and remove members.
+-- Entries that may be made: those that raise and remove members, and those that observe.
 use Rattle.std.proofs.Common.{◌≡◌, ◌≢◌, inl, inr, ℕ, ◌+◌, ◌<◌, ◌≤◌, cond, Bool, true, false, IsTrue, List, [], ◌∷◌, Option, Some, None, is_some, refl, sym, ap, ◌∙◌, subst, arith, true≢false}
 use Rattle.std.proofs.lemmas.Option.{same_Some}
 use Rattle.std.proofs.lemmas.Bool.Decides.{nat_tests}
 use Rattle.std.specs.FinMap as map
 use Rattle.ak_address.specs.Unique.{UniqueModel}
+use Rattle.ak_address.specs.Uniques.{UniqueSet, has}
 use Rattle.ak_address.proofs.OrderLemmas.{unique_total}
 use Rattle.ak_address.proofs.TableLaws.{same_or_apart}
 use Rattle.ak_clock.specs.declared.version.TheConstants.{BOUND}
@@ -205,3 +206,14 @@ fit_may author effects g p room member all =
       standings = h.standings;
       few = h.few;
     }
+
+-- an entry that observes known processes
+pub observing_may : (author : UniqueModel) (subjects : UniqueSet) (g : GossipState) → IsGossip g → count g.version author < BOUND → IsTrue (is_member g.view.standings author)
+    → ((who : UniqueModel) → IsTrue (has subjects who) → IsTrue (is_known g.view.standings who)) → MayUpdate author (Observed subjects ∷ []) g
+observing_may author subjects g p room member each = record {
+  below_bound = room;
+  stays = member;
+  subjects = λ them who observes in_them. each who (subst (λ s. IsTrue (has s who)) (sym (same_Some subjects them observes)) in_them);
+  standings = p.standings;
+  few = p.few;
+}

@@ -1,6 +1,6 @@
 -- What is true of every membership is kept by each rule: it knows itself where it knows anybody, and what it knows covers its
 -- settled view. And what a node knows only grows.
-use Rattle.std.proofs.Common.{◌≡◌, Bool, true, false, inl, inr, if◌then◌else◌, Some, is_some, Result, Ok, Err, IfOk, OnOk, OnErr, IsTrue, refl, sym, ap, ◌∙◌, subst, true≢false}
+use Rattle.std.proofs.Common.{◌≡◌, ℕ, Bool, true, false, inl, inr, if◌then◌else◌, Some, None, is_some, Result, Ok, Err, IfOk, OnOk, OnErr, IsTrue, refl, sym, ap, ◌∙◌, subst, true≢false}
 use Rattle.std.specs.FinMap as map
 use Rattle.ak_address.specs.Unique.{AddressModel, UniqueModel, unique_cmp}
 use Rattle.ak_address.specs.Uniques.{with_one}
@@ -16,8 +16,9 @@ use Rattle.ak_member.specs.View.{View, after_effects}
 use Rattle.ak_member.proofs.ViewLaws.{get-known_here}
 use Rattle.ak_gossip.specs.Gossip.{GossipState, is_known, accepted, noted, same, both, seen_by}
 use Rattle.ak_gossip.proofs.InvariantLemmas.{known_second, known_after_effects}
-use Rattle.ak_settled.specs.Settled.{version_of, after_note}
-use Rattle.ak_settled.specs.SettledView.{SettledModel}
+use Rattle.ak_settled.specs.Settled.{version_of, standings_of, ticked, after_note, IsCounting}
+use Rattle.ak_settled.specs.SettledView.{SettledView, SettledModel}
+use Rattle.ak_settled.proofs.SettledLaws.{counting_ticked}
 use Rattle.ak_schedule.specs.Settings.{SettingsModel}
 use Rattle.ak_membership.specs.declared.change.Change.{Change}
 use Rattle.ak_membership.specs.declared.change.Closing.{Closing}
@@ -26,7 +27,7 @@ use Rattle.ak_membership.specs.declared.change.MemberFault.TheVariants.{NotUp, U
 use Rattle.ak_membership.specs.declared.state.MembershipState.{MembershipState}
 use Rattle.ak_membership.specs.Membership.{Outcome, started, is_member, join, on_confirmed}
 use Rattle.ak_membership.specs.Closing.{notes, close}
-use Rattle.ak_membership.specs.Knowledge.{Knowledge, Keeps, Updates, Accepts, Given, learnt, IsLawful, Learns}
+use Rattle.ak_membership.specs.Knowledge.{Knowledge, Keeps, Updates, Accepts, Given, learnt, IsLawful, WaitsOn, Learns}
 use Rattle.ak_membership.specs.MembershipContracts.{KnowsItself, IsMembership, IsSameProcess, Makes, Answers, Closes}
 
 -- ---- it knows itself
@@ -74,12 +75,33 @@ learnt_covers me Keeps own = covers_itself own.version
 learnt_covers me (Updates effects) own = bumped_covers own.version me
 learnt_covers me (Accepts g) own = accepted_covers me own g (covers own.version g.version) (covers g.version own.version) refl refl
 
+-- ---- the settled view, while its tombstones wait
+pub waits_version : (margin : ℕ) (old new : SettledModel) → WaitsOn margin old new → version_of new.view ≡ version_of old.view
+waits_version margin old new (inl same) = ap (λ (s : SettledModel). version_of s.view) same
+waits_version margin old new (inr later) = ap (λ (s : SettledModel). version_of s.view) later ∙ by_case old.view
+  where
+    by_case : (v : SettledView) → version_of (ticked margin v) ≡ version_of v
+    by_case None = refl
+    by_case (Some noted) = refl
+
+pub waits_standings : (margin : ℕ) (old new : SettledModel) → WaitsOn margin old new → standings_of new.view ≡ standings_of old.view
+waits_standings margin old new (inl same) = ap (λ (s : SettledModel). standings_of s.view) same
+waits_standings margin old new (inr later) = ap (λ (s : SettledModel). standings_of s.view) later ∙ by_case old.view
+  where
+    by_case : (v : SettledView) → standings_of (ticked margin v) ≡ standings_of v
+    by_case None = refl
+    by_case (Some noted) = refl
+
+pub waits_counting : (margin : ℕ) (old new : SettledModel) → WaitsOn margin old new → IsCounting margin old.view → IsCounting margin new.view
+waits_counting margin old new (inl same) is = subst (λ (s : SettledModel). IsCounting margin s.view) (sym same) is
+waits_counting margin old new (inr later) is = subst (λ (s : SettledModel). IsCounting margin s.view) (sym later) (counting_ticked margin old.view is)
+
 -- ---- each rule keeps both
 pub keeps_membership : (given : Given) (m : MembershipState) (o : Outcome) → Learns given m o → IsMembership m → IsMembership o.0
 keeps_membership given m o l is = record {
   itself = subst (λ u. KnowsItself u o.0.gossip) (sym l.same_me) (subst (KnowsItself m.me) (sym l.knows) (learnt_itself given m l.knowledge l.lawful is.itself));
   settled_before =
-      subst (λ (s : SettledModel). Covers o.0.gossip.version (version_of s.view)) (sym l.same_settled)
+      subst (Covers o.0.gossip.version) (sym (waits_version m.settings.margin m.settled o.0.settled l.waits_on))
       (subst (λ (g : GossipState). Covers g.version (version_of m.settled.view)) (sym l.knows)
       (covers_along (learnt m.me l.knowledge m.gossip).version m.gossip.version (version_of m.settled.view) (learnt_covers m.me l.knowledge m.gossip) is.settled_before));
 }

@@ -6,7 +6,7 @@ use Rattle.std.specs.FinMap as map
 use Rattle.ak_address.specs.Unique.{UniqueModel}
 use Rattle.ak_clock.specs.Version.{count, relation}
 use Rattle.ak_member.specs.declared.effect.Effect.{Effect}
-use Rattle.ak_member.specs.declared.effect.Effect.TheVariants.{Joined, Rise}
+use Rattle.ak_member.specs.declared.effect.Effect.TheVariants.{Joined, Rise, Observed}
 use Rattle.ak_member.specs.declared.status.Status.TheVariants.{Leaving, Down}
 use Rattle.ak_member.specs.Standing as standing
 use Rattle.ak_member.specs.Standing.{members_of, is_down}
@@ -14,13 +14,16 @@ use Rattle.ak_gossip.specs.declared.gossip.GossipFault.TheVariants as fault
 use Rattle.ak_gossip.specs.Gossip.{GossipState, is_known, accepted, noted, most_uniques}
 use Rattle.ak_gossip.proofs.InvariantLemmas.{and_first, member_known}
 use Rattle.ak_schedule.specs.Settings.{is_listed}
+use Rattle.ak_reach.specs.Unreachable.{unreachable_members}
+use Rattle.ak_downing.specs.Downing.{decide, is_against}
 use Rattle.ak_leader.specs.Leader.{leaders_effects, founding_effects}
+use Rattle.ak_settled.specs.Settled.{after_tick}
 use Rattle.ak_membership.specs.declared.change.Reply.{Reply}
 use Rattle.ak_membership.specs.declared.change.Reply.TheVariants.{Welcome}
 use Rattle.ak_membership.specs.declared.change.MemberFault.{MemberFault}
 use Rattle.ak_membership.specs.declared.state.MembershipState.{MembershipState}
-use Rattle.ak_membership.specs.Membership.{Outcome, unchanged, replying, may_count, made, update, update_any, is_member, is_member_with, is_up, found, leave, down, is_beside, has_member_beside, replaced, most_at_join, on_join, on_received, on_gossip}
-use Rattle.ak_membership.specs.Tick.{founds, leads, has_settled, ticked, tick}
+use Rattle.ak_membership.specs.Membership.{Outcome, unchanged, replying, may_count, made, update, update_any, knowing, is_member, is_member_with, is_up, found, leave, down, is_beside, has_member_beside, replaced, most_at_join, on_join, on_received, on_gossip}
+use Rattle.ak_membership.specs.Tick.{observes, silent, decides, decided, founds, leads, has_settled, updates, counted, tick}
 use Rattle.ak_membership.specs.Knowledge.{Given, Keeps, Updates, Accepts, learnt, IsLawful, Learns}
 use Rattle.ak_membership.proofs.Causes.{founding_causes, leading_causes, downing_causes, one_cause}
 
@@ -67,7 +70,7 @@ module _ (given : Given) (m : MembershipState) where
     same_settings = alike.settings;
     same_shown = alike.shown;
     same_confirmed = alike.confirmed;
-    same_settled = alike.settled;
+    waits_on = inl alike.settled;
     ticked = alike.ticked;
     founder = alike.founder;
     founds = alike.founds;
@@ -87,7 +90,7 @@ module _ (given : Given) (m : MembershipState) where
     same_settings = alike.settings;
     same_shown = alike.shown;
     same_confirmed = alike.confirmed;
-    same_settled = alike.settled;
+    waits_on = inl alike.settled;
     ticked = alike.ticked;
     founder = alike.founder;
     founds = alike.founds;
@@ -111,7 +114,7 @@ module _ (given : Given) (m : MembershipState) where
     same_settings = c.same_settings;
     same_shown = c.same_shown;
     same_confirmed = c.same_confirmed;
-    same_settled = c.same_settled;
+    waits_on = c.waits_on;
     ticked = c.ticked;
     founder = c.founder;
     founds = c.founds;
@@ -143,14 +146,57 @@ module _ (given : Given) (m : MembershipState) where
       updating m (Rise who Down 0 ∷ []) itself (inl (member_is_known (was _ member)), one_cause given m (Rise who Down 0) (was _ there, tt)))))
 
   -- ---- a tick
+  updates_learns : is_member m ≡ true → Learns given m (updates m)
+  updates_learns member =
+      let known = member_is_known member in
+      learns_if (observes m) (λ is. updating m (Observed (silent m) ∷ []) itself (inl known, one_cause given m (Observed (silent m)) refl)) (λ no.
+      learns_if (decides m) (λ is. updating m (decided m) itself (inl known, downing_causes given m (is_against (decide m.settings.strategy m.gossip.view m.me) (unreachable_members m.gossip.view) m.me))) (λ no.
+      learns_if (founds m) (λ is. updating m (founding_effects m.gossip.view.standings) itself (inl known, founding_causes given m is)) (λ no.
+      learns_if (leads m) (λ is. updating_any m (leaders_effects m.gossip.view m.confirmed) itself (inl known, leading_causes given m (and_first (has_settled m) _ is))) (λ no. still))))
+
+  -- what an update leaves for the tick to count
+  record Leaves (o : Outcome) : Type 0 where
+    ticks : o.0.ticks ≡ m.ticks
+    settings : o.0.settings ≡ m.settings
+    settled : o.0.settled ≡ m.settled
+
+  leaves_if : (b : Bool) (o p : Outcome) → Leaves o → Leaves p → Leaves (if b then o else p)
+  leaves_if true o p x y = x
+  leaves_if false o p x y = y
+
+  update_leaves : (effects : List Effect) → Leaves (update effects m)
+  update_leaves effects = leaves_if (may_count m) (made effects m) (unchanged m) (record { ticks = refl; settings = refl; settled = refl }) (record { ticks = refl; settings = refl; settled = refl })
+
+  update_any_leaves : (effects : List Effect) → Leaves (update_any effects m)
+  update_any_leaves [] = record { ticks = refl; settings = refl; settled = refl }
+  update_any_leaves (x ∷ effects) = update_leaves (x ∷ effects)
+
+  updates_leave : Leaves (updates m)
+  updates_leave =
+      leaves_if (observes m) (update (Observed (silent m) ∷ []) m) _ (update_leaves (Observed (silent m) ∷ []))
+      (leaves_if (decides m) (update (decided m) m) _ (update_leaves (decided m))
+      (leaves_if (founds m) (update (founding_effects m.gossip.view.standings) m) _ (update_leaves (founding_effects m.gossip.view.standings))
+      (leaves_if (leads m) (update_any (leaders_effects m.gossip.view m.confirmed) m) (unchanged m) (update_any_leaves (leaders_effects m.gossip.view m.confirmed)) (record { ticks = refl; settings = refl; settled = refl }))))
+
+  counting : (o : Outcome) → Leaves o → Learns given m o → Learns given m (counted o.0, o.1)
+  counting o left c = record {
+    knowledge = c.knowledge;
+    lawful = c.lawful;
+    knows = c.knows;
+    tells = c.tells;
+    numbered = c.numbered;
+    same_me = c.same_me;
+    same_settings = c.same_settings;
+    same_shown = c.same_shown;
+    same_confirmed = c.same_confirmed;
+    waits_on = inr (λ i. after_tick (left.settings i).margin (left.settled i));
+    ticked = let same = left.ticks in omega arith;
+    founder = c.founder;
+    founds = c.founds;
+  }
+
   pub tick_learns : Learns given m (tick m)
-  tick_learns =
-      let l = ticked m in
-      let alike : IsAlike l = record { gossip = refl; me = refl; settings = refl; shown = refl; confirmed = refl; settled = refl; ticked = omega arith; founder = λ f. inl f; founds = λ f. f } in
-      learns_if (is_member m) (λ member.
-      learns_if (founds m) (λ is. updating l (founding_effects m.gossip.view.standings) alike (inl (member_is_known member), founding_causes given m is)) (λ no.
-      learns_if (leads m) (λ is. updating_any l (leaders_effects m.gossip.view m.confirmed) alike (inl (member_is_known member), leading_causes given m (and_first (has_settled m) _ is)))
-      (λ no. keeping l alike))) (λ no. still)
+  tick_learns = learns_if (is_member m) (λ member. counting (updates m) updates_leave (updates_learns member)) (λ no. still)
 
   -- ---- a process asks to join
   pub join_learns : (from : UniqueModel) → given.asks ≡ Some from → IfOk (on_join from m) (λ o. Learns given m o)
@@ -168,7 +214,7 @@ module _ (given : Given) (m : MembershipState) where
 
   -- ---- a gossip
   module _ (g : GossipState) (brings : given.brings ≡ Some g) (there : IsTrue (is_known g.view.standings m.me)) where
-    accepting : (count g.version m.me ≤ count m.gossip.version m.me) → Learns given m (unchanged (record m { gossip = (noted m.me (accepted (relation m.gossip.version g.version) m.gossip g)).1 }))
+    accepting : (count g.version m.me ≤ count m.gossip.version m.me) → Learns given m (unchanged (knowing (noted m.me (accepted (relation m.gossip.version g.version) m.gossip g)).1 m))
     accepting most = record {
       knowledge = Accepts g;
       lawful = (brings, there, most);
@@ -179,7 +225,7 @@ module _ (given : Given) (m : MembershipState) where
       same_settings = refl;
       same_shown = refl;
       same_confirmed = refl;
-      same_settled = refl;
+      waits_on = inl refl;
       ticked = omega arith;
       founder = λ f. inl f;
       founds = λ f. f;
@@ -192,7 +238,7 @@ module _ (given : Given) (m : MembershipState) where
     by_tests false false foreign own theirs together =
         let r = noted m.me (accepted (relation m.gossip.version g.version) m.gossip g) in
         let most = ltb-false (count m.gossip.version m.me) (count g.version m.me) foreign in
-        replies _ (unchanged (record m { gossip = r.1 })) (accepting most)
+        replies _ (unchanged (knowing r.1 m)) (accepting most)
 
   pub gossip_learns : (g : GossipState) → given.brings ≡ Some g → IfOk (on_gossip g m) (λ o. Learns given m o)
   gossip_learns g brings =

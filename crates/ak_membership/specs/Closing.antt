@@ -1,8 +1,9 @@
--- What is due after an event: the view is shown where it is another, the node stops where it is gone, and a settled view is
--- noted (this project's choice).
-use Rattle.std.specs.Prelude.{Bool, true, false, ◌&&◌, ◌||◌, not, is_some, if◌then◌else◌}
+-- What is due after an event: the view is shown where it is another, the node watches its ring by it, the node stops where it
+-- is gone, and a settled view is noted (this project's choice).
+use Rattle.std.specs.Prelude.{ℕ, Bool, true, false, ◌&&◌, ◌||◌, not, is_some, if◌then◌else◌}
 use Rattle.ak_clock.specs.Version.{Counts, relation}
 use Rattle.ak_clock.specs.declared.version.Relation as clock
+use Rattle.ak_detector.specs.Detector.{watching}
 use Rattle.ak_settled.specs.Settled.{version_of, after_note}
 use Rattle.ak_settled.specs.SettledView.{SettledModel}
 use Rattle.ak_membership.specs.declared.change.Closing.{Closing}
@@ -39,9 +40,19 @@ notes stopping m = not (stops stopping m) && is_noted m
 abbrev pub settled_after : Bool → MembershipState → SettledModel
 settled_after stopping m = if notes stopping m then after_note m.gossip.version m.gossip.view.standings m.settled else m.settled
 
+-- how long the view stood still: not at all where members are shown otherwise than at the last closing
+abbrev pub stable_after : MembershipState → ℕ
+stable_after m = if m.moved then 0 else m.stable
+
 -- what is known after the closing, whose version counts as shown, and what is due
 abbrev pub close : Bool → MembershipState → MembershipState × Closing
 close stopping m = (
-  record m { shown = m.gossip.version; settled = settled_after stopping m },
+  record m {
+    shown = m.gossip.version;
+    stable = stable_after m;
+    moved = false;
+    detector = watching m.me m.gossip.view.standings m.settings.deadline m.detector;
+    settled = settled_after stopping m;
+  },
   record { viewed = is_viewed m; stopped = stops stopping m; settled = notes stopping m },
 )

@@ -11,10 +11,12 @@ use Rattle.ak_member.specs.declared.status.Status.TheVariants.{Joining, Up, Leav
 use Rattle.ak_member.specs.Standing as standing
 use Rattle.ak_gossip.specs.Gossip.{GossipState, is_known, updated, accepted, noted}
 use Rattle.ak_leader.specs.Leader.{is_joining}
+use Rattle.ak_settled.specs.Settled.{after_tick}
+use Rattle.ak_settled.specs.SettledView.{SettledModel}
 use Rattle.ak_membership.specs.declared.change.Change.{Change}
 use Rattle.ak_membership.specs.declared.state.MembershipState.{MembershipState}
 use Rattle.ak_membership.specs.Membership.{Outcome, is_member, is_member_with, is_up}
-use Rattle.ak_membership.specs.Tick.{has_settled}
+use Rattle.ak_membership.specs.Tick.{has_settled, silent}
 
 pub data Knowledge : Type 0 where
   Keeps : Knowledge
@@ -72,12 +74,12 @@ abbrev pub MayRemove : MembershipState → UniqueModel → Bool → Type 0
 MayRemove m who true = IsTrue (has_settled m) × IsTrue (has m.confirmed who)
 MayRemove m who false = IsTrue (has_settled m)
 
--- why a node may write an effect among others
+-- why a node may write an effect among others; whom it observes, it finds silent
 abbrev pub IsCause : Given → MembershipState → List Effect → Effect → Type 0
 IsCause given m effects (Joined who) = (IsTrue given.founds × (who ≡ m.me)) ⊎ (IsTrue (is_member m) × (given.asks ≡ Some who))
 IsCause given m effects (Rise who status number) = HasMember m who × MayRaise m effects who status
 IsCause given m effects (Removed who confirmed) = HasMember m who × MayRemove m who confirmed
-IsCause given m effects (Observed subjects) = ⊥
+IsCause given m effects (Observed subjects) = subjects ≡ silent m
 
 -- A node that is known to itself, or joins itself, makes an update whose effects have causes. It accepts a gossip that knows
 -- the node and counts no more of the node's updates than the node does.
@@ -85,6 +87,10 @@ abbrev pub IsLawful : Given → MembershipState → Knowledge → Type 0
 IsLawful given m Keeps = Unit {0}
 IsLawful given m (Updates effects) = (IsTrue (is_known m.gossip.view.standings m.me) ⊎ (effects ≡ Joined m.me ∷ [])) × ((x : Effect) → Contains effects x → IsCause given m effects x)
 IsLawful given m (Accepts incoming) = (given.brings ≡ Some incoming) × IsTrue (is_known incoming.view.standings m.me) × (count incoming.version m.me ≤ count m.gossip.version m.me)
+
+-- the settled view is as it was, or its tombstones wait for a tick more
+abbrev pub WaitsOn : ℕ → SettledModel → SettledModel → Type 0
+WaitsOn margin old new = (new ≡ old) ⊎ (new ≡ after_tick margin old)
 
 -- What a rule did: the change of what is known, which is lawful; the update that it tells, which has the next number of the
 -- node's own; and what it leaves as it was.
@@ -98,7 +104,7 @@ pub record Learns (given : Given) (m : MembershipState) (o : Outcome) : Type 0 w
   pub same_settings : o.0.settings ≡ m.settings
   pub same_shown : o.0.shown ≡ m.shown
   pub same_confirmed : o.0.confirmed ≡ m.confirmed
-  pub same_settled : o.0.settled ≡ m.settled
+  pub waits_on : WaitsOn m.settings.margin m.settled o.0.settled
   pub ticked : o.0.ticks ≤ m.ticks + 1
   pub founder : IsTrue o.0.founder → IsTrue m.founder ⊎ IsTrue given.founds
   pub founds : IsTrue m.founder → IsTrue o.0.founder

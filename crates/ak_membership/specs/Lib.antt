@@ -2,4 +2,5 @@ pub mod Closing
 pub mod Knowledge
 pub mod Membership
 pub mod MembershipContracts
+pub mod Sight
 pub mod Tick

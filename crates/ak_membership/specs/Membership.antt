@@ -1,6 +1,6 @@
 -- What a process knows of its cluster, and what it makes of what it is asked and of gossip (Akka's Cluster Specification,
 -- "Membership Lifecycle", "Joining" and "Leaving"; who is refused, and in which order, is this project's choice).
-use Rattle.std.specs.Prelude.{ℕ, ◌+◌, Bool, true, false, ◌&&◌, not, nat_le, nat_lt, List, [], ◌∷◌, Some, None, Result, Ok, Err, if◌then◌else◌}
+use Rattle.std.specs.Prelude.{ℕ, ◌+◌, Bool, true, false, ◌&&◌, ◌||◌, not, nat_le, nat_lt, List, [], ◌∷◌, Some, None, Result, Ok, Err, if◌then◌else◌}
 use Rattle.std.specs.List.{list_any}
 use Rattle.std.specs.Ordering.{is_eq}
 use Rattle.std.specs.FinMap as map
@@ -19,6 +19,7 @@ use Rattle.ak_gossip.specs.declared.gossip.GossipFault as fault
 use Rattle.ak_gossip.specs.Gossip.{GossipState, nothing_known, is_known, updated, receive}
 use Rattle.ak_schedule.specs.Settings.{SettingsModel, is_listed}
 use Rattle.ak_downing.specs.Downing.{all_downed}
+use Rattle.ak_detector.specs.Detector.{heard}
 use Rattle.ak_settled.specs.Settled.{unsettled}
 use Rattle.ak_membership.specs.declared.change.Change.{Change}
 use Rattle.ak_membership.specs.declared.change.Reply.{Reply}
@@ -26,6 +27,7 @@ use Rattle.ak_membership.specs.declared.change.Reply.TheVariants.{Nothing, Welco
 use Rattle.ak_membership.specs.declared.change.MemberFault.{MemberFault}
 use Rattle.ak_membership.specs.declared.change.MemberFault.TheVariants.{NotUp, UnknownMember, NotMember, Unlisted, ForeignCount, TooManyUniques}
 use Rattle.ak_membership.specs.declared.state.MembershipState.{MembershipState}
+use Rattle.ak_membership.specs.Sight.{has_moved}
 
 -- a process starts, and knows nothing
 abbrev pub started : UniqueModel → SettingsModel → MembershipState
@@ -38,6 +40,9 @@ started me settings =
       founder = false;
       target = None;
       ticks = 0;
+      stable = 0;
+      moved = false;
+      detector = map.empty;
       confirmed = no_one;
       settled = unsettled;
     }
@@ -71,10 +76,14 @@ replying reply o = (o.0, record o.1 { reply = reply })
 abbrev pub may_count : MembershipState → Bool
 may_count m = nat_lt (count m.gossip.version m.me) BOUND
 
+-- this is known from now on; that members are shown otherwise is kept until the closing
+abbrev pub knowing : GossipState → MembershipState → MembershipState
+knowing g m = record m { gossip = g; moved = m.moved || has_moved m.gossip.view g.view }
+
 -- the node makes its next update, by these effects
 abbrev pub made : List Effect → MembershipState → Outcome
 made effects m = (
-  record m { gossip = updated m.me effects m.gossip },
+  knowing (updated m.me effects m.gossip) m,
   record { number = Some (count m.gossip.version m.me + 1); effects = effects; reply = Nothing },
 )
 
@@ -167,7 +176,7 @@ abbrev pub on_received : GossipState → MembershipState → Result (received.Re
 on_received incoming m (Err (fault.TheVariants.ForeignCount own theirs)) = Err (ForeignCount own theirs)
 on_received incoming m (Err (fault.TheVariants.TooManyUniques union)) = Err (TooManyUniques union)
 on_received incoming m (Err fault.TheVariants.NoMemory) = Ok (unchanged m)
-on_received incoming m (Ok r) = Ok (hears (has incoming.seen m.me) r.0 (record m { gossip = r.1 }))
+on_received incoming m (Ok r) = Ok (hears (has incoming.seen m.me) r.0 (knowing r.1 m))
 
 -- a gossip in which the node is neither a member nor a tombstone is passed over
 abbrev pub on_gossip : GossipState → MembershipState → Result Outcome MemberFault
@@ -175,6 +184,10 @@ on_gossip incoming m =
     if is_known incoming.view.standings m.me
     then on_received incoming m (receive m.me m.gossip incoming)
     else Ok (unchanged m)
+
+-- a process is heard: where it is watched it is not silent any more
+abbrev pub on_heard : UniqueModel → MembershipState → MembershipState
+on_heard from m = record m { detector = heard from m.detector }
 
 -- a member says that it stops
 abbrev pub on_confirmed : UniqueModel → MembershipState → MembershipState

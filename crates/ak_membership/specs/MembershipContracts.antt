@@ -1,17 +1,21 @@
 -- Words of the contracts of a membership's calls.
-use Rattle.std.specs.Prelude.{◌≡◌, false, Result, Ok, Err}
+use Rattle.std.specs.Prelude.{◌≡◌, true, false, Result, Ok, Err}
 use Rattle.std.specs.FinMap as map
 use Rattle.std.specs.Coded.{Coded, coded_ℕ}
 use Rattle.ak_address.specs.Unique.{UniqueModel, coded_unique}
 use Rattle.ak_clock.specs.Version.{Counts, Covers}
-use Rattle.ak_gossip.specs.Gossip.{GossipState, is_known}
+use Rattle.ak_gossip.specs.declared.gossip.Received.{Received}
+use Rattle.ak_gossip.specs.declared.gossip.GossipFault.{GossipFault}
+use Rattle.ak_gossip.specs.declared.gossip.GossipFault.TheVariants as gossip
+use Rattle.ak_gossip.specs.Gossip.{GossipState, is_known, receive}
+use Rattle.ak_member.specs.Standing.{is_member}
 use Rattle.ak_settled.specs.Settled.{version_of}
 use Rattle.ak_membership.specs.declared.change.Change.{Change}
 use Rattle.ak_membership.specs.declared.change.Closing.{Closing}
 use Rattle.ak_membership.specs.declared.change.MemberFault.{MemberFault}
 use Rattle.ak_membership.specs.declared.change.MemberFault.TheVariants.{NotUp, UnknownMember, NotMember, Unlisted, ForeignCount, TooManyUniques, NoMemory}
 use Rattle.ak_membership.specs.declared.state.MembershipState.{MembershipState}
-use Rattle.ak_membership.specs.Membership.{Outcome, started}
+use Rattle.ak_membership.specs.Membership.{Outcome, started, knowing}
 
 -- the version that was last shown is stored as its counts
 abbrev pub coded_counts : Coded Counts
@@ -30,6 +34,11 @@ KnowsItself me g = is_known g.view.standings me ≡ false → map.len g.view.sta
 pub record IsMembership (m : MembershipState) : Type 0 where
   pub itself : KnowsItself m.me m.gossip
   pub settled_before : Covers m.gossip.version (version_of m.settled.view)
+
+-- Whoever is watched is a member. It is so when a process starts and after each closing; a gossip that comes in between may
+-- remove a member.
+abbrev pub IsWatching : MembershipState → Type 0
+IsWatching m = (who : UniqueModel) → map.contains_key m.detector who ≡ true → is_member m.gossip.view.standings who ≡ true
 
 -- whatever a rule answers, it is the same process with the same settings
 pub record IsSameProcess (old new : MembershipState) : Type 0 where
@@ -52,6 +61,13 @@ Answers free outcome old (Err Unlisted) new = (outcome ≡ Err Unlisted) × (new
 Answers free outcome old (Err (ForeignCount own theirs)) new = (outcome ≡ Err (ForeignCount own theirs)) × (new ≡ old)
 Answers free outcome old (Err (TooManyUniques union)) new = (outcome ≡ Err (TooManyUniques union)) × (new ≡ old)
 Answers free outcome old (Err NoMemory) new = free × (new ≡ old)
+
+-- What accepting a gossip answered and left: it is known then; or the refusal, and nothing changed.
+abbrev pub Receives : GossipState → MembershipState → Result Received GossipFault → MembershipState → Type 0
+Receives incoming old (Ok received) new = (g : GossipState) × (receive old.me old.gossip incoming ≡ Ok (received, g)) × (new ≡ knowing g old)
+Receives incoming old (Err (gossip.ForeignCount own theirs)) new = (receive old.me old.gossip incoming ≡ Err (gossip.ForeignCount own theirs)) × (new ≡ old)
+Receives incoming old (Err (gossip.TooManyUniques union)) new = (receive old.me old.gossip incoming ≡ Err (gossip.TooManyUniques union)) × (new ≡ old)
+Receives incoming old (Err gossip.NoMemory) new = new ≡ old
 
 -- the rule does not refuse
 abbrev pub IsAccepted : Result Outcome MemberFault → Type 0

@@ -1,17 +1,75 @@
--- What a tick makes of what a node knows: the founding, and what the leader does in a settled view (Akka's Cluster
--- Specification, "Leader"; the founding, and that the leader acts in a settled view alone, are this project's choice).
-use Rattle.std.specs.Prelude.{ℕ, ◌+◌, Bool, false, ◌&&◌, nat_le, List, [], ◌∷◌, map, Option, Some, None, if◌then◌else◌}
+-- What a tick makes of what a node knows: whom it finds silent (Akka's Cluster Specification, "Failure Detector"), what it
+-- decides about a partition ("Split Brain Resolver"), the founding, and what the leader does in a settled view ("Leader"). That
+-- at most one of them is written at a tick, and that only settled views have a leader that acts, are this project's choice.
+use Rattle.std.specs.Prelude.{ℕ, ◌+◌, ◌*◌, ◌%◌, ◌==◌, min, Bool, false, ◌&&◌, ◌||◌, not, nat_le, nat_lt, List, [], ◌∷◌, length, map, Option, Some, None, if◌then◌else◌}
+use Rattle.std.specs.List.{list_any}
 use Rattle.std.specs.Ordering.{is_eq}
+use Rattle.std.specs.FinMap as finmap
 use Rattle.ak_address.specs.Unique.{AddressModel, UniqueModel, unique_cmp}
+use Rattle.ak_address.specs.Uniques.{UniqueSet, no_one, has, those, how_many, in_order}
 use Rattle.ak_address.specs.Distinct.{distinct}
+use Rattle.ak_member.specs.declared.effect.Effect.{Effect}
+use Rattle.ak_member.specs.declared.effect.Effect.TheVariants.{Observed}
 use Rattle.ak_member.specs.declared.status.Status.{Status}
-use Rattle.ak_member.specs.Standing.{Standings, members_of}
+use Rattle.ak_member.specs.Age.{counts}
+use Rattle.ak_member.specs.Standing.{Standings, is_down, members_of}
+use Rattle.ak_member.specs.Standing as standing
+use Rattle.ak_member.specs.View.{Row}
+use Rattle.ak_reach.specs.Unreachable.{unreachable_members}
 use Rattle.ak_schedule.specs.Settings.{settling_size}
 use Rattle.ak_converge.specs.Convergence.{is_converged, is_settled}
+use Rattle.ak_detector.specs.Detector as detector
+use Rattle.ak_downing.specs.Downing.{decide, downs}
 use Rattle.ak_leader.specs.Leader.{leader, leaders_effects, founding_effects, is_joining}
+use Rattle.ak_select.specs.Select.{peer}
+use Rattle.ak_settled.specs.Settled.{after_tick}
 use Rattle.ak_membership.specs.declared.state.MembershipState.{MembershipState}
 use Rattle.ak_membership.specs.Membership.{Outcome, unchanged, update, update_any, is_member, is_member_with}
 
+-- ---- who is silent
+-- whom the node finds silent with this tick
+abbrev pub silent : MembershipState → UniqueSet
+silent m = detector.silent m.settings.deadline (detector.ticked m.settings.deadline m.detector)
+
+-- the members that the node's own row names: it makes no difference that a subject was removed
+abbrev pub subjects_of : Option Row → UniqueSet
+subjects_of None = no_one
+subjects_of (Some row) = row.subjects
+
+abbrev pub own_subjects : MembershipState → UniqueSet
+own_subjects m = those (subjects_of (finmap.get m.gossip.view.rows m.me)) (standing.is_member m.gossip.view.standings)
+
+-- one of a set is not in another
+abbrev pub lacks : UniqueSet → UniqueSet → Bool
+lacks others s = list_any (λ who. not (has others who)) (in_order s)
+
+-- who is silent is not what the node's own row says
+abbrev pub observes : MembershipState → Bool
+observes m = lacks (own_subjects m) (silent m) || lacks (silent m) (own_subjects m)
+
+-- ---- the decision of the resolver
+-- how long the view stood still with this tick, counted up to as long as the settings ask
+abbrev pub stood : MembershipState → ℕ
+stood m = min (m.stable + 1) m.settings.stable
+
+abbrev pub some_counts : Standings → Bool
+some_counts s = list_any (λ m. counts m.1.0) (members_of s)
+
+-- another member is unreachable and not Down
+abbrev pub is_lost : UniqueSet → UniqueModel → UniqueModel × (Status × ℕ) → Bool
+is_lost unreachable me m = not (is_eq (unique_cmp m.0 me)) && has unreachable m.0 && not (is_down m.1.0)
+
+abbrev pub has_lost : MembershipState → Bool
+has_lost m = list_any (is_lost (unreachable_members m.gossip.view) m.me) (members_of m.gossip.view.standings)
+
+-- the view stood still for long enough, a member counts, and another one is lost
+abbrev pub decides : MembershipState → Bool
+decides m = stood m == m.settings.stable && some_counts m.gossip.view.standings && has_lost m
+
+abbrev pub decided : MembershipState → List Effect
+decided m = downs (decide m.settings.strategy m.gossip.view m.me) m.gossip.view m.me
+
+-- ---- the founding
 -- the Joining members with their numbers, in the order of processes
 abbrev pub joining_pairs : List (UniqueModel × (Status × ℕ)) → List (UniqueModel × ℕ)
 joining_pairs [] = []
@@ -29,6 +87,7 @@ founds m =
     && is_converged m.gossip.view m.gossip.seen
     && nat_le (settling_size m.settings.strategy) (distinct (joining_addresses m.gossip.view.standings))
 
+-- ---- the leader
 -- the view is settled
 abbrev pub has_settled : MembershipState → Bool
 has_settled m = is_settled (settling_size m.settings.strategy) m.gossip.view m.gossip.seen
@@ -42,17 +101,35 @@ is_process me (Some who) = is_eq (unique_cmp who me)
 abbrev pub leads : MembershipState → Bool
 leads m = has_settled m && is_process m.me (leader m.gossip.view)
 
+-- ---- the tick
 -- at most one update, the first that applies
 abbrev pub updates : MembershipState → Outcome
 updates m =
-    if founds m then update (founding_effects m.gossip.view.standings) m
+    if observes m then update (Observed (silent m) ∷ []) m
+    else (if decides m then update (decided m) m
+    else (if founds m then update (founding_effects m.gossip.view.standings) m
     else (if leads m then update_any (leaders_effects m.gossip.view m.confirmed) m
-    else unchanged m)
+    else unchanged m)))
 
--- the tick is counted
-abbrev pub ticked : MembershipState → MembershipState
-ticked m = record m { ticks = m.ticks + 1 }
+-- the tick is counted; the tombstones of the settled view, and the watched members that are not heard, wait for a tick more
+abbrev pub counted : MembershipState → MembershipState
+counted m =
+    record m {
+      ticks = m.ticks + 1;
+      stable = stood m;
+      settled = after_tick m.settings.margin m.settled;
+      detector = detector.ticked m.settings.deadline m.detector;
+    }
 
 -- one tick; of a node that is no member it changes nothing
 abbrev pub tick : MembershipState → Outcome
-tick m = if is_member m then updates (ticked m) else unchanged m
+tick m = if is_member m then (counted (updates m).0, (updates m).1) else unchanged m
+
+-- ---- gossip
+-- a node gossips at every third tick, and while fewer than half of the members have seen what it knows
+abbrev pub gossips : MembershipState → Bool
+gossips m = m.ticks % 3 == 0 || nat_lt (2 * how_many m.gossip.seen) (length (members_of m.gossip.view.standings))
+
+-- to whom the node gossips now, by a word that chooses
+abbrev pub gossip_peer : ℕ → MembershipState → Option UniqueModel
+gossip_peer word m = if gossips m then peer word m.gossip.view m.gossip.seen m.me else None

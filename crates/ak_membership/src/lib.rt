@@ -3,8 +3,10 @@
 #![tactic(auto)]
 
 mod change;
+mod lost;
 mod members;
 mod membership;
+mod sight;
 mod state;
 
 pub use change::{Change, Closing, MemberFault, Reply};

@@ -3,13 +3,14 @@ ghost use Rattle.ak_member.specs.Standing.{member_of};
 ghost use Rattle.std.specs.FinMap as map;
 ghost use Rattle.ak_membership.specs.Closing as closing;
 ghost use Rattle.ak_membership.specs.Membership as rules;
-ghost use Rattle.ak_membership.specs.MembershipContracts.{Makes, Answers, IsAccepted, Closes, IsMembership, IsSameProcess};
+ghost use Rattle.ak_membership.specs.MembershipContracts.{Makes, Answers, IsAccepted, Closes, IsMembership, IsSameProcess, IsWatching};
 ghost use Rattle.ak_membership.specs.Tick as ticks;
 
 use crate::change::{Change, Closing, MemberFault};
 use crate::state::MembershipState;
 use ak_address::{Address, Unique, Uniques};
 use ak_clock::Version;
+use ak_detector::Detector;
 use ak_gossip::Gossip;
 use ak_member::Status;
 use ak_schedule::Settings;
@@ -33,10 +34,11 @@ impl Model for Membership {
     ghost use Rattle.ak_gossip.specs.Gossip.{coded_gossip};
     ghost use Rattle.ak_member.specs.View.{coded_uniques};
     ghost use Rattle.ak_settled.specs.SettledView.{coded_settled};
+    ghost use Rattle.ak_address.specs.Counters.{coded_counters};
 
     ghost Value = { MembershipState };
 
-    ghost coded = { Prim.hlevel (codes, coded_counts, coded_address, coded_unique, coded_uniques, coded_settings, coded_gossip, coded_settled) };
+    ghost coded = { Prim.hlevel (codes, coded_counts, coded_address, coded_unique, coded_uniques, coded_settings, coded_gossip, coded_counters, coded_settled) };
 
     ghost view = { λ m. m.state };
 
@@ -138,11 +140,24 @@ impl Membership {
         self.state.on_confirmed(alloc, from)
     }
 
-    /// A tick of a member: it is counted, and at most one update is made, the first that applies: the founder makes the
-    /// first members Up, or the leader acts in a settled view (Akka's Cluster Specification, "Leader"). After an error the
-    /// membership is as it was; only memory can fail.
+    /// A process is heard: where it is watched, it is not silent any more (Akka's Cluster Specification, "Failure Detector").
+    /// Takes no memory.
+    pub fn on_heard(&mut self, from: &Unique)
+        ensures heard { self.new ≡ rules.on_heard from.now self.old }
+        ensures same { IsSameProcess self.old self.new }
+    {
+        self.state.detector.heard(from);
+    }
+
+    /// A tick of a member; of any other process it changes nothing. The tick is counted, for the tombstones of the settled view
+    /// and for the watched members that are not heard too; and at most one update is made, the first that applies: whom the node
+    /// finds silent is not what its own row says, and it observes them (Akka's Cluster Specification, "Failure Detector"); the
+    /// view stood still for as long as the settings ask, another member is unreachable, and the resolver downs a side ("Split
+    /// Brain Resolver"); the founder makes the first members Up; the leader acts in a settled view ("Leader"). After an error
+    /// the membership is as it was; only memory can fail.
     pub fn tick(&mut self, alloc: Global) -> Result<Change, AllocError>
-        requires { self.old.ticks < 2 ^ 62 }
+        requires ticks { self.old.ticks < 2 ^ 62 }
+        requires watching { IsWatching self.old }
         ensures ok { IfOk result (λ change. Makes (ticks.tick self.old) self.new change) }
         ensures err { OnErr result (self.new ≡ self.old) }
         ensures same { IsSameProcess self.old self.new }
@@ -150,8 +165,18 @@ impl Membership {
         self.state.tick(alloc)
     }
 
+    /// To whom the node gossips now, chosen by a word; none where it does not: it gossips at every third tick, and while fewer
+    /// than half of the members have seen what it knows, where another member is reachable (Akka's Cluster Specification,
+    /// "Gossip"; how often is this project's choice). Takes no memory.
+    pub fn gossip_peer(&self, word: u32) -> Option<&Unique>
+        ensures { option_copied result ≡ ticks.gossip_peer word self.now }
+    {
+        self.state.gossip_peer(word)
+    }
+
     /// What is due after an event: that the view is another than at the last closing, that the node stops (another rule stopped
-    /// it, or its own view shows it as Down or as a tombstone), or else that its view is settled and was noted. After an error
+    /// it, or its own view shows it as Down or as a tombstone), or else that its view is settled and was noted. From then on it
+    /// watches its ring by its view, and its view stood still for no tick where members are shown otherwise. After an error
     /// the membership is as it was; only memory can fail.
     pub fn close(&mut self, alloc: Global, stopping: bool) -> Result<Closing, AllocError>
         ensures ok { IfOk result (λ due. Closes (closing.close stopping self.old) self.new due) }
@@ -187,6 +212,13 @@ impl Membership {
         ensures { result.now ≡ self.now.gossip }
     {
         &self.state.gossip
+    }
+
+    /// The members that it watches.
+    pub fn detector(&self) -> &Detector
+        ensures { result.now ≡ self.now.detector }
+    {
+        &self.state.detector
     }
 
     /// The last view that it noted as settled.
@@ -240,6 +272,9 @@ fn nothing(alloc: Global, me: Unique, settings: Settings) -> MembershipState
         founder: false,
         target: None,
         ticks: 0,
+        stable: 0,
+        moved: false,
+        detector: Detector::new(alloc),
         confirmed: Uniques::empty(alloc),
         settled: Settled::none(alloc),
     }

@@ -1,6 +1,8 @@
-ghost use Rattle.std.specs.Prelude.{◌≡◌, ◌<◌, ◌^◌, nat_le, [], ◌∷◌, IfOk, OnOk, OnErr, MatchOption, IsTrue, true, false, None, if◌then◌else◌};
+ghost use Rattle.std.specs.Prelude.{◌≡◌, ◌<◌, ◌^◌, nat_le, [], ◌∷◌, IfOk, OnOk, OnErr, MatchOption, IsTrue, true, false, None, option_copied, if◌then◌else◌};
 ghost use Rattle.std.specs.FinMap as map;
-ghost use Rattle.ak_clock.specs.Version.{Covers};
+ghost use Rattle.ak_clock.specs.Version.{Covers, relation};
+ghost use Rattle.ak_clock.specs.declared.version.Relation.TheVariants as clock;
+ghost use Rattle.ak_detector.specs.Detector.{watching};
 ghost use Rattle.ak_gossip.specs.Gossip.{MayUpdate, is_known};
 ghost use Rattle.ak_member.specs.Standing as standing;
 ghost use Rattle.ak_schedule.specs.Settings.{is_listed};
@@ -8,20 +10,25 @@ ghost use Rattle.ak_settled.specs.Settled.{version_of, after_note};
 ghost use Rattle.ak_leader.specs.Leader as leads;
 ghost use Rattle.ak_membership.specs.Closing as closing;
 ghost use Rattle.ak_membership.specs.Membership as rules;
-ghost use Rattle.ak_membership.specs.MembershipContracts.{Makes, Answers, IsAccepted, Closes, KnowsItself, or_no_memory};
+ghost use Rattle.ak_membership.specs.MembershipContracts.{Makes, Answers, IsAccepted, Closes, IsWatching, KnowsItself, Receives, or_no_memory};
 ghost use Rattle.ak_membership.specs.Tick as ticks;
 
 use crate::change::{Change, Closing, MemberFault, Reply};
+use crate::lost::{has_lost, lacks, members_among, some_counts};
 use crate::members::{
     downed_beside, has_member_beside, is_down, is_joining, is_known, is_up, joining_addresses,
 };
+use crate::sight::has_moved;
 use ak_address::{Address, Unique, Uniques};
 use ak_clock::{BOUND, Relation, Version};
 use ak_converge::{converged, settled_by};
+use ak_detector::Detector;
+use ak_downing::{decide, downs};
 use ak_gossip::{Gossip, GossipFault, Received};
 use ak_leader::{actions, founding, leader};
 use ak_member::{Effect, Effects, Status};
 use ak_schedule::Settings;
+use ak_select::peer;
 use ak_settled::Settled;
 use std::alloc::{AllocError, Global};
 
@@ -43,6 +50,12 @@ pub struct MembershipState {
     pub target: Option<Address>,
     /// How many ticks it had as a member.
     pub ticks: u64,
+    /// For how many ticks its view stood still, counted up to as many as the settings ask.
+    pub stable: u32,
+    /// Members are shown otherwise than at the last closing.
+    pub moved: bool,
+    /// The members that it watches.
+    pub detector: Detector,
     /// The members that said that they stop.
     pub confirmed: Uniques,
     /// The last view that it noted as settled.
@@ -162,7 +175,9 @@ impl MembershipState {
         ensures ok { IfOk result (λ change. Makes (rules.made effects self.old) self.new change) }
         ensures err { OnErr result (self.new ≡ self.old) }
     {
+        let before = self.gossip.copy(alloc)?;
         let number = self.gossip.update(alloc, &self.me, &effects)?;
+        self.moved = self.moved || has_moved(&before, &self.gossip);
         Ok(Change {
             number: Some(number),
             effects,
@@ -321,7 +336,7 @@ impl MembershipState {
             return Ok(unchanged(alloc));
         }
         let known = incoming.seen().contains(&self.me);
-        match self.gossip.receive(alloc, &self.me, incoming) {
+        match self.receive(alloc, incoming) {
             Err(GossipFault::ForeignCount { own, theirs }) => {
                 return Err(MemberFault::ForeignCount { own, theirs });
             }
@@ -331,6 +346,41 @@ impl MembershipState {
             Err(GossipFault::NoMemory) => return Err(MemberFault::NoMemory),
             Ok(received) => return Ok(self.hears(alloc, received, known)),
         }
+    }
+
+    // Accepts a gossip, unless it is refused. What moves is found without a copy, but where both are merged.
+    fn receive(&mut self, alloc: Global, incoming: &Gossip) -> Result<Received, GossipFault>
+        ensures { Receives incoming.now self.old result self.new }
+    {
+        match self.gossip.version().compare(incoming.version()) {
+            Relation::Concurrent => return self.merge(alloc, incoming),
+            Relation::Before => return self.replace_by(alloc, incoming),
+            _ => return self.gossip.receive(alloc, &self.me, incoming),
+        }
+    }
+
+    // A newer gossip replaces what is known.
+    fn replace_by(&mut self, alloc: Global, incoming: &Gossip) -> Result<Received, GossipFault>
+        requires { relation self.old.gossip.version incoming.now.version ≡ clock.Before }
+        ensures { Receives incoming.now self.old result self.new }
+    {
+        let moved = self.moved || has_moved(&self.gossip, incoming);
+        let received = self.gossip.receive(alloc, &self.me, incoming)?;
+        self.moved = moved;
+        Ok(received)
+    }
+
+    // Each knows what the other does not.
+    fn merge(&mut self, alloc: Global, incoming: &Gossip) -> Result<Received, GossipFault>
+        ensures { Receives incoming.now self.old result self.new }
+    {
+        let before = match self.gossip.copy(alloc) {
+            Ok(before) => before,
+            Err(_) => return Err(GossipFault::NoMemory),
+        };
+        let received = self.gossip.receive(alloc, &self.me, incoming)?;
+        self.moved = self.moved || has_moved(&before, &self.gossip);
+        Ok(received)
     }
 
     // A gossip knows the node, as a member or as a tombstone.
@@ -453,12 +503,96 @@ impl MembershipState {
         )
     }
 
+    // Whom the node finds silent with this tick.
+    fn silent(&self, alloc: Global) -> Result<Uniques, AllocError>
+        ensures { IfOk result (λ them. them ≡ ticks.silent self.now) }
+    {
+        self.settings.invariant();
+        let them = self.detector.silent_next(alloc, self.settings.deadline)?;
+        Ok(them)
+    }
+
+    // The members that the node's own row names.
+    fn own_subjects(&self, alloc: Global) -> Result<Uniques, AllocError>
+        ensures { IfOk result (λ them. them ≡ ticks.own_subjects self.now) }
+    {
+        match self.gossip.rows().row(&self.me) {
+            Some(row) => members_among(alloc, self.gossip.members(), &row.subjects),
+            None => Ok(Uniques::empty(alloc)),
+        }
+    }
+
+    // The node observes whom it finds silent.
+    fn observe(&mut self, alloc: Global, silent: Uniques) -> Result<Change, AllocError>
+        requires member { IsTrue (rules.is_member self.old) }
+        requires watching { IsWatching self.old }
+        requires silent { silent ≡ ticks.silent self.old }
+        ensures ok { IfOk result (λ change. Makes (rules.update (Effect.Observed (ticks.silent self.old) ∷ []) self.old) self.new change) }
+        ensures err { OnErr result (self.new ≡ self.old) }
+    {
+        self.gossip.invariant();
+        let effects = one(alloc, Effect::Observed(silent))?;
+        self.update(alloc, effects)
+    }
+
+    // How long the view stood still with this tick.
+    fn stood(&self) -> u32
+        ensures { result ≡ ticks.stood self.now }
+    {
+        if self.stable < self.settings.stable {
+            return self.stable + 1;
+        }
+        self.settings.stable
+    }
+
+    // The resolver decides.
+    fn decides(&self) -> bool
+        ensures { result ≡ ticks.decides self.now }
+    {
+        if self.stood() != self.settings.stable {
+            return false;
+        }
+        some_counts(self.gossip.members())
+            && has_lost(self.gossip.members(), self.gossip.rows(), &self.me)
+    }
+
+    fn decided(&self, alloc: Global) -> Result<Effects, AllocError>
+        ensures { IfOk result (λ effects. effects ≡ ticks.decided self.now) }
+    {
+        self.gossip.invariant();
+        let members = self.gossip.members();
+        let rows = self.gossip.rows();
+        let decision = decide(&self.settings.strategy, members, rows, &self.me);
+        let effects = downs(alloc, decision, members, rows, &self.me)?;
+        Ok(effects)
+    }
+
+    // Whom the decision is against goes Down.
+    fn resolve(&mut self, alloc: Global) -> Result<Change, AllocError>
+        requires { IsTrue (rules.is_member self.old) }
+        ensures ok { IfOk result (λ change. Makes (rules.update (ticks.decided self.old) self.old) self.new change) }
+        ensures err { OnErr result (self.new ≡ self.old) }
+    {
+        self.gossip.invariant();
+        let effects = self.decided(alloc)?;
+        self.update(alloc, effects)
+    }
+
     // At most one update, the first that applies.
     fn updates(&mut self, alloc: Global) -> Result<Change, AllocError>
-        requires { IsTrue (rules.is_member self.old) }
+        requires member { IsTrue (rules.is_member self.old) }
+        requires watching { IsWatching self.old }
         ensures ok { IfOk result (λ change. Makes (ticks.updates self.old) self.new change) }
         ensures err { OnErr result (self.new ≡ self.old) }
     {
+        let silent = self.silent(alloc)?;
+        let subjects = self.own_subjects(alloc)?;
+        if lacks(&subjects, &silent) || lacks(&silent, &subjects) {
+            return self.observe(alloc, silent);
+        }
+        if self.decides() {
+            return self.resolve(alloc);
+        }
         if self.founds() {
             return self.establish(alloc);
         }
@@ -468,22 +602,58 @@ impl MembershipState {
         Ok(unchanged(alloc))
     }
 
-    pub(crate) fn tick(&mut self, alloc: Global) -> Result<Change, AllocError>
+    // The tick is counted. It comes after what may fail, so that a tick that fails changes nothing.
+    fn count(&mut self)
         requires { self.old.ticks < 2 ^ 62 }
+        ensures { self.new ≡ ticks.counted self.old }
+    {
+        self.settings.invariant();
+        self.ticks += 1;
+        self.stable = self.stood();
+        self.settled.tick(self.settings.margin);
+        self.detector.tick(self.settings.deadline);
+    }
+
+    pub(crate) fn tick(&mut self, alloc: Global) -> Result<Change, AllocError>
+        requires ticks { self.old.ticks < 2 ^ 62 }
+        requires watching { IsWatching self.old }
         ensures ok { IfOk result (λ change. Makes (ticks.tick self.old) self.new change) }
         ensures err { OnErr result (self.new ≡ self.old) }
     {
         if !self.is_member() {
             return Ok(unchanged(alloc));
         }
-        self.ticks += 1;
-        match self.updates(alloc) {
-            Ok(change) => Ok(change),
-            Err(error) => {
-                self.ticks -= 1;
-                Err(error)
-            }
+        let change = self.updates(alloc)?;
+        self.count();
+        Ok(change)
+    }
+
+    pub(crate) fn gossip_peer(&self, word: u32) -> Option<&Unique>
+        ensures { option_copied result ≡ ticks.gossip_peer word self.now }
+    {
+        if !self.gossips() {
+            return None;
         }
+        let gossip = &self.gossip;
+        peer(
+            word,
+            gossip.members(),
+            gossip.rows(),
+            gossip.seen(),
+            &self.me,
+        )
+    }
+
+    // The node gossips at every third tick, and while fewer than half of the members have seen what it knows.
+    fn gossips(&self) -> bool
+        ensures { result ≡ ticks.gossips self.now }
+    {
+        if self.ticks % 3 == 0 {
+            return true;
+        }
+        let seen = self.gossip.seen().len();
+        let members = self.gossip.members().len();
+        seen < members && seen < members - seen
     }
 
     // A settled view is to be noted.
@@ -513,6 +683,15 @@ impl MembershipState {
         Ok(())
     }
 
+    // The detector that watches by what is known now.
+    fn watching(&self, alloc: Global) -> Result<Detector, AllocError>
+        ensures { IfOk result (λ detector. detector ≡ watching self.now.me self.now.gossip.view.standings self.now.settings.deadline self.now.detector) }
+    {
+        let deadline = self.settings.deadline;
+        self.detector
+            .watching(alloc, &self.me, self.gossip.members(), deadline)
+    }
+
     pub(crate) fn forget(&mut self, alloc: Global)
         ensures { self.new ≡ rules.started self.old.me self.old.settings }
     {
@@ -521,6 +700,9 @@ impl MembershipState {
         self.founder = false;
         self.target = None;
         self.ticks = 0;
+        self.stable = 0;
+        self.moved = false;
+        self.detector = Detector::new(alloc);
         self.confirmed = Uniques::empty(alloc);
         self.settled = Settled::none(alloc);
     }
@@ -534,9 +716,15 @@ impl MembershipState {
         let stopped = stopping || self.is_gone();
         let settled = !stopped && self.is_noted();
         let shown = shown_after(alloc, &self.shown, self.gossip.version())?;
+        let detector = self.watching(alloc)?;
         self.note(alloc, settled)?;
+        self.detector = detector;
         if let Some(shown) = shown {
             self.shown = shown;
+        }
+        if self.moved {
+            self.stable = 0;
+            self.moved = false;
         }
         Ok(Closing {
             viewed,

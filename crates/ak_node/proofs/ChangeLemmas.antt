@@ -131,7 +131,7 @@ each_made n [] what = refl
 each_made n (u ∷ to) what = each_made n to what
 
 -- the answer to who asked
-some_gossip : (g h : GossipState) → Some g ≡ Some h → h ≡ g
+pub some_gossip : (g h : GossipState) → Some g ≡ Some h → h ≡ g
 some_gossip g h is = sym (same_Some g h is)
 
 answers_quiet : (reply : Reply) (to : UniqueModel) (n : State) → Quiet n (n, answer reply to n)
@@ -186,6 +186,29 @@ module _ (e : NodeEvent) (n : State) where
         founder = λ is. c.founder (sym r.founder ∙ is);
         founds = λ is. r.founder ∙ c.founds is;
       }
+
+  -- actions that come before, which update nothing and send no gossip
+  pub changes_after : (first : List Action) (m : State) (actions : List Action) → Changes e n (m, actions) → updates_of first ≡ [] → ((p : Envelope) → Contains (sent first) p → p.from ≡ me_of n)
+      → ((p : Envelope) (g : GossipState) → Contains (sent first) p → gossip_of p.message ≡ Some g → g ≡ known m)
+      → ((p : Envelope) → Contains (sent first) p → IsTrue (says_it_stops p.message) → ⊥) → Changes e n (m, first ++ actions)
+  changes_after first m actions c none from carries stays = record {
+    knowledge = c.knowledge;
+    lawful = c.lawful;
+    knows = c.knows;
+    made = updates-append first actions ∙ (λ i. none i ++ c.made i);
+    numbered = λ number effects there. elim (contains_either first actions (action.Update number effects) there) [ inl before ↦ absurd (no_update first number effects none before) | inr last ↦ c.numbered number effects last ];
+    same_me = c.same_me;
+    same_settings = c.same_settings;
+    same_steps = c.same_steps;
+    from = λ q there. elim (contains_either (sent first) (sent actions) q (subst (λ l. Contains l q) (sent-append first actions) there)) [ inl before ↦ from q before | inr last ↦ c.from q last ];
+    carried = λ q g there is. elim (contains_either (sent first) (sent actions) q (subst (λ l. Contains l q) (sent-append first actions) there)) [ inl before ↦ carries q g before is | inr last ↦ c.carried q g last is ];
+    says = λ q there is runs. elim (contains_either (sent first) (sent actions) q (subst (λ l. Contains l q) (sent-append first actions) there)) [ inl before ↦ stays q before is | inr last ↦ c.says q last is runs ];
+    ran = c.ran;
+    ticked = c.ticked;
+    confirmed = c.confirmed;
+    founder = c.founder;
+    founds = c.founds;
+  }
 
   -- ---- what a membership did
   unsent : (number : Option ℕ) (effects : List Effect) → sent (update_by number effects) ≡ []

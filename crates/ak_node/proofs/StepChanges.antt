@@ -1,8 +1,9 @@
 -- The one walk over a node's rules: each does to what is known one thing at most. What is proved of a step is proved from this.
-use Rattle.std.proofs.Common.{◌≡◌, Bool, true, false, not, ◌||◌, inl, inr, if◌then◌else◌, [], ◌∷◌, ◌++◌, Option, Some, None, is_some, IsTrue, refl, sym, ap, ◌∙◌, subst, arith, true≢false, ◌+◌}
+use Rattle.std.proofs.Common.{◌≡◌, ℕ, Bool, true, false, not, ◌||◌, inl, inr, if◌then◌else◌, List, [], ◌∷◌, ◌++◌, map, Option, Some, None, is_some, IsTrue, Contains, refl, sym, ap, ◌∙◌, subst, arith, true≢false, ◌+◌}
 use Rattle.std.specs.Ordering.{eq_by_cmp}
 use Rattle.ak_address.specs.Unique.{AddressModel, UniqueModel, unique_cmp}
-use Rattle.ak_address.specs.Uniques.{has, with_one}
+use Rattle.ak_address.specs.Changed.{keys_of}
+use Rattle.ak_address.specs.Uniques.{has, with_one, in_order}
 use Rattle.ak_address.proofs.Elements.{contains_nothing}
 use Rattle.ak_address.proofs.TableLaws.{same_key}
 use Rattle.ak_address.proofs.UniquesLaws.{has-with_one}
@@ -11,20 +12,23 @@ use Rattle.ak_gossip.specs.Gossip.{GossipState}
 use Rattle.ak_membership.specs.Membership as membership
 use Rattle.ak_membership.specs.Membership.{is_member_with}
 use Rattle.ak_membership.specs.Closing.{is_viewed, stops, notes}
-use Rattle.ak_membership.specs.Knowledge.{Keeps}
+use Rattle.ak_membership.specs.Knowledge.{Keeps, Learns}
 use Rattle.ak_membership.proofs.Walk.{found_learns, leave_learns, down_learns, tick_learns, join_learns, gossip_learns}
 use Rattle.ak_wire.specs.declared.envelope.Envelope.{Envelope}
 use Rattle.ak_wire.specs.declared.envelope.Message.{Message}
 use Rattle.ak_wire.specs.declared.envelope.Message.TheVariants as message
+use Rattle.ak_wire.specs.declared.action.Action.{Action}
 use Rattle.ak_wire.specs.declared.action.Action.TheVariants as action
 use Rattle.ak_wire.specs.Wire.{sent, updates_of, gossip_of, says_it_stops}
+use Rattle.ak_wire.proofs.Sending.{sent-append, updates-append}
 use Rattle.ak_node.specs.declared.node.State.{State}
 use Rattle.ak_node.specs.declared.node.NodeEvent.{NodeEvent}
 use Rattle.ak_node.specs.declared.node.NodeEvent.TheVariants as event
-use Rattle.ak_node.specs.Node.{known, me_of, is_member, is_gone, nothing, to_address, does, does_for, join, stop, asks_at, is_exiting, counted_members, exits, goes_on, tick, on_gossip, on_confirmed, on_message, rule, if_so, closes, is_dead, running_step, step}
+use Rattle.ak_node.specs.Node.{known, me_of, is_member, is_gone, nothing, to_address, does, does_for, join, stop, asks_at, is_exiting, counted_members, exits, gossips_to, goes_on, ends, beats, ticked, update_by, tick, on_gossip, on_confirmed, on_message, rule, if_so, closes, is_dead, running_step, step}
 use Rattle.ak_membership.specs.Tick as ticks
+use Rattle.ak_membership.specs.Tick.{gossip_peer}
 use Rattle.ak_node.specs.Change.{Changes, Quiet, IsConfirmed, given_by, asker_in}
-use Rattle.ak_node.proofs.ChangeLemmas.{itself, silent, still, quiet_if, sends, one_sent, each_sent, each_made, changes_if, quietly, changes_then, does_changes, does_for_changes, unless_refused_changes}
+use Rattle.ak_node.proofs.ChangeLemmas.{some_gossip, changes_after, itself, silent, still, quiet_if, sends, one_sent, each_sent, each_made, changes_if, quietly, changes_then, does_changes, does_for_changes, unless_refused_changes}
 
 no_gossip : (g h : GossipState) → None ≡ Some h → h ≡ g
 no_gossip g h is = absurd (true≢false (sym (ap is_some is)))
@@ -42,10 +46,33 @@ exits_quiet n =
     (λ p g there is. no_gossip (known n) g (sym (ap gossip_of ((each_sent n (counted_members n) message.ExitingConfirmed p there).1)) ∙ is))
     (λ p there is r. true≢false (sym r))
 
-goes_quiet : (n : State) → Quiet n (goes_on n)
-goes_quiet n =
+gossips_quiet : (to : Option UniqueModel) (n : State) → Quiet n (gossips_to to n)
+gossips_quiet None n = still n
+gossips_quiet (Some to) n = one_sent n n (record { from = me_of n; to = to.address; uid = to.uid; message = message.Gossip (known n) }) (itself n) refl (some_gossip (known n)) refl
+
+goes_quiet : (word : ℕ) (n : State) → Quiet n (goes_on word n)
+goes_quiet word n =
     quiet_if n (is_gone n) (λ is. still n) (λ is.
-    quiet_if n (is_member_with is_exiting (known n).view.standings (me_of n)) (λ is. exits_quiet n) (λ is. still n))
+    quiet_if n (is_member_with is_exiting (known n).view.standings (me_of n)) (λ is. exits_quiet n) (λ is. gossips_quiet (gossip_peer word n.membership) n))
+
+-- the margins that end neither update nor send
+ended_made : (whos : List UniqueModel) → updates_of (map action.MarginEnd whos) ≡ []
+ended_made [] = refl
+ended_made (who ∷ whos) = ended_made whos
+
+ended_sent : (whos : List UniqueModel) → sent (map action.MarginEnd whos) ≡ []
+ended_sent [] = refl
+ended_sent (who ∷ whos) = ended_sent whos
+
+-- what a tick tells before its update: heartbeats alone are sent
+abbrev told_first : State → List Action
+told_first n = ends n ++ beats n
+
+first_made : (n : State) → updates_of (told_first n) ≡ []
+first_made n = updates-append (ends n) (beats n) ∙ (λ i. ended_made n.membership.settled.just_ended i ++ each_made n (in_order (keys_of n.membership.detector)) message.Heartbeat i)
+
+first_sent : (n : State) → sent (told_first n) ≡ sent (beats n)
+first_sent n = sent-append (ends n) (beats n) ∙ ap (λ l. l ++ sent (beats n)) (ended_sent n.membership.settled.just_ended)
 
 module _ (e : NodeEvent) (n : State) where
   -- ---- local events
@@ -58,10 +85,22 @@ module _ (e : NodeEvent) (n : State) where
       by_member false = quietly e n _ (one_sent n (record n { membership = record n.membership { target = Some target } }) (record { from = me_of n; to = target; uid = 0; message = message.Join })
           (record { same = refl; me = refl; settings = refl; steps = refl; ran = λ r. r; ticks = refl; confirmed = refl; founder = refl }) refl (no_gossip (known n)) refl)
 
-  ticking : Changes e n (tick n)
-  ticking =
+  -- a heartbeat is a packet from the node that carries nothing
+  is_beat : (m : State) (p : Envelope) → Contains (sent (told_first m)) p → (p.from ≡ me_of m) × (p.message ≡ message.Heartbeat)
+  is_beat m p there = each_sent m (in_order (keys_of m.membership.detector)) message.Heartbeat p (subst (λ l. Contains l p) (first_sent m) there)
+
+  ticked_changes : (o : membership.Outcome) → Learns (given_by e) n.membership o → Changes e n (ticked n o)
+  ticked_changes o l =
+      let after : State = record n { membership = o.0 } in
+      changes_after e n (told_first after) after (update_by o.1.number o.1.effects) (does_changes e n o l) (first_made after)
+      (λ p there. (is_beat after p there).0 ∙ l.same_me)
+      (λ p g there is. no_gossip (known after) g (sym (ap gossip_of (is_beat after p there).1) ∙ is))
+      (λ p there is. true≢false (sym is ∙ ap says_it_stops (is_beat after p there).1))
+
+  ticking : (word : ℕ) → Changes e n (tick word n)
+  ticking word =
       changes_if e n (is_member n)
-      (λ is. changes_then e n goes_on (does n (ticks.tick n.membership)) (does_changes e n (ticks.tick n.membership) (tick_learns (given_by e) n.membership)) (goes_quiet (does n (ticks.tick n.membership)).0))
+      (λ is. changes_then e n (goes_on word) (ticked n (ticks.tick n.membership)) (ticked_changes (ticks.tick n.membership) (tick_learns (given_by e) n.membership)) (goes_quiet word (ticked n (ticks.tick n.membership)).0))
       (λ is. quietly e n (asks_at n.membership.target n) (asks_quiet n.membership.target n))
 
   -- ---- packets
@@ -102,12 +141,17 @@ module _ (e : NodeEvent) (n : State) where
       (join_learns (given_by e) n.membership p.from (ap (λ (x : NodeEvent). (given_by x).asks) is ∙ ap (asker_in p.from) what))
   being_told p is (message.Welcome g) what = hearing p.from g (ap (λ (x : NodeEvent). (given_by x).brings) is ∙ ap gossip_of what)
   being_told p is (message.Gossip g) what = hearing p.from g (ap (λ (x : NodeEvent). (given_by x).brings) is ∙ ap gossip_of what)
+  being_told p is message.Heartbeat what = changes_if e n (is_member n) (λ _. quietly e n _ (one_sent n n (record { from = me_of n; to = p.from.address; uid = p.from.uid; message = message.HeartbeatReply }) (itself n) refl (no_gossip (known n)) refl)) (λ _. quietly e n (nothing n) (still n))
+  being_told p is message.HeartbeatReply what =
+      changes_if e n (is_member n)
+      (λ _. quietly e n _ (silent n (record n { membership = membership.on_heard p.from n.membership }) [] (record { same = refl; me = refl; settings = refl; steps = refl; ran = λ r. r; ticks = refl; confirmed = refl; founder = refl }) refl refl))
+      (λ _. quietly e n (nothing n) (still n))
   being_told p is message.ExitingConfirmed what = confirming p is (ap says_it_stops what)
 
-rule_changes : (e : NodeEvent) (n : State) → Changes e n (rule e n)
+pub rule_changes : (e : NodeEvent) (n : State) → Changes e n (rule e n)
 rule_changes event.Found n = does_changes event.Found n (membership.found n.membership) (found_learns (given_by event.Found) n.membership refl)
 rule_changes (event.Join target) n = joining (event.Join target) n target
-rule_changes (event.Tick word) n = ticking (event.Tick word) n
+rule_changes (event.Tick word) n = ticking (event.Tick word) n word
 rule_changes (event.Packet p) n = being_told (event.Packet p) n p refl p.message refl
 rule_changes (event.Leave who) n = unless_refused_changes (event.Leave who) n (does n) (membership.leave who n.membership) (does_changes (event.Leave who) n) (leave_learns (given_by (event.Leave who)) n.membership who)
 rule_changes (event.Down who) n = unless_refused_changes (event.Down who) n (does n) (membership.down who n.membership) (does_changes (event.Down who) n) (down_learns (given_by (event.Down who)) n.membership who)

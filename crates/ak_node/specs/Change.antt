@@ -8,7 +8,7 @@ use Rattle.ak_member.specs.declared.effect.Effect.{Effect}
 use Rattle.ak_gossip.specs.Gossip.{GossipState}
 use Rattle.ak_settled.specs.Settled.{version_of, standings_of}
 use Rattle.ak_membership.specs.Tick.{has_settled}
-use Rattle.ak_membership.specs.Knowledge.{Knowledge, Given, nothing_given, learnt, made_by, IsLawful}
+use Rattle.ak_membership.specs.Knowledge.{Knowledge, Given, nothing_given, learnt, made_by, IsLawful, WaitsOn}
 use Rattle.ak_wire.specs.declared.envelope.Envelope.{Envelope}
 use Rattle.ak_wire.specs.declared.envelope.Message.{Message}
 use Rattle.ak_wire.specs.declared.envelope.Message as message
@@ -24,6 +24,8 @@ abbrev pub asker_in : UniqueModel → Message → Option UniqueModel
 asker_in from message.TheVariants.Join = Some from
 asker_in from (message.TheVariants.Welcome g) = None
 asker_in from (message.TheVariants.Gossip g) = None
+asker_in from message.TheVariants.Heartbeat = None
+asker_in from message.TheVariants.HeartbeatReply = None
 asker_in from message.TheVariants.ExitingConfirmed = None
 
 -- what an event gives to a node's membership
@@ -86,4 +88,4 @@ pub record NotesNow (n : State) : Type 0 where
   pub runs : IsTrue n.runs
 
 abbrev pub Notes : State → State → Type 0
-Notes n after = (after.membership.settled ≡ n.membership.settled) ⊎ NotesNow after
+Notes n after = WaitsOn n.membership.settings.margin n.membership.settled after.membership.settled ⊎ NotesNow after

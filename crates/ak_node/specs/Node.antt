@@ -2,7 +2,9 @@
 -- the messages and their order are this project's choice). What it knows of the cluster is its membership.
 use Rattle.std.specs.Prelude.{ℕ, ◌+◌, Bool, true, false, ◌&&◌, ◌||◌, not, ◌==◌, List, [], ◌∷◌, ◌++◌, Option, Some, None, Result, Ok, Err, map, if◌then◌else◌}
 use Rattle.std.specs.Ordering.{is_eq}
+use Rattle.ak_address.specs.Changed.{keys_of}
 use Rattle.ak_address.specs.Unique.{AddressModel, UniqueModel, address_cmp}
+use Rattle.ak_address.specs.Uniques.{in_order}
 use Rattle.ak_member.specs.declared.effect.Effect.{Effect}
 use Rattle.ak_member.specs.declared.status.Status.{Status}
 use Rattle.ak_member.specs.declared.status.Status.TheVariants as status
@@ -150,17 +152,36 @@ counted_members n = map (λ (pair : UniqueModel × ℕ). pair.0) (counted_pairs 
 abbrev pub exits : State → Outcome
 exits n = (record n { runs = false }, to_each n (counted_members n) message.TheVariants.ExitingConfirmed)
 
--- what follows the update of a tick: nothing where the node is Down now
-abbrev pub goes_on : State → Outcome
-goes_on n =
+-- what is known is told to one member, where there is one to tell it to
+abbrev pub gossips_to : Option UniqueModel → State → Outcome
+gossips_to None n = nothing n
+gossips_to (Some to) n = (n, to_process n to (message.TheVariants.Gossip (known n)) ∷ [])
+
+-- what follows the update of a tick: nothing where the node is Down now; a word chooses to whom it gossips
+abbrev pub goes_on : ℕ → State → Outcome
+goes_on word n =
     if is_gone n then nothing n
     else (if is_member_with is_exiting (known n).view.standings (me_of n) then exits n
-    else nothing n)
+    else gossips_to (ticks.gossip_peer word n.membership) n)
+
+-- the tombstones of the settled view that have waited for as long as the margin now
+abbrev pub ends : State → List Action
+ends n = map action.TheVariants.MarginEnd n.membership.settled.just_ended
+
+-- a heartbeat to each watched member
+abbrev pub beats : State → List Action
+beats n = to_each n (in_order (keys_of n.membership.detector)) message.TheVariants.Heartbeat
+
+-- the node's membership ticked
+abbrev pub ticked : State → membership.Outcome → Outcome
+ticked n o =
+    let after : State = record n { membership = o.0 } in
+    (after, ends after ++ beats after ++ update_by o.1.number o.1.effects)
 
 -- one tick
-abbrev pub tick : State → Outcome
-tick n =
-    if is_member n then and_then goes_on (does n (ticks.tick n.membership))
+abbrev pub tick : ℕ → State → Outcome
+tick word n =
+    if is_member n then and_then (goes_on word) (ticked n (ticks.tick n.membership))
     else asks_at n.membership.target n
 
 -- ---- packets
@@ -170,6 +191,13 @@ on_join from n = unless_refused (does_for from n) n (membership.on_join from n.m
 abbrev pub on_gossip : UniqueModel → GossipState → State → Outcome
 on_gossip from incoming n = unless_refused (does_for from n) n (membership.on_gossip incoming n.membership)
 
+-- a member answers a heartbeat, and hears the answer to its own
+abbrev pub on_heartbeat : UniqueModel → State → Outcome
+on_heartbeat from n = if is_member n then (n, to_process n from message.TheVariants.HeartbeatReply ∷ []) else nothing n
+
+abbrev pub on_heard : UniqueModel → State → Outcome
+on_heard from n = if is_member n then nothing (record n { membership = membership.on_heard from n.membership }) else nothing n
+
 -- a member that says that it stops; heard by members alone
 abbrev pub on_confirmed : UniqueModel → State → Outcome
 on_confirmed from n = if is_member n then nothing (record n { membership = membership.on_confirmed from n.membership }) else nothing n
@@ -178,12 +206,14 @@ abbrev pub on_message : UniqueModel → Message → State → Outcome
 on_message from message.TheVariants.Join n = on_join from n
 on_message from (message.TheVariants.Welcome g) n = on_gossip from g n
 on_message from (message.TheVariants.Gossip g) n = on_gossip from g n
+on_message from message.TheVariants.Heartbeat n = on_heartbeat from n
+on_message from message.TheVariants.HeartbeatReply n = on_heard from n
 on_message from message.TheVariants.ExitingConfirmed n = on_confirmed from n
 
 abbrev pub rule : NodeEvent → State → Outcome
 rule event.TheVariants.Found n = found n
 rule (event.TheVariants.Join target) n = join target n
-rule (event.TheVariants.Tick word) n = tick n
+rule (event.TheVariants.Tick word) n = tick word n
 rule (event.TheVariants.Packet e) n = on_message e.from e.message n
 rule (event.TheVariants.Leave who) n = leave who n
 rule (event.TheVariants.Down who) n = down who n

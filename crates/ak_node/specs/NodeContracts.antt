@@ -6,6 +6,7 @@ use Rattle.ak_member.specs.declared.standing.Standing.TheVariants.{Member}
 use Rattle.ak_member.specs.Standing.{is_down}
 use Rattle.ak_membership.specs.MembershipContracts as membership
 use Rattle.ak_gossip.specs.Gossip.{nothing_known}
+use Rattle.ak_settled.specs.Settled.{IsCounting}
 use Rattle.ak_wire.specs.declared.action.Action.{Action}
 use Rattle.ak_node.specs.declared.node.State.{State}
 use Rattle.ak_node.specs.Node.{Outcome, known, me_of, is_gone}
@@ -36,10 +37,13 @@ abbrev pub ServesWhileItRuns : State → Type 0
 ServesWhileItRuns n = IsTrue n.runs → (map.len (known n).view.standings ≡ 0) ⊎ Serves n
 
 -- What is true of every node after each of its steps: it had no more ticks than steps, it has shown the version of what it
--- knows, and its view does not show it as gone while it runs.
+-- knows, it watches members alone, the tombstones of its settled view wait for at most the margin, and its view does not show it
+-- as gone while it runs.
 pub record IsNode (n : State) : Type 0 where
   pub ticked : n.membership.ticks ≤ n.steps
   pub shown : n.membership.shown ≡ (known n).version
+  pub watching : membership.IsWatching n.membership
+  pub counting : IsCounting n.membership.settings.margin n.membership.settled.view
   pub stays : IsTrue n.runs → is_gone n ≡ false
 
 -- whatever a rule answers, the node is the same process with the same settings

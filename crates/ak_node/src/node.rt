@@ -1,5 +1,7 @@
 ghost use Rattle.std.specs.Prelude.{◌≡◌, ◌<◌, ◌≤◌, ◌^◌, ◌++◌, ◌∷◌, [], not, true, false, IfOk, OnOk, OnErr};
 ghost use Rattle.ak_membership.specs.Membership as rules_of_membership;
+ghost use Rattle.ak_membership.specs.MembershipContracts.{IsWatching};
+ghost use Rattle.ak_membership.specs.Tick as rules_of_ticks;
 ghost use Rattle.ak_node.specs.Node as rules;
 ghost use Rattle.ak_node.specs.NodeContracts.{Does, IsSameProcess, IsLeftOver, IsSilent, ServesWhileItRuns};
 
@@ -67,14 +69,23 @@ fn one(alloc: Global, action: Action) -> Result<Actions, AllocError>
     Ok(actions)
 }
 
+// Adds the update that a membership made, where it made one.
+fn tell(change: Change, actions: &mut Actions) -> Result<(), AllocError>
+    ensures { OnOk result (actions.new ≡ actions.old ++ rules.update_by change.number change.effects) }
+{
+    match change.number {
+        Some(number) => actions.push(Action::Update(number, change.effects)),
+        None => Ok(()),
+    }
+}
+
 // The update that a membership made, as an action, where it made one.
 fn told(alloc: Global, change: Change) -> Result<Actions, AllocError>
     ensures { IfOk result (λ actions. actions ≡ rules.update_by change.number change.effects) }
 {
-    match change.number {
-        Some(number) => one(alloc, Action::Update(number, change.effects)),
-        None => Ok(Actions::empty(alloc)),
-    }
+    let mut actions = Actions::empty(alloc);
+    tell(change, &mut actions)?;
+    Ok(actions)
 }
 
 // A refusal as an action.
@@ -237,6 +248,27 @@ impl State {
         }
     }
 
+    fn on_heartbeat(&mut self, alloc: Global, from: &Unique) -> Result<Actions, AllocError>
+        ensures does { IfOk result (λ actions. Does (rules.on_heartbeat from.now self.old) self.new actions) }
+        ensures same { IsSameProcess self.old self.new }
+    {
+        if !self.membership.is_member() {
+            return Ok(Actions::empty(alloc));
+        }
+        let reply = self.to_process(alloc, from, Message::HeartbeatReply)?;
+        one(alloc, reply)
+    }
+
+    fn on_heard(&mut self, alloc: Global, from: &Unique) -> Actions
+        ensures does { Does (rules.on_heard from.now self.old) self.new result }
+        ensures same { IsSameProcess self.old self.new }
+    {
+        if self.membership.is_member() {
+            self.membership.on_heard(from);
+        }
+        Actions::empty(alloc)
+    }
+
     fn on_confirmed(&mut self, alloc: Global, from: &Unique) -> Result<Actions, AllocError>
         ensures does { IfOk result (λ actions. Does (rules.on_confirmed from.now self.old) self.new actions) }
         ensures same { IsSameProcess self.old self.new }
@@ -270,10 +302,25 @@ impl State {
         Ok(())
     }
 
-    // What follows the update of a tick: a node that exits says so, and stops (Akka's Cluster Specification, "Leaving").
-    fn goes_on(&mut self, alloc: Global, actions: &mut Actions) -> Result<(), AllocError>
-        ensures state { OnOk result (self.new ≡ (rules.goes_on self.old).0) }
-        ensures actions { OnOk result (actions.new ≡ actions.old ++ (rules.goes_on self.old).1) }
+    // Adds what is known, told to one member, where there is one to tell it to.
+    fn gossips(&self, alloc: Global, word: u32, actions: &mut Actions) -> Result<(), AllocError>
+        ensures { OnOk result (actions.new ≡ actions.old ++ (rules.gossips_to (rules_of_ticks.gossip_peer word self.now.membership) self.now).1) }
+    {
+        match self.membership.gossip_peer(word) {
+            Some(to) => {
+                let gossip = self.membership.gossip().copy(alloc)?;
+                let action = self.to_process(alloc, to, Message::Gossip(gossip))?;
+                actions.push(action)
+            }
+            None => Ok(()),
+        }
+    }
+
+    // What follows the update of a tick: a node that exits says so, and stops (Akka's Cluster Specification, "Leaving"); any
+    // other gossips.
+    fn goes_on(&mut self, alloc: Global, word: u32, actions: &mut Actions) -> Result<(), AllocError>
+        ensures state { OnOk result (self.new ≡ (rules.goes_on word self.old).0) }
+        ensures actions { OnOk result (actions.new ≡ actions.old ++ (rules.goes_on word self.old).1) }
         ensures same { IsSameProcess self.old self.new }
     {
         if self.membership.is_gone() {
@@ -284,20 +331,59 @@ impl State {
             self.runs = false;
             return Ok(());
         }
+        self.gossips(alloc, word, actions)
+    }
+
+    // Adds an action for each tombstone that has waited for as long as the margin now.
+    fn ends(&self, alloc: Global, actions: &mut Actions) -> Result<(), AllocError>
+        ensures { OnOk result (actions.new ≡ actions.old ++ rules.ends self.now) }
+    {
+        let settled = self.membership.settled();
+        let mut index = 0;
+        'ended: while let Some(who) = settled.just_ended(index) {
+            actions.push(Action::MarginEnd(who.copy(alloc)?))?;
+            index += 1;
+        }
         Ok(())
     }
 
-    fn tick(&mut self, alloc: Global) -> Result<Actions, AllocError>
-        requires { self.old.membership.ticks < 2 ^ 62 }
-        ensures does { IfOk result (λ actions. Does (rules.tick self.old) self.new actions) }
+    // Adds a heartbeat to each watched member.
+    fn beats(&self, alloc: Global, actions: &mut Actions) -> Result<(), AllocError>
+        ensures { OnOk result (actions.new ≡ actions.old ++ rules.beats self.now) }
+    {
+        let watched = self.membership.detector().watched();
+        'watched: for index in 0..watched.len() {
+            if let Some(to) = watched.at(index) {
+                let action = self.to_process(alloc, to, Message::Heartbeat)?;
+                actions.push(action)?;
+            }
+        }
+        Ok(())
+    }
+
+    // What a tick of the membership is told by.
+    fn tells_of_tick(&self, alloc: Global, change: Change) -> Result<Actions, AllocError>
+        ensures { IfOk result (λ actions. actions ≡ rules.ends self.now ++ rules.beats self.now ++ rules.update_by change.number change.effects) }
+    {
+        let mut actions = Actions::empty(alloc);
+        self.ends(alloc, &mut actions)?;
+        self.beats(alloc, &mut actions)?;
+        tell(change, &mut actions)?;
+        Ok(actions)
+    }
+
+    fn tick(&mut self, alloc: Global, word: u32) -> Result<Actions, AllocError>
+        requires ticks { self.old.membership.ticks < 2 ^ 62 }
+        requires watching { IsWatching self.old.membership }
+        ensures does { IfOk result (λ actions. Does (rules.tick word self.old) self.new actions) }
         ensures same { IsSameProcess self.old self.new }
     {
         if !self.membership.is_member() {
             return self.asks_again(alloc);
         }
         let change = self.membership.tick(alloc)?;
-        let mut actions = told(alloc, change)?;
-        self.goes_on(alloc, &mut actions)?;
+        let mut actions = self.tells_of_tick(alloc, change)?;
+        self.goes_on(alloc, word, &mut actions)?;
         Ok(actions)
     }
 
@@ -317,19 +403,22 @@ impl State {
             Message::Join => self.on_join(alloc, &envelope.from),
             Message::Welcome(gossip) => self.on_gossip(alloc, &envelope.from, gossip),
             Message::Gossip(gossip) => self.on_gossip(alloc, &envelope.from, gossip),
+            Message::Heartbeat => self.on_heartbeat(alloc, &envelope.from),
+            Message::HeartbeatReply => Ok(self.on_heard(alloc, &envelope.from)),
             Message::ExitingConfirmed => self.on_confirmed(alloc, &envelope.from),
         }
     }
 
     fn rule(&mut self, alloc: Global, event: NodeEvent) -> Result<Actions, AllocError>
-        requires { self.old.membership.ticks < 2 ^ 62 }
+        requires ticks { self.old.membership.ticks < 2 ^ 62 }
+        requires watching { IsWatching self.old.membership }
         ensures does { IfOk result (λ actions. Does (rules.rule event self.old) self.new actions) }
         ensures same { IsSameProcess self.old self.new }
     {
         match event {
             NodeEvent::Found => self.found(alloc),
             NodeEvent::Join(target) => self.join(alloc, target),
-            NodeEvent::Tick(_) => self.tick(alloc),
+            NodeEvent::Tick(word) => self.tick(alloc, word),
             NodeEvent::Packet(envelope) => self.on_packet(alloc, &envelope),
             NodeEvent::Leave(who) => self.leave(alloc, &who),
             NodeEvent::Down(who) => self.down(alloc, &who),
@@ -352,6 +441,7 @@ impl State {
     fn step(&mut self, alloc: Global, event: NodeEvent) -> Result<Actions, AllocError>
         requires steps { self.old.steps < 2 ^ 62 }
         requires ticked { self.old.membership.ticks ≤ self.old.steps }
+        requires watching { IsWatching self.old.membership }
         ensures does { IfOk result (λ actions. Does (rules.step event self.old) self.new actions) }
         ensures same { IsSameProcess self.old self.new }
     {
@@ -366,7 +456,8 @@ impl State {
     }
 
     fn acts(&mut self, alloc: Global, event: NodeEvent) -> Result<Actions, AllocError>
-        requires { self.old.membership.ticks < 2 ^ 62 }
+        requires ticks { self.old.membership.ticks < 2 ^ 62 }
+        requires watching { IsWatching self.old.membership }
         ensures does { IfOk result (λ actions. Does (rules.and_then rules.closes (rules.rule event self.old)) self.new actions) }
         ensures same { IsSameProcess self.old self.new }
     {

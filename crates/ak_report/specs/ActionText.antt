@@ -13,7 +13,7 @@ use Rattle.ak_member.specs.Standing.{members_of, tombstones_of}
 use Rattle.ak_gossip.specs.Gossip.{GossipState}
 use Rattle.ak_wire.specs.declared.envelope.Envelope.{Envelope}
 use Rattle.ak_wire.specs.declared.action.Action.{Action}
-use Rattle.ak_wire.specs.declared.action.Action.TheVariants.{Send, Update, View, Settled, Refused, Dead, Stopped}
+use Rattle.ak_wire.specs.declared.action.Action.TheVariants.{Send, Update, View, Settled, MarginEnd, Refused, Dead, Stopped}
 use Rattle.ak_wire.specs.Wire.{kind_text}
 
 -- pieces with `, ` between them, or `-` where there is none
@@ -94,6 +94,7 @@ action_text g number (Send e) = send_text number e
 action_text g number (Update n effects) = codes "update " ++ decimal n ++ codes " " ++ listed_text (map effect_text effects)
 action_text g number View = view_text g
 action_text g number Settled = codes "settled " ++ version_text g.version
+action_text g number (MarginEnd who) = codes "margin-end " ++ unique_text who
 action_text g number (Refused why) = codes "refused N" ++ decimal why
 action_text g number Dead = codes "dead"
 action_text g number Stopped = codes "stopped"
@@ -104,6 +105,7 @@ next_packet (Send e) number = number + 1
 next_packet (Update n effects) number = number
 next_packet View number = number
 next_packet Settled number = number
+next_packet (MarginEnd who) number = number
 next_packet (Refused why) number = number
 next_packet Dead number = number
 next_packet Stopped number = number

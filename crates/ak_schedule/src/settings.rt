@@ -1,5 +1,5 @@
 ghost use Rattle.std.specs.Prelude.{◌≡◌, ◌↔◌, IsTrue, IfOk, Contains};
-ghost use Rattle.ak_schedule.specs.Settings.{is_listed, settling_size};
+ghost use Rattle.ak_schedule.specs.Settings.{IsSettings, is_listed, settling_size};
 
 use ak_address::Address;
 use std::alloc::{AllocError, Global};
@@ -64,6 +64,13 @@ impl Model for Settings {
 }
 
 impl Settings {
+    /// Tells a proof that each setting is in its range. It does nothing.
+    pub fn invariant(&self)
+        ensures { IsSettings self.now }
+    {
+        let _margin = self.margin;
+    }
+
     /// How many addresses a settled view counts at least: the quorum, or 1 under another strategy.
     /// Takes no memory.
     pub fn settling(&self) -> u32

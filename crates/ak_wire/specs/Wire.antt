@@ -6,13 +6,15 @@ use Rattle.ak_wire.specs.declared.envelope.Envelope.{Envelope}
 use Rattle.ak_wire.specs.declared.envelope.Message.{Message}
 use Rattle.ak_wire.specs.declared.envelope.Message as message
 use Rattle.ak_wire.specs.declared.action.Action.{Action}
-use Rattle.ak_wire.specs.declared.action.Action.TheVariants.{Send, Update, View, Settled, Refused, Dead, Stopped}
+use Rattle.ak_wire.specs.declared.action.Action.TheVariants.{Send, Update, View, Settled, MarginEnd, Refused, Dead, Stopped}
 
 -- the name of a message's kind
 abbrev pub kind_text : Message → List ℕ
 kind_text message.TheVariants.Join = codes "join"
 kind_text (message.TheVariants.Welcome g) = codes "welcome"
 kind_text (message.TheVariants.Gossip g) = codes "gossip"
+kind_text message.TheVariants.Heartbeat = codes "heartbeat"
+kind_text message.TheVariants.HeartbeatReply = codes "heartbeat-reply"
 kind_text message.TheVariants.ExitingConfirmed = codes "exiting-confirmed"
 
 -- the gossip that a message carries
@@ -20,6 +22,8 @@ abbrev pub gossip_of : Message → Option GossipState
 gossip_of message.TheVariants.Join = None
 gossip_of (message.TheVariants.Welcome g) = Some g
 gossip_of (message.TheVariants.Gossip g) = Some g
+gossip_of message.TheVariants.Heartbeat = None
+gossip_of message.TheVariants.HeartbeatReply = None
 gossip_of message.TheVariants.ExitingConfirmed = None
 
 -- a message says that its sender stops
@@ -27,6 +31,8 @@ abbrev pub says_it_stops : Message → Bool
 says_it_stops message.TheVariants.Join = false
 says_it_stops (message.TheVariants.Welcome g) = false
 says_it_stops (message.TheVariants.Gossip g) = false
+says_it_stops message.TheVariants.Heartbeat = false
+says_it_stops message.TheVariants.HeartbeatReply = false
 says_it_stops message.TheVariants.ExitingConfirmed = true
 
 -- the packet that an action sends
@@ -35,6 +41,7 @@ envelope_of (Send e) = Some e
 envelope_of (Update number effects) = None
 envelope_of View = None
 envelope_of Settled = None
+envelope_of (MarginEnd who) = None
 envelope_of (Refused why) = None
 envelope_of Dead = None
 envelope_of Stopped = None
@@ -45,6 +52,7 @@ effects_of (Send e) = None
 effects_of (Update number effects) = Some effects
 effects_of View = None
 effects_of Settled = None
+effects_of (MarginEnd who) = None
 effects_of (Refused why) = None
 effects_of Dead = None
 effects_of Stopped = None

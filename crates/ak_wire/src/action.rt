@@ -2,6 +2,7 @@ ghost use Rattle.std.specs.Prelude.{◌≡◌, [], ◌∷◌, ◌++◌, length, 
 ghost use Rattle.std.specs.Option.{option_copied};
 
 use crate::envelope::Envelope;
+use ak_address::Unique;
 use ak_member::Effects;
 use std::alloc::{AllocError, Global};
 use std::marker::Model;
@@ -17,6 +18,8 @@ pub enum Action {
     View,
     /// What it knows is settled, and it noted that.
     Settled,
+    /// A tombstone of its settled view, of a process that did not say that it stops, has waited for as long as the margin.
+    MarginEnd(Unique),
     /// It refuses what it was asked, by the number of the reason: 1 the process that is to leave is not Up, 2 the process is
     /// no member, 3 the node itself is none, 4 the address is not listed, 5 a gossip counts more of its updates than it made,
     /// 6 there would be too many uniques.

@@ -14,6 +14,10 @@ pub enum Message {
     Welcome(Gossip),
     /// What the sender knows.
     Gossip(Gossip),
+    /// The sender asks whether the receiver is there.
+    Heartbeat,
+    /// The answer to a heartbeat.
+    HeartbeatReply,
     /// The sender is Exiting, and stops.
     ExitingConfirmed,
 }
@@ -27,6 +31,8 @@ impl Message {
             Message::Join => b"join",
             Message::Welcome(_) => b"welcome",
             Message::Gossip(_) => b"gossip",
+            Message::Heartbeat => b"heartbeat",
+            Message::HeartbeatReply => b"heartbeat-reply",
             Message::ExitingConfirmed => b"exiting-confirmed",
         }
     }
@@ -39,6 +45,8 @@ impl Message {
             Message::Join => Ok(Message::Join),
             Message::Welcome(gossip) => Ok(Message::Welcome(gossip.copy(alloc)?)),
             Message::Gossip(gossip) => Ok(Message::Gossip(gossip.copy(alloc)?)),
+            Message::Heartbeat => Ok(Message::Heartbeat),
+            Message::HeartbeatReply => Ok(Message::HeartbeatReply),
             Message::ExitingConfirmed => Ok(Message::ExitingConfirmed),
         }
     }
