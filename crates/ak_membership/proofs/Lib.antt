@@ -3,5 +3,6 @@ pub mod MayMake
 pub mod MayRise
 pub mod MembershipLemmas
 pub mod RuleLemmas
+pub mod SightLaws
 pub mod Walk
 pub mod WalkLemmas

@@ -1,12 +1,12 @@
 -- The cases of the rules that may refuse, and that their updates may be made.
-use Rattle.std.proofs.Common.{◌≡◌, inl, inr, ◌+◌, ◌<◌, Bool, true, false, not, ◌&&◌, nat_le, if◌then◌else◌, List, [], ◌∷◌, Option, Some, None, is_some, Result, Ok, Err, IfOk, OnErr, IsTrue, refl, sym, subst, arith, true≢false}
+use Rattle.std.proofs.Common.{◌≡◌, inl, inr, ◌+◌, ◌<◌, Bool, true, false, not, ◌&&◌, nat_le, if◌then◌else◌, List, [], ◌∷◌, Option, Some, None, is_some, Result, Ok, Err, IfOk, OnErr, IsTrue, refl, sym, subst, ◌∙◌, arith, true≢false}
 use Rattle.std.proofs.lemmas.Bool.{leb-false, ltb-true}
 use Rattle.std.specs.FinMap as map
 use Rattle.ak_address.specs.Unique.{UniqueModel}
 use Rattle.ak_clock.specs.declared.version.TheConstants.{BOUND}
 use Rattle.ak_clock.specs.Version.{count}
 use Rattle.ak_member.specs.declared.effect.Effect.{Effect}
-use Rattle.ak_member.specs.declared.effect.Effect.TheVariants.{Joined, Rise}
+use Rattle.ak_member.specs.declared.effect.Effect.TheVariants.{Joined, Rise, Observed}
 use Rattle.ak_member.specs.declared.status.Status.TheVariants.{Leaving, Down}
 use Rattle.ak_member.specs.Standing as standing
 use Rattle.ak_member.specs.Standing.{is_down}
@@ -14,6 +14,11 @@ use Rattle.ak_gossip.specs.declared.gossip.Received.{Received}
 use Rattle.ak_gossip.specs.declared.gossip.GossipFault.{GossipFault}
 use Rattle.ak_gossip.specs.Gossip.{GossipState, IsGossip, MayUpdate, is_known, receive}
 use Rattle.ak_gossip.proofs.GossipLaws.{joining}
+use Rattle.ak_gossip.proofs.InvariantLemmas.{member_known}
+use Rattle.ak_reach.specs.Unreachable.{unreachable_members}
+use Rattle.ak_detector.specs.Detector as detector
+use Rattle.ak_detector.proofs.DetectorLaws.{silent_watched, ticked_same}
+use Rattle.ak_downing.specs.Downing.{decide, is_against}
 use Rattle.ak_leader.specs.Leader.{leader, leaders_effects, founding_effects}
 use Rattle.ak_schedule.specs.Settings.{is_listed}
 use Rattle.ak_membership.specs.declared.change.Change.{Change}
@@ -22,9 +27,10 @@ use Rattle.ak_membership.specs.declared.change.MemberFault.TheVariants.{NotUp, U
 use Rattle.ak_membership.specs.declared.change.Reply.TheVariants.{Welcome}
 use Rattle.ak_membership.specs.declared.state.MembershipState.{MembershipState}
 use Rattle.ak_membership.specs.Membership.{Outcome, unchanged, replying, may_count, update, update_any, is_member, is_member_with, is_up, leave, down, has_member_beside, replaced, is_beside, most_at_join, admitted, on_join, on_received, on_gossip}
-use Rattle.ak_membership.specs.Tick.{leads, has_settled, is_process}
-use Rattle.ak_membership.specs.MembershipContracts.{Makes, Answers, IsAccepted, KnowsItself, or_no_memory}
+use Rattle.ak_membership.specs.Tick.{silent, decided, leads, has_settled, is_process}
+use Rattle.ak_membership.specs.MembershipContracts.{Makes, Answers, IsAccepted, IsWatching, KnowsItself, or_no_memory}
 use Rattle.ak_membership.proofs.MayMake.{leaving_may, down_may, downed_may, founding_may, leading_may}
+use Rattle.ak_membership.proofs.MayRise.{observing_may}
 
 -- what a call that only memory can fail answered, as that of a rule that is not refused
 pub answered_or : {E : Type 0} (rule : Result Outcome MemberFault) (o : Outcome) (old new : MembershipState) (change : Result Change E) (result : Result Change MemberFault)
@@ -153,3 +159,15 @@ module _ (m : MembershipState) (g : IsGossip m.gossip) (effects : List Effect) w
       second : (a b : Bool) → (a && b) ≡ true → b ≡ true
       second true b is = is
       second false b is = absurd (true≢false (sym is))
+
+  pub may_resolve : IsTrue (is_member m) → effects ≡ decided m → IsTrue (may_count m) → MayUpdate m.me effects m.gossip
+  may_resolve member is may =
+      as_effects (decided m) is (downed_may m.gossip g m.me (room m may) member (is_against (decide m.settings.strategy m.gossip.view m.me) (unreachable_members m.gossip.view) m.me))
+
+  -- whom the node finds silent it watches, and so they are members
+  pub may_observe : IsTrue (is_member m) → IsWatching m → effects ≡ Observed (silent m) ∷ [] → IsTrue (may_count m) → MayUpdate m.me effects m.gossip
+  may_observe member watching is may =
+      let ticked = detector.ticked m.settings.deadline m.detector in
+      as_effects (Observed (silent m) ∷ []) is (observing_may m.me (silent m) m.gossip g (room m may) member (λ who silent_one.
+      member_known (map.get m.gossip.view.standings who)
+      (watching who (sym (ticked_same m.settings.deadline m.detector who) ∙ silent_watched m.settings.deadline ticked who silent_one))))

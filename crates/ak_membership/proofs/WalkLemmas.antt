@@ -1,30 +1,33 @@
--- Walks along the members: for one that passes a test, and for the Joining ones.
-use Rattle.std.proofs.Common.{◌≡◌, ℕ, ◌+◌, ◌≤◌, Bool, true, false, cond, ◌||◌, ◌⊎◌, inl, inr, List, [], ◌∷◌, ◌++◌, length, drop, slice_get, option_to_list, refl, sym, ap, ◌∙◌}
+-- Walks along lists: for one that passes a test, and for the Joining members.
+use Rattle.std.proofs.Common.{◌≡◌, ℕ, ◌+◌, ◌≤◌, Bool, true, false, cond, ◌&&◌, ◌||◌, ◌⊎◌, inl, inr, List, [], ◌∷◌, ◌++◌, length, drop, slice_get, option_to_list, refl, sym, ap, ◌∙◌}
 use Rattle.std.proofs.lemmas.List.Folds.{list_any-append}
-use Rattle.std.specs.List.{list_any}
+use Rattle.std.specs.List.{list_any, fold, filter}
 use Rattle.ak_address.specs.Unique.{UniqueModel}
+use Rattle.ak_address.specs.Uniques.{UniqueSet, no_one, has, with_one, those, in_order, set_of}
+use Rattle.ak_address.proofs.CountersLaws.{among-filter, has-set_of, set_of-in_order, set_walked}
+use Rattle.ak_address.proofs.UniquesLaws.{same_uniques, has-those}
 use Rattle.ak_leader.specs.Leader.{is_joining}
 use Rattle.ak_member.specs.declared.status.Status.{Status}
 use Rattle.ak_member.specs.declared.standing.Standing.{Standing}
 use Rattle.ak_member.specs.declared.standing.Standing.TheVariants.{Member, Buried}
 use Rattle.ak_member.specs.Standing.{member_pairs}
-use Rattle.ak_member.proofs.MemberLemmas.{KeepsPairs, kept_from, kept_at_end, keeps_members}
+use Rattle.ak_member.proofs.MemberLemmas.{KeepsPairs, kept_from, kept_at_end}
 use Rattle.ak_member.proofs.CountedLaws.{KeepsProcess}
 use Rattle.ak_membership.specs.Tick.{joining_pairs}
 
--- ---- for a member that passes a test
-module _ (p : UniqueModel × (Status × ℕ) → Bool) (pairs : List (UniqueModel × Standing)) (i : ℕ) where
-  test_from : list_any p (member_pairs (drop i pairs)) ≡ (list_any p (member_pairs (option_to_list (slice_get pairs i))) || list_any p (member_pairs (drop (i + 1) pairs)))
-  test_from = ap (list_any p) (kept_from member_pairs keeps_members pairs i) ∙ list_any-append p _ _
+-- ---- for one that passes a test, among what is kept of a list
+module _ {X Y : Type 0} (kept : List X → List Y) (keeps : KeepsPairs kept) (p : Y → Bool) (xs : List X) (i : ℕ) where
+  test_from : list_any p (kept (drop i xs)) ≡ (list_any p (kept (option_to_list (slice_get xs i))) || list_any p (kept (drop (i + 1) xs)))
+  test_from = ap (list_any p) (kept_from kept keeps xs i) ∙ list_any-append p _ _
 
-  pub member_found : (b : Bool) → b ≡ list_any p (member_pairs (drop i pairs)) → true ≡ list_any p (member_pairs (option_to_list (slice_get pairs i))) → true ≡ b
-  member_found b is here = sym (is ∙ test_from ∙ ap (λ a. a || list_any p (member_pairs (drop (i + 1) pairs))) (sym here))
+  pub some_found : (b : Bool) → b ≡ list_any p (kept (drop i xs)) → true ≡ list_any p (kept (option_to_list (slice_get xs i))) → true ≡ b
+  some_found b is here = sym (is ∙ test_from ∙ ap (λ a. a || list_any p (kept (drop (i + 1) xs))) (sym here))
 
-  pub member_passed : (b : Bool) → b ≡ list_any p (member_pairs (drop i pairs)) → false ≡ list_any p (member_pairs (option_to_list (slice_get pairs i))) → b ≡ list_any p (member_pairs (drop (i + 1) pairs))
-  member_passed b is here = is ∙ test_from ∙ ap (λ a. a || list_any p (member_pairs (drop (i + 1) pairs))) (sym here)
+  pub some_passed : (b : Bool) → b ≡ list_any p (kept (drop i xs)) → false ≡ list_any p (kept (option_to_list (slice_get xs i))) → b ≡ list_any p (kept (drop (i + 1) xs))
+  some_passed b is here = is ∙ test_from ∙ ap (λ a. a || list_any p (kept (drop (i + 1) xs))) (sym here)
 
-  pub no_member : (b : Bool) → b ≡ list_any p (member_pairs (drop i pairs)) → length pairs ≤ i → false ≡ b
-  no_member b is past = sym (is ∙ ap (list_any p) (kept_at_end member_pairs keeps_members pairs i past))
+  pub none_left : (b : Bool) → b ≡ list_any p (kept (drop i xs)) → length xs ≤ i → false ≡ b
+  none_left b is past = sym (is ∙ ap (list_any p) (kept_at_end kept keeps xs i past))
 
 -- ---- for the Joining ones among the pairs
 abbrev pub joining_among : List (UniqueModel × Standing) → List (UniqueModel × ℕ)
@@ -47,3 +50,10 @@ joining_process (who, Member status number) = by_status (is_joining status)
     by_status : (b : Bool) → (◌≡◌ {A = List (UniqueModel × ℕ)} (cond b ((who, number) ∷ []) []) []) ⊎ ((n : ℕ) × (◌≡◌ {A = List (UniqueModel × ℕ)} (cond b ((who, number) ∷ []) []) ((who, n) ∷ [])))
     by_status true = inr (number, refl)
     by_status false = inl refl
+
+-- ---- those of a set that pass a test
+pub those_walked : (p : UniqueModel → Bool) (set : UniqueSet) → fold with_one no_one (filter p (in_order set)) ≡ those set p
+those_walked p set = set_walked (filter p (in_order set)) ∙ same_uniques (set_of (filter p (in_order set))) (those set p) each
+  where
+    each : (who : UniqueModel) → has (set_of (filter p (in_order set))) who ≡ has (those set p) who
+    each who = has-set_of (filter p (in_order set)) who ∙ among-filter p (in_order set) who ∙ ap (λ b. b && p who) (sym (has-set_of (in_order set) who) ∙ ap (λ s. has s who) (set_of-in_order set)) ∙ sym (has-those set p who)

@@ -8,7 +8,6 @@ ghost use Rattle.ak_member.specs.Standing.{is_member, member_pairs};
 ghost use Rattle.ak_reach.specs.Unreachable.{unreachable_members};
 ghost use Rattle.ak_membership.specs.Tick as ticks;
 
-use crate::members::has_gone_down;
 use ak_address::{Unique, Uniques};
 use ak_member::Members;
 use ak_reach::{Rows, is_unreachable};
@@ -44,7 +43,7 @@ fn is_lost_at(members: &Members, rows: &Rows, me: &Unique, pair: usize) -> bool
         Some(member) => {
             !member.unique.compare(me).is_eq()
                 && is_unreachable(members, rows, member.unique)
-                && !has_gone_down(member.status)
+                && !member.status.is_down()
         }
         None => false,
     }
@@ -109,9 +108,7 @@ pub(crate) fn members_among(
 {
     let mut them = Uniques::empty(alloc);
     'indices: for index in 0..set.len() {
-        if let Some(who) = member_at(members, set, index) {
-            them.insert(alloc, who)?;
-        }
+        them.insert_if_some(alloc, member_at(members, set, index))?;
     }
     Ok(them)
 }

@@ -36,7 +36,7 @@ fn has_come_up(status: Status) -> bool
     }
 }
 
-pub(crate) fn has_gone_down(status: Status) -> bool
+fn has_gone_down(status: Status) -> bool
     ensures { result ≡ standing.is_down status }
 {
     match status {

@@ -522,6 +522,15 @@ impl MembershipState {
         }
     }
 
+    // Whom the node finds silent is not what its own row says.
+    fn observes(&self, silent: &Uniques, subjects: &Uniques) -> bool
+        requires silent { silent.now ≡ ticks.silent self.now }
+        requires subjects { subjects.now ≡ ticks.own_subjects self.now }
+        ensures { result ≡ ticks.observes self.now }
+    {
+        lacks(subjects, silent) || lacks(silent, subjects)
+    }
+
     // The node observes whom it finds silent.
     fn observe(&mut self, alloc: Global, silent: Uniques) -> Result<Change, AllocError>
         requires member { IsTrue (rules.is_member self.old) }
@@ -587,7 +596,7 @@ impl MembershipState {
     {
         let silent = self.silent(alloc)?;
         let subjects = self.own_subjects(alloc)?;
-        if lacks(&subjects, &silent) || lacks(&silent, &subjects) {
+        if self.observes(&silent, &subjects) {
             return self.observe(alloc, silent);
         }
         if self.decides() {
