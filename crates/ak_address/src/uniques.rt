@@ -1,4 +1,5 @@
-ghost use Rattle.std.specs.Prelude.{◌≡◌, IfOk, OnOk, OnErr, IsOk, IsTrue, slice_get, option_copied};
+ghost use Rattle.std.specs.Prelude.{◌≡◌, IfOk, OnOk, OnErr, IsOk, IsTrue, slice_get, option_copied, option_to_list, All};
+ghost use Rattle.std.specs.List.{fold};
 ghost use Rattle.ak_address.specs.Uniques.{no_one, has, with_one, without_one, how_many, in_order, union};
 
 use crate::address::Unique;
@@ -45,6 +46,19 @@ impl Uniques {
         }
         let who = who.copy(alloc)?;
         self.table.insert(who, ())
+    }
+
+    /// Puts an equal process into the set, if there is one: the set with each process of a list of one or none. After an
+    /// error the set is as it was; no process, and one that is there already, takes no memory.
+    pub fn insert_if_some(&mut self, alloc: Global, who: Option<&Unique>) -> Result<(), AllocError>
+        ensures ok { OnOk result (self.new ≡ fold with_one self.old (option_to_list (option_copied who.entry))) }
+        ensures err { OnErr result (self.new ≡ self.old) }
+        ensures present { All (λ one. IsTrue (has self.old one)) (option_to_list (option_copied who.entry)) → IsOk result }
+    {
+        match who {
+            Some(who) => self.insert(alloc, who),
+            None => Ok(()),
+        }
     }
 
     /// Takes the process out, if it is there. Takes no memory.

@@ -3,7 +3,7 @@ ghost use Rattle.std.specs.Prelude as list;
 ghost use Rattle.std.specs.FinMap as map;
 ghost use Rattle.ak_member.specs.declared.effect.Effect.TheVariants.{Rise};
 ghost use Rattle.ak_member.specs.declared.status.Status.TheVariants as status;
-ghost use Rattle.ak_member.specs.Standing.{is_down, member_pairs};
+ghost use Rattle.ak_member.specs.Standing.{member_pairs};
 ghost use Rattle.ak_reach.specs.Unreachable.{unreachable_members};
 ghost use Rattle.ak_downing.specs.Downing.{is_against, all_downed, downs};
 ghost use Rattle.ak_downing.specs.Sides.{seen_with};
@@ -47,7 +47,7 @@ fn downed_at_pair<'a>(
 {
     match members.member_at_pair(pair) {
         Some(member) => {
-            if is_against(decision, members, rows, me, member.unique) && !is_down(member.status) {
+            if is_against(decision, members, rows, me, member.unique) && !member.status.is_down() {
                 return Some(member.unique);
             }
             None
@@ -63,17 +63,5 @@ fn is_against(decision: Decision, members: &Members, rows: &Rows, me: &Unique, w
         Decision::DownUnreachable => !is_beside(members, rows, me, who),
         Decision::DownReachable => is_beside(members, rows, me, who),
         Decision::DownAll => true,
-    }
-}
-
-fn is_down(status: Status) -> bool
-    ensures { result ≡ is_down status }
-{
-    match status {
-        Status::Joining => false,
-        Status::Up => false,
-        Status::Leaving => false,
-        Status::Exiting => false,
-        Status::Down => true,
     }
 }

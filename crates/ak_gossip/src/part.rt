@@ -5,7 +5,7 @@ use ak_address::Unique;
 use std::alloc::{AllocError, Global};
 use std::marker::Model;
 
-/// Places in a list of parts.
+/// Indices in a list of parts.
 #[derive(Drop)]
 pub struct Indices {
     list: Vec<u8>,

@@ -134,7 +134,7 @@ in_later e es who number h c =
 passed : (e : UniqueModel × Standing) (es : List (UniqueModel × Standing)) (r : Option (UniqueModel × ℕ)) → T (map.is_sorted unique_cmp (e ∷ es)) → ((number : ℕ) → CountedAs e.1 number → ⊥) → LeastIn es r → LeastIn (e ∷ es) r
 passed e es None h never rest = λ who number c. elim (first_or_later e es who number c) [ inl here ↦ never number here.1 | inr later ↦ rest who number later ]
 passed e es (Some pair) h never rest =
-    (in_later e es pair.0 pair.1 h rest.0, λ other later c. elim (first_or_later e es other later c) [ inl here ↦ absurd (never later here.1) | inr behind ↦ rest.1 other later behind ])
+    (in_later e es pair.0 pair.1 h rest.0, λ other later c. elim (first_or_later e es other later c) [ inl here ↦ absurd (never later here.1) | inr after ↦ rest.1 other later after ])
 
 one_number : (x : Standing) (m n : ℕ) → CountedAs x m → CountedAs x n → m ≡ n
 one_number x m n a b = ap (λ p. p.1) (same_Some (a.0, m) (b.0, n) (sym a.1 ∙ b.1))
@@ -146,7 +146,7 @@ chosen e es number None h is rest = (
   λ other later c.
       elim (first_or_later e es other later c) [
         | inl here ↦ inr (one_number e.1 number later is here.1, inl here.0)
-        | inr behind ↦ absurd (rest other later behind)
+        | inr after ↦ absurd (rest other later after)
       ],
 )
 chosen e es number (Some pair) h is rest =
@@ -157,7 +157,7 @@ chosen e es number (Some pair) h is rest =
             λ other later c.
                 elim (first_or_later e es other later c) [
                   | inl here ↦ let same = one_number e.1 number later is here.1 in inl (omega arith)
-                  | inr behind ↦ rest.1 other later behind
+                  | inr after ↦ rest.1 other later after
                 ],
           )
       | false ↦ λ more.
@@ -166,7 +166,7 @@ chosen e es number (Some pair) h is rest =
             λ other later c.
                 elim (first_or_later e es other later c) [
                   | inl here ↦ inr (one_number e.1 number later is here.1, inl here.0)
-                  | inr behind ↦ no_younger (e.0, number) pair other later le (above_first e es other later h behind) (rest.1 other later behind)
+                  | inr after ↦ no_younger (e.0, number) pair other later le (above_first e es other later h after) (rest.1 other later after)
                 ],
           )
     ] refl

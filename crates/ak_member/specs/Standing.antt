@@ -76,7 +76,28 @@ tombstone_of (Some standing) = as_tombstone standing
 abbrev pub is_member : Standings → UniqueModel → Bool
 is_member s who = is_some (member_of (map.get s who))
 
--- a status that is Down
+-- tests of a status
+abbrev pub is_joining : Status → Bool
+is_joining Joining = true
+is_joining Up = false
+is_joining Leaving = false
+is_joining Exiting = false
+is_joining Down = false
+
+abbrev pub is_up : Status → Bool
+is_up Joining = false
+is_up Up = true
+is_up Leaving = false
+is_up Exiting = false
+is_up Down = false
+
+abbrev pub is_exiting : Status → Bool
+is_exiting Joining = false
+is_exiting Up = false
+is_exiting Leaving = false
+is_exiting Exiting = true
+is_exiting Down = false
+
 abbrev pub is_down : Status → Bool
 is_down Joining = false
 is_down Up = false

@@ -81,7 +81,7 @@ impl Members {
         ensures { result ≡ is_gone (map.get self.now who.now) }
     {
         match self.table.get(who) {
-            Some(Standing::Member(status, _)) => *status == Status::Down,
+            Some(Standing::Member(status, _)) => status.is_down(),
             Some(Standing::Buried(_)) => true,
             None => false,
         }

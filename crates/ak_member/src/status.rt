@@ -1,5 +1,5 @@
 ghost use Rattle.std.specs.Prelude.{◌≡◌};
-ghost use Rattle.ak_member.specs.Standing.{rank};
+ghost use Rattle.ak_member.specs.Standing.{rank, is_joining, is_up, is_exiting, is_down};
 ghost use Rattle.ak_member.specs.Age.{counts};
 
 /// How far a member has come, in this order (Akka's Cluster Specification, "Membership Lifecycle").
@@ -41,5 +41,33 @@ impl Status {
             Status::Exiting => false,
             Status::Down => false,
         }
+    }
+
+    /// Whether it is Joining. Takes no memory.
+    pub fn is_joining(&self) -> bool
+        ensures { result ≡ is_joining self.now }
+    {
+        matches!(self, Status::Joining)
+    }
+
+    /// Whether it is Up. Takes no memory.
+    pub fn is_up(&self) -> bool
+        ensures { result ≡ is_up self.now }
+    {
+        matches!(self, Status::Up)
+    }
+
+    /// Whether it is Exiting. Takes no memory.
+    pub fn is_exiting(&self) -> bool
+        ensures { result ≡ is_exiting self.now }
+    {
+        matches!(self, Status::Exiting)
+    }
+
+    /// Whether it is Down. Takes no memory.
+    pub fn is_down(&self) -> bool
+        ensures { result ≡ is_down self.now }
+    {
+        matches!(self, Status::Down)
     }
 }

@@ -63,8 +63,10 @@ pub struct StdArguments<'a, R: Env> {
 }
 
 impl<'a, R: Env> StdArguments<'a, R> {
-    /// The arguments of this process.
-    pub fn new(rt: &'a R) -> Self {
+    /// The arguments of this process, as this runtime has them.
+    pub fn new(rt: &'a R) -> Self
+        ensures { result.runtime.now ≡ rt.now }
+    {
         StdArguments { runtime: rt }
     }
 }

@@ -1,4 +1,5 @@
--- The settings of a run: which addresses belong to the cluster, and the limits of its rules. Ranges are this project's choice.
+-- The settings of a run: at which addresses processes may start, and through which they may join, and the limits of the
+-- rules. Ranges are this project's choice.
 use Rattle.std.specs.Prelude.{◌≡◌, ◌≢◌, ℕ, ◌≤◌, ◌⊎◌, Bool, true, false, List, length, refl}
 use Rattle.std.proofs.Common.{inl, inr}
 use Rattle.std.specs.Coded.{Coded, code_by, coded×, coded⊎, coded_ℕ, coded_bool, coded_list}
@@ -46,7 +47,7 @@ pub record IsSettings (s : SettingsModel) : Type 0 where
   pub threshold : IsWithin 1000 s.threshold
   pub limit : IsWithin 1000 s.limit
 
--- an address belongs to the cluster
+-- an address is listed: a process may start there, and join through it
 abbrev pub is_listed : List AddressModel → AddressModel → Bool
 is_listed listed a = list_any (λ b. is_eq (address_cmp b a)) listed
 

@@ -8,7 +8,7 @@ use std::marker::Model;
 /// How the resolver decides which side of a partition goes on (Akka's Split Brain Resolver, "Strategies").
 #[derive(Clone, Copy, Debug, PartialEq, Eq)]
 pub enum Strategy {
-    /// The side with at least this many addresses goes on, 1 to 32.
+    /// The side with at least this many different addresses goes on, 1 to 32.
     StaticQuorum(u32),
     KeepMajority,
     DownAll,
@@ -32,22 +32,25 @@ pub enum Header {
 /// project's choice.
 #[derive(Debug, Drop)]
 pub struct Settings {
-    /// The addresses that belong to the cluster, 1 to 32 different ones.
+    /// The addresses at which processes may start, and through which they may join, 1 to 32 different ones.
     pub listed: Vec<Address>,
+    /// Which side of a partition goes on.
     pub strategy: Strategy,
-    /// How many ticks a node waits before it takes over from a member that is gone, 1 to 1,000,000.
+    /// How many ticks after the removal of an unconfirmed member was noted it counts as stopped, 1 to 1,000,000.
     pub margin: u32,
-    /// After how many silent ticks a watched member is unreachable, 1 to 1,000,000.
+    /// For how many ticks a watched member may be silent before it is reported as unreachable, 1 to 1,000,000.
     pub deadline: u32,
-    /// For how many ticks the statuses must stand still before the resolver decides, 1 to 1,000,000.
+    /// For how many ticks statuses and the unreachable members have to stay the same before a strategy decides, 1 to
+    /// 1,000,000.
     pub stable: u32,
-    /// How many shards there are, 1 to 1,000.
+    /// Into how many shards entities are divided, 1 to 1,000.
     pub shards: u32,
-    /// How many messages a region keeps for shards without a home, 1 to 100,000.
+    /// How many messages a region keeps while it does not know where their shard is, 1 to 100,000.
     pub buffer: u32,
-    /// By how much loads may differ before shards move, 1 to 1,000.
+    /// A shard is moved away from the most loaded region where that has more than this many shards more than the least
+    /// loaded, 1 to 1,000.
     pub threshold: u32,
-    /// How many shards may move at once, 1 to 1,000.
+    /// How many shards may move at the same time, 1 to 1,000.
     pub limit: u32,
 }
 
@@ -83,7 +86,7 @@ impl Settings {
         }
     }
 
-    /// True exactly where the address belongs to the cluster. Takes no memory.
+    /// True exactly where the address is listed. Takes no memory.
     pub fn is_listed(&self, at: &Address) -> bool
         ensures value { result ≡ is_listed self.now.listed at.now }
         ensures meaning { IsTrue result ↔ Contains self.now.listed at.now }

@@ -2,7 +2,7 @@ ghost use Rattle.std.specs.Prelude.{◌≡◌, ◌≤◌, IfOk, OnOk, OnErr, sli
 ghost use Rattle.std.specs.Prelude as list;
 ghost use Rattle.std.specs.List.{fold};
 ghost use Rattle.std.specs.FinMap as map;
-ghost use Rattle.ak_address.specs.Uniques.{with_one, set_of};
+ghost use Rattle.ak_address.specs.Uniques.{set_of};
 ghost use Rattle.ak_address.specs.Changed.{changed};
 ghost use Rattle.ak_address.specs.Counters.{counter, with_each};
 ghost use Rattle.ak_clock.specs.Version.{Covers};
@@ -244,7 +244,7 @@ fn needed_in(
 {
     let mut them = Uniques::empty(alloc);
     'pairs: for pair in 0..members.uniques() {
-        add_one(alloc, needed_at(members, counters, margin, pair), &mut them)?;
+        them.insert_if_some(alloc, needed_at(members, counters, margin, pair))?;
     }
     Ok(them)
 }
@@ -276,15 +276,5 @@ fn is_needed(standing: Standing, count: u32, margin: u32) -> bool
         Standing::Member(Status::Joining, _) => false,
         Standing::Member(_, _) => true,
         Standing::Buried(confirmed) => !(confirmed || count == margin),
-    }
-}
-
-// Puts the process, if there is one, into the set.
-fn add_one(alloc: Global, who: Option<&Unique>, them: &mut Uniques) -> Result<(), AllocError>
-    ensures { OnOk result (them.new ≡ fold with_one them.old (option_to_list (option_copied who.entry))) }
-{
-    match who {
-        Some(who) => them.insert(alloc, who),
-        None => Ok(()),
     }
 }

@@ -30,10 +30,10 @@ pairs-preserved c =
     elim c.if-is_eq.branch [
       | then-is_eq+else-n-least w ↦
           let next = reached_equal (map.entries c.args.counts.now) (map.entries c.args.others.now) c.pairs.i c.pairs.j _ _ pair other (sym c.compare-order.ensures ∙ is_equal _ _ c.is_eq.ensures w.if-is_eq.true) w.if-n-least.false in
-          record { behind = omega (arith, w.j-is); so_far = ap (λ j. reached (drop (c.pairs.i + 1) (map.entries c.args.counts.now)) (drop j (map.entries c.args.others.now))) w.j-is ∙ sym next ∙ c.pairs.invariant.so_far }
+          record { not_after = omega (arith, w.j-is); so_far = ap (λ j. reached (drop (c.pairs.i + 1) (map.entries c.args.counts.now)) (drop j (map.entries c.args.others.now))) w.j-is ∙ sym next ∙ c.pairs.invariant.so_far }
       | else-is_eq w ↦
           let next = reached_less (map.entries c.args.counts.now) (map.entries c.args.others.now) c.pairs.i c.pairs.j _ _ pair other (sym c.compare-order.ensures ∙ is_less _ _ _ c.is_gt.ensures not_greater c.is_eq.ensures w.if-is_eq.false) in
-          record { behind = omega (arith, w.j-is); so_far = ap (λ j. reached (drop (c.pairs.i + 1) (map.entries c.args.counts.now)) (drop j (map.entries c.args.others.now))) w.j-is ∙ sym next ∙ c.pairs.invariant.so_far }
+          record { not_after = omega (arith, w.j-is); so_far = ap (λ j. reached (drop (c.pairs.i + 1) (map.entries c.args.counts.now)) (drop j (map.entries c.args.others.now))) w.j-is ∙ sym next ∙ c.pairs.invariant.so_far }
     ]
 
 pub returns : goal.returns

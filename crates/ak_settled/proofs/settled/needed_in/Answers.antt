@@ -11,7 +11,7 @@ use Rattle.ak_settled.proofs.settled.needed_in.Goals as goal
 pub pairs-preserved : goal.pairs-preserved
 pairs-preserved c =
     let counters = counts_of c.args.counters.now in
-    fold_next (needed_pairs c.args.margin counters) (keeps_needed c.args.margin counters) with_one (map.entries c.args.members.now) c.pairs.pair c.pairs.them _ _ _ c.needed_at.ensures c.in_ok-add_one.ensures c.pairs.invariant
+    fold_next (needed_pairs c.args.margin counters) (keeps_needed c.args.margin counters) with_one (map.entries c.args.members.now) c.pairs.pair c.pairs.them _ _ _ c.needed_at.ensures c.in_ok-insert_if_some.ensures.ok c.pairs.invariant
 
 pub returns : goal.returns
 returns c =
