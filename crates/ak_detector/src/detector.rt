@@ -125,7 +125,7 @@ fn silent_in(alloc: Global, counters: &Table<u32>, deadline: u32) -> Result<Uniq
 {
     let mut them = Uniques::empty(alloc);
     'pairs: for pair in 0..counters.len() {
-        add_one(alloc, silent_at(counters, pair, deadline), &mut them)?;
+        them.insert_if_some(alloc, silent_at(counters, pair, deadline))?;
     }
     Ok(them)
 }
@@ -155,7 +155,7 @@ fn add_members(
     ensures { OnOk result (them.new ≡ fold with_one them.old (filter (is_member members.now) (in_order whos.now))) }
 {
     'whos: for index in 0..whos.len() {
-        add_one(alloc, member_at(members, whos, index), them)?;
+        them.insert_if_some(alloc, member_at(members, whos, index))?;
     }
     Ok(())
 }
@@ -172,16 +172,6 @@ fn member_at<'a>(members: &Members, whos: &'a Uniques, index: usize) -> Option<&
             None
         }
         None => None,
-    }
-}
-
-// Puts the process, if there is one, into the set.
-fn add_one(alloc: Global, who: Option<&Unique>, them: &mut Uniques) -> Result<(), AllocError>
-    ensures { OnOk result (them.new ≡ fold with_one them.old (option_to_list (option_copied who.entry))) }
-{
-    match who {
-        Some(who) => them.insert(alloc, who),
-        None => Ok(()),
     }
 }
 

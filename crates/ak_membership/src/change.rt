@@ -36,7 +36,8 @@ pub enum MemberFault {
     ForeignCount { own: u64, theirs: u64 },
     /// There would be too many members and tombstones together (N6).
     TooManyUniques { union: u32 },
-    /// Out of memory: the membership is a membership still, and no more is said of it.
+    /// Out of memory: the membership is as it was. A request to join, to leave or to down answers it only where the rules
+    /// refuse nothing; of a gossip no clause says so.
     NoMemory,
 }
 

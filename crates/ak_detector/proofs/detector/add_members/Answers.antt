@@ -8,7 +8,7 @@ use Rattle.ak_detector.proofs.detector.add_members.Goals as goal
 
 pub whos-preserved : goal.whos-preserved
 whos-preserved c =
-    fold_next (filter (is_member c.args.members.now)) (keeps_those (is_member c.args.members.now)) with_one (in_order c.args.whos.now) c.whos.index c.whos.them _ _ _ c.member_at.ensures c.in_ok-add_one.ensures c.whos.invariant
+    fold_next (filter (is_member c.args.members.now)) (keeps_those (is_member c.args.members.now)) with_one (in_order c.args.whos.now) c.whos.index c.whos.them _ _ _ c.member_at.ensures c.in_ok-insert_if_some.ensures.ok c.whos.invariant
 
 pub returns : goal.returns
 returns c =

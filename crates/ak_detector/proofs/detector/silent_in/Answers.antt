@@ -9,7 +9,7 @@ use Rattle.ak_detector.proofs.detector.silent_in.Goals as goal
 
 pub pairs-preserved : goal.pairs-preserved
 pairs-preserved c =
-    fold_next (above_pairs c.args.deadline) (keeps_above c.args.deadline) with_one (map.entries c.args.counters.now) c.pairs.pair c.pairs.them _ _ _ c.silent_at.ensures c.in_ok-add_one.ensures c.pairs.invariant
+    fold_next (above_pairs c.args.deadline) (keeps_above c.args.deadline) with_one (map.entries c.args.counters.now) c.pairs.pair c.pairs.them _ _ _ c.silent_at.ensures c.in_ok-insert_if_some.ensures.ok c.pairs.invariant
 
 pub returns : goal.returns
 returns c =
