@@ -1,15 +1,14 @@
 -- What a coordinator does with its table (Akka's Cluster Sharding, "How it works" and "Shard rebalancing").
-use Rattle.std.specs.Prelude.{ℕ, ◌-◌, Bool, true, false, ◌&&◌, List, [], ◌∷◌, length, map, slice_index_or, slice_set, Option, None, if◌then◌else◌}
+use Rattle.std.specs.Prelude.{ℕ, ◌-◌, Bool, ◌&&◌, List, [], ◌∷◌, length, map, slice_index_or, slice_set, Option, None, if◌then◌else◌}
 use Rattle.std.specs.FinMap as finmap
 use Rattle.std.specs.List.{filter}
 use Rattle.std.specs.Ordering.{is_eq}
 use Rattle.ak_address.specs.Unique.{UniqueModel, unique_cmp}
 use Rattle.ak_address.specs.Uniques.{UniqueSet, has}
 use Rattle.ak_allocation.specs.declared.load.Load.{Load}
-use Rattle.ak_member.specs.Standing.{Standings, member_pairs}
+use Rattle.ak_member.specs.Standing.{Standings, member_pairs, is_up}
 use Rattle.ak_member.specs.declared.standing.Standing.{Standing}
 use Rattle.ak_member.specs.declared.status.Status.{Status}
-use Rattle.ak_member.specs.declared.status.Status.TheVariants.{Joining, Up, Leaving, Exiting, Down}
 use Rattle.ak_shard_id.specs.declared.report.Report.{Report}
 use Rattle.ak_coordinator.specs.Table.{Home, ShardEntry, ShardTable}
 use Rattle.ak_coordinator.specs.Entry.{unplaced, is_at, learnt, freed, allotted, after_allotment, awaits_stop}
@@ -37,13 +36,6 @@ stopped_placed from number loads entry = if awaits_stop from number entry then a
 abbrev pub after_stopped : UniqueModel → ℕ → List Load → ShardEntry → ShardEntry
 after_stopped from number loads entry =
     if awaits_stop from number entry then after_allotment (allotted (map (less_one from) loads) (freed entry)) (freed entry) else entry
-
-abbrev pub is_up : Status → Bool
-is_up Joining = false
-is_up Up = true
-is_up Leaving = false
-is_up Exiting = false
-is_up Down = false
 
 -- how many shards have their home at a node
 abbrev pub load_of : ShardTable → UniqueModel → Load

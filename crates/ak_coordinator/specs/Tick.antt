@@ -1,15 +1,14 @@
 -- The tick of a coordinator (Akka's Cluster Sharding, "Shard rebalancing": a hand-off begins with every region, then the home
 -- hands the shard off; that a shard leaves an Exiting home first, and how many move at once, are this project's).
-use Rattle.std.specs.Prelude.{ℕ, ◌+◌, ◌==◌, nat_lt, Bool, true, false, not, ◌&&◌, List, [], ◌∷◌, ◌++◌, length, map, Option, None, Some, if◌then◌else◌}
+use Rattle.std.specs.Prelude.{ℕ, ◌+◌, ◌==◌, nat_lt, Bool, false, not, ◌&&◌, List, [], ◌∷◌, ◌++◌, length, map, Option, None, Some, if◌then◌else◌}
 use Rattle.std.specs.FinMap as finmap
 use Rattle.std.specs.List.{filter}
 use Rattle.ak_address.specs.Unique.{UniqueModel}
 use Rattle.ak_address.specs.Uniques.{UniqueSet, how_many, in_order, set_of}
 use Rattle.ak_allocation.specs.declared.load.Load.{Load}
 use Rattle.ak_allocation.specs.Allocation.{overloaded}
-use Rattle.ak_member.specs.Standing.{Standings, member_of}
+use Rattle.ak_member.specs.Standing.{Standings, member_of, is_exiting}
 use Rattle.ak_member.specs.declared.status.Status.{Status}
-use Rattle.ak_member.specs.declared.status.Status.TheVariants.{Joining, Up, Leaving, Exiting, Down}
 use Rattle.ak_settled.specs.SettledView.{SettledView}
 use Rattle.ak_settled.specs.Settled.{standings_of, is_finished}
 use Rattle.ak_coordinator.specs.declared.entry.Stage.{Stage}
@@ -38,13 +37,6 @@ noticed margin settled entry =
     if has_finished_home margin settled entry.home then freed entry else record entry { waits = unfinished margin settled entry.waits }
 
 -- ---- which shard begins to move
-abbrev pub is_exiting : Status → Bool
-is_exiting Joining = false
-is_exiting Up = false
-is_exiting Leaving = false
-is_exiting Exiting = true
-is_exiting Down = false
-
 abbrev pub is_exiting_as : Option (Status × ℕ) → Bool
 is_exiting_as None = false
 is_exiting_as (Some member) = is_exiting member.0

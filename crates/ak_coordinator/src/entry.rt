@@ -8,7 +8,7 @@ use crate::tick::unfinished;
 use ak_address::{Unique, Uniques};
 use ak_allocation::{Load, choose};
 use ak_clock::BOUND;
-use ak_member::{Members, Status};
+use ak_member::Members;
 use ak_settled::Settled;
 use ak_shard_id::Report;
 use std::alloc::{AllocError, Global};
@@ -336,13 +336,7 @@ fn is_exiting(members: &Members, who: &Unique) -> bool
     ensures { result ≡ is_exiting_member members.now who.now }
 {
     match members.get(who) {
-        Some(member) => match member.status {
-            Status::Joining => false,
-            Status::Up => false,
-            Status::Leaving => false,
-            Status::Exiting => true,
-            Status::Down => false,
-        },
+        Some(member) => member.status.is_exiting(),
         None => false,
     }
 }

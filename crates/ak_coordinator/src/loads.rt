@@ -5,12 +5,12 @@ ghost use Rattle.std.specs.FinMap as map;
 ghost use Rattle.ak_address.specs.Unique.{UniqueModel};
 ghost use Rattle.ak_member.specs.Standing.{Standings};
 ghost use Rattle.ak_coordinator.specs.Entry.{is_at};
-ghost use Rattle.ak_coordinator.specs.Coordinator.{less_one, is_up, loads_among};
+ghost use Rattle.ak_coordinator.specs.Coordinator.{less_one, loads_among};
 
 use crate::entry::Entry;
 use ak_address::{Unique, Uniques};
 use ak_allocation::Load;
-use ak_member::{Members, Status};
+use ak_member::Members;
 use std::alloc::{AllocError, Global};
 
 // Appends the load, with one shard less where it is the node's.
@@ -75,24 +75,12 @@ fn load_at(
     let Some(member) = members.member_at_pair(pair) else {
         return Ok(None);
     };
-    if !is_up(member.status) || !granted.contains(member.unique) {
+    if !member.status.is_up() || !granted.contains(member.unique) {
         return Ok(None);
     }
     let unique = member.unique.copy(alloc)?;
     let shards = homes_at(entries, member.unique);
     Ok(Some(Load { unique, shards }))
-}
-
-fn is_up(status: Status) -> bool
-    ensures { result ≡ is_up status }
-{
-    match status {
-        Status::Joining => false,
-        Status::Up => true,
-        Status::Leaving => false,
-        Status::Exiting => false,
-        Status::Down => false,
-    }
 }
 
 // Appends what there is.

@@ -1,7 +1,7 @@
 ghost use Rattle.std.specs.Prelude.{◌≡◌, ◌≤◌, ◌<◌, length, slice_get, option_copied, option_to_list, IfOk, OnOk, IfSome, IsSome};
 ghost use Rattle.std.specs.Prelude as list;
-ghost use Rattle.std.specs.List.{filter, fold};
-ghost use Rattle.ak_address.specs.Uniques.{in_order, with_one};
+ghost use Rattle.std.specs.List.{filter};
+ghost use Rattle.ak_address.specs.Uniques.{in_order};
 ghost use Rattle.ak_settled.specs.Settled.{standings_of};
 ghost use Rattle.ak_coordinator.specs.Entry.{moves};
 ghost use Rattle.ak_coordinator.specs.Coordinator.{entry_of};
@@ -28,7 +28,7 @@ pub(crate) fn unfinished(
     let mut left = Uniques::empty(alloc);
     'whos: for index in 0..whos.len() {
         let who = unfinished_at(settled, margin, whos, index);
-        add_one(alloc, &mut left, who)?;
+        left.insert_if_some(alloc, who)?;
     }
     Ok(left)
 }
@@ -151,15 +151,5 @@ fn unfinished_at<'a>(
             Some(who)
         }
         None => None,
-    }
-}
-
-// Adds the node, where there is one.
-fn add_one(alloc: Global, whos: &mut Uniques, who: Option<&Unique>) -> Result<(), AllocError>
-    ensures { OnOk result (whos.new ≡ fold with_one whos.old (option_to_list (option_copied who.entry))) }
-{
-    match who {
-        Some(who) => whos.insert(alloc, who),
-        None => Ok(()),
     }
 }

@@ -4,7 +4,7 @@ use Rattle.std.proofs.lemmas.Bool.{leb-true, leb-false, lt-leb}
 use Rattle.std.specs.Ordering.{is_eq}
 use Rattle.ak_address.specs.Unique.{UniqueModel, unique_cmp}
 use Rattle.ak_address.proofs.TableLaws.{key_itself, other_key, same_or_apart}
-pub use Rattle.ak_address.proofs.Elements.{contains_first, contains_rest, first_or_rest, contains_nothing}
+use Rattle.ak_address.proofs.Elements.{first_or_rest, contains_nothing}
 use Rattle.ak_clock.specs.Version.{Counts, count, merged, bumped}
 use Rattle.ak_clock.proofs.VersionLaws.{count-merged, count-bumped_author, count-bumped_others}
 use Rattle.ak_history.specs.declared.entry.Entry.{Entry}

@@ -11,8 +11,8 @@ use Rattle.ak_member.specs.View.{Row, RowTable, observed, after_observed, after_
 use Rattle.ak_history.specs.declared.entry.Entry.{Entry}
 use Rattle.ak_history.specs.History.{entries_of, IsNumbered, is_covered, view}
 use Rattle.ak_history.specs.Shown.{IsLastRow, Observes}
-use Rattle.ak_address.proofs.Elements.{first_or_rest, contains_rest, contains_nothing}
-use Rattle.ak_history.proofs.HistoryLemmas.{contains_first, number_range, number_below, one_entry, covered_count}
+use Rattle.ak_address.proofs.Elements.{first_or_rest, contains_rest, contains_nothing, contains_first}
+use Rattle.ak_history.proofs.HistoryLemmas.{number_range, number_below, one_entry, covered_count}
 
 -- ---- what an entry makes of the rows
 pub get-observed_here : (author : UniqueModel) (number : ℕ) (subjects : UniqueSet) (rows : RowTable) → map.get (after_observed author number (Some subjects) rows) author ≡ Some (record { number = number; subjects = subjects })

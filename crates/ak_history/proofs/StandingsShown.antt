@@ -20,8 +20,7 @@ use Rattle.ak_member.proofs.ViewLaws.{get-known_here, get-known_elsewhere}
 use Rattle.ak_history.specs.declared.entry.Entry.{Entry}
 use Rattle.ak_history.specs.History.{is_covered, view}
 use Rattle.ak_history.specs.Shown.{Did, IsGreatest, IsLeast, Stands}
-use Rattle.ak_address.proofs.Elements.{contains_rest, contains_nothing, first_or_rest}
-use Rattle.ak_history.proofs.HistoryLemmas.{contains_first}
+use Rattle.ak_address.proofs.Elements.{contains_rest, contains_nothing, first_or_rest, contains_first}
 
 -- ---- what stands after some effects, said of the effects that were done
 abbrev NamedBy : (Effect → Type 0) → UniqueModel → Type 0

@@ -17,7 +17,7 @@ use Rattle.ak_member.specs.declared.standing.Standing.{Standing}
 use Rattle.ak_member.specs.declared.standing.Standing.TheVariants.{Member, Buried}
 use Rattle.ak_member.specs.declared.status.Status.{Status}
 use Rattle.ak_member.specs.declared.status.Status.TheVariants.{Up}
-use Rattle.ak_member.specs.Standing.{Standings, member_pairs, members_of}
+use Rattle.ak_member.specs.Standing.{Standings, member_pairs, members_of, is_joining}
 use Rattle.ak_member.specs.Age.{counts}
 use Rattle.ak_member.specs.View.{View}
 use Rattle.ak_address.proofs.Elements.{contains_first, contains_rest, first_or_rest, contains_nothing, index_of}
@@ -25,7 +25,7 @@ use Rattle.ak_member.proofs.MemberLemmas.{KeepsPairs, kept_from, kept_pair, kept
 use Rattle.ak_member.proofs.MembersLaws.{members_have, have_members, members_sorted}
 use Rattle.ak_reach.specs.Unreachable.{unreachable_members}
 use Rattle.ak_reach.proofs.UnreachableLaws.{unreachable_means}
-use Rattle.ak_leader.specs.Leader.{may_lead, leader, MayLead, IsLeader, greatest_number, number_after, led, all_led, is_joining, all_founded}
+use Rattle.ak_leader.specs.Leader.{may_lead, leader, MayLead, IsLeader, greatest_number, number_after, led, all_led, all_founded}
 use Rattle.ak_leader.specs.Walk.{number_past, joining, numbered}
 
 abbrev MemberPair : Type 0

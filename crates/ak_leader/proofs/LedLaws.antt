@@ -10,14 +10,14 @@ use Rattle.ak_member.specs.declared.effect.Effect.{Effect}
 use Rattle.ak_member.specs.declared.effect.Effect.TheVariants.{Joined, Rise, Removed, Observed}
 use Rattle.ak_member.specs.declared.status.Status.{Status}
 use Rattle.ak_member.specs.declared.status.Status.TheVariants.{Joining, Up, Leaving, Exiting, Down}
-use Rattle.ak_member.specs.Standing.{Standings, member_of, is_member, members_of}
+use Rattle.ak_member.specs.Standing.{Standings, member_of, is_member, members_of, is_joining}
 use Rattle.ak_member.specs.Age.{counts}
 use Rattle.ak_member.specs.View.{View}
 use Rattle.ak_address.proofs.Elements.{contains_first, contains_rest, first_or_rest, contains_nothing, contains_either, contains_left, contains_right}
 use Rattle.ak_member.proofs.MembersLaws.{members_have, have_members}
 use Rattle.ak_reach.specs.Unreachable.{unreachable_members, IsUnreachable}
 use Rattle.ak_reach.proofs.UnreachableLaws.{unreachable_means}
-use Rattle.ak_leader.specs.Leader.{leader, greatest_number, has_next, number_after, led, all_led, leaders_effects, is_joining, all_founded, founding_effects}
+use Rattle.ak_leader.specs.Leader.{leader, greatest_number, has_next, number_after, led, all_led, leaders_effects, all_founded, founding_effects}
 use Rattle.ak_leader.specs.Led.{IsMemberWith, IsAbout, LedTo}
 use Rattle.ak_leader.specs.Led.LedTo.{rises, exits, confirms, removes}
 use Rattle.ak_leader.proofs.LeaderLaws.{leader_is}

@@ -10,7 +10,7 @@ use Rattle.ak_member.specs.declared.effect.Effect.{Effect}
 use Rattle.ak_member.specs.declared.effect.Effect.TheVariants.{Rise, Removed}
 use Rattle.ak_member.specs.declared.status.Status.{Status}
 use Rattle.ak_member.specs.declared.status.Status.TheVariants.{Joining, Up, Leaving, Exiting, Down}
-use Rattle.ak_member.specs.Standing.{Standings, members_of}
+use Rattle.ak_member.specs.Standing.{Standings, members_of, is_joining}
 use Rattle.ak_member.specs.Age.{counts, IsCounted}
 use Rattle.ak_member.specs.View.{View}
 use Rattle.ak_reach.specs.Unreachable.{unreachable_members, IsUnreachable}
@@ -66,13 +66,6 @@ all_led lost confirmed number (pair ∷ pairs) = led lost confirmed number pair 
 -- the leader's effects
 abbrev pub leaders_effects : View → UniqueSet → List Effect
 leaders_effects v confirmed = all_led (unreachable_members v) confirmed (greatest_number (members_of v.standings)) (members_of v.standings)
-
-abbrev pub is_joining : Status → Bool
-is_joining Joining = true
-is_joining Up = false
-is_joining Leaving = false
-is_joining Exiting = false
-is_joining Down = false
 
 -- each Joining member comes Up with the next number
 abbrev pub all_founded : ℕ → List (UniqueModel × (Status × ℕ)) → List Effect

@@ -5,7 +5,8 @@ use Rattle.ak_member.specs.declared.effect.Effect.{Effect}
 use Rattle.ak_member.specs.declared.effect.Effect.TheVariants.{Rise}
 use Rattle.ak_member.specs.declared.status.Status.{Status}
 use Rattle.ak_member.specs.declared.status.Status.TheVariants.{Up}
-use Rattle.ak_leader.specs.Leader.{number_after, is_joining}
+use Rattle.ak_member.specs.Standing.{is_joining}
+use Rattle.ak_leader.specs.Leader.{number_after}
 
 -- the last number given by the leader
 abbrev pub number_past : ℕ → List (UniqueModel × (Status × ℕ)) → ℕ

@@ -6,11 +6,10 @@ use Rattle.ak_address.specs.Unique.{UniqueModel}
 use Rattle.ak_address.specs.Uniques.{UniqueSet, no_one, has, with_one, those, in_order, set_of}
 use Rattle.ak_address.proofs.CountersLaws.{among-filter, has-set_of, set_of-in_order, set_walked}
 use Rattle.ak_address.proofs.UniquesLaws.{same_uniques, has-those}
-use Rattle.ak_leader.specs.Leader.{is_joining}
 use Rattle.ak_member.specs.declared.status.Status.{Status}
 use Rattle.ak_member.specs.declared.standing.Standing.{Standing}
 use Rattle.ak_member.specs.declared.standing.Standing.TheVariants.{Member, Buried}
-use Rattle.ak_member.specs.Standing.{member_pairs}
+use Rattle.ak_member.specs.Standing.{member_pairs, is_joining}
 use Rattle.ak_member.proofs.MemberLemmas.{KeepsPairs, kept_from, kept_at_end}
 use Rattle.ak_member.proofs.CountedLaws.{KeepsProcess}
 use Rattle.ak_membership.specs.Tick.{joining_pairs}

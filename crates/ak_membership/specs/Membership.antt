@@ -11,8 +11,8 @@ use Rattle.ak_clock.specs.Version.{count}
 use Rattle.ak_member.specs.declared.effect.Effect.{Effect}
 use Rattle.ak_member.specs.declared.effect.Effect.TheVariants.{Joined, Rise}
 use Rattle.ak_member.specs.declared.status.Status.{Status}
-use Rattle.ak_member.specs.declared.status.Status.TheVariants.{Joining, Up, Leaving, Exiting, Down}
-use Rattle.ak_member.specs.Standing.{Standings, member_of, members_of, has_status, is_down}
+use Rattle.ak_member.specs.declared.status.Status.TheVariants.{Joining, Up, Leaving, Down}
+use Rattle.ak_member.specs.Standing.{Standings, member_of, members_of, has_status, is_down, is_up}
 use Rattle.ak_member.specs.Standing as standing
 use Rattle.ak_gossip.specs.declared.gossip.Received as received
 use Rattle.ak_gossip.specs.declared.gossip.GossipFault as fault
@@ -103,13 +103,6 @@ found m = if is_known m.gossip.view.standings m.me then unchanged m else update 
 -- a node that is no member keeps the address through which it asks to join
 abbrev pub join : AddressModel → MembershipState → MembershipState
 join target m = if is_member m then m else record m { target = Some target }
-
-abbrev pub is_up : Status → Bool
-is_up Joining = false
-is_up Up = true
-is_up Leaving = false
-is_up Exiting = false
-is_up Down = false
 
 -- the node is asked that a member leaves: one that is Up does
 abbrev pub leave : UniqueModel → MembershipState → Result Outcome MemberFault

@@ -12,7 +12,7 @@ use Rattle.ak_member.specs.declared.effect.Effect.{Effect}
 use Rattle.ak_member.specs.declared.effect.Effect.TheVariants.{Observed}
 use Rattle.ak_member.specs.declared.status.Status.{Status}
 use Rattle.ak_member.specs.Age.{counts}
-use Rattle.ak_member.specs.Standing.{Standings, is_down, members_of}
+use Rattle.ak_member.specs.Standing.{Standings, is_down, members_of, is_joining}
 use Rattle.ak_member.specs.Standing as standing
 use Rattle.ak_member.specs.View.{Row}
 use Rattle.ak_reach.specs.Unreachable.{unreachable_members}
@@ -20,7 +20,7 @@ use Rattle.ak_schedule.specs.Settings.{settling_size}
 use Rattle.ak_converge.specs.Convergence.{is_converged, is_settled}
 use Rattle.ak_detector.specs.Detector as detector
 use Rattle.ak_downing.specs.Downing.{decide, downs}
-use Rattle.ak_leader.specs.Leader.{leader, leaders_effects, founding_effects, is_joining}
+use Rattle.ak_leader.specs.Leader.{leader, leaders_effects, founding_effects}
 use Rattle.ak_select.specs.Select.{peer}
 use Rattle.ak_settled.specs.Settled.{after_tick}
 use Rattle.ak_membership.specs.declared.state.MembershipState.{MembershipState}

@@ -4,7 +4,6 @@ ghost use Rattle.std.specs.FinMap as map;
 ghost use Rattle.std.specs.List.{list_any};
 ghost use Rattle.ak_address.specs.Distinct.{distinct};
 ghost use Rattle.ak_gossip.specs.Gossip as gossip;
-ghost use Rattle.ak_leader.specs.Leader as leader;
 ghost use Rattle.ak_member.specs.Standing as standing;
 ghost use Rattle.ak_member.specs.Standing.{member_pairs, members_of};
 ghost use Rattle.ak_member.specs.declared.effect.Effect.TheVariants.{Rise};
@@ -24,48 +23,12 @@ pub(crate) fn is_known(members: &Members, who: &Unique) -> bool
     members.get(who).is_some() || members.tombstone(who).is_some()
 }
 
-fn has_come_up(status: Status) -> bool
-    ensures { result ≡ rules.is_up status }
-{
-    match status {
-        Status::Joining => false,
-        Status::Up => true,
-        Status::Leaving => false,
-        Status::Exiting => false,
-        Status::Down => false,
-    }
-}
-
-fn has_gone_down(status: Status) -> bool
-    ensures { result ≡ standing.is_down status }
-{
-    match status {
-        Status::Joining => false,
-        Status::Up => false,
-        Status::Leaving => false,
-        Status::Exiting => false,
-        Status::Down => true,
-    }
-}
-
-fn joins(status: Status) -> bool
-    ensures { result ≡ leader.is_joining status }
-{
-    match status {
-        Status::Joining => true,
-        Status::Up => false,
-        Status::Leaving => false,
-        Status::Exiting => false,
-        Status::Down => false,
-    }
-}
-
 // The process is a member that is Up.
 pub(crate) fn is_up(members: &Members, who: &Unique) -> bool
-    ensures { result ≡ rules.is_member_with rules.is_up members.now who.now }
+    ensures { result ≡ rules.is_member_with standing.is_up members.now who.now }
 {
     match members.get(who) {
-        Some(member) => has_come_up(member.status),
+        Some(member) => member.status.is_up(),
         None => false,
     }
 }
@@ -75,17 +38,17 @@ pub(crate) fn is_down(members: &Members, who: &Unique) -> bool
     ensures { result ≡ rules.is_member_with standing.is_down members.now who.now }
 {
     match members.get(who) {
-        Some(member) => has_gone_down(member.status),
+        Some(member) => member.status.is_down(),
         None => false,
     }
 }
 
 // The process is a member that is Joining.
 pub(crate) fn is_joining(members: &Members, who: &Unique) -> bool
-    ensures { result ≡ rules.is_member_with leader.is_joining members.now who.now }
+    ensures { result ≡ rules.is_member_with standing.is_joining members.now who.now }
 {
     match members.get(who) {
-        Some(member) => joins(member.status),
+        Some(member) => member.status.is_joining(),
         None => false,
     }
 }
@@ -124,7 +87,7 @@ fn replaced_at<'a>(who: &Unique, members: &'a Members, pair: usize) -> Option<&'
 {
     match members.member_at_pair(pair) {
         Some(member) => {
-            if is_beside(who, member.unique) && !has_gone_down(member.status) {
+            if is_beside(who, member.unique) && !member.status.is_down() {
                 return Some(member.unique);
             }
             None
@@ -156,7 +119,7 @@ fn joining_at<'a>(members: &'a Members, pair: usize) -> Option<(&'a Unique, u64)
 {
     match members.member_at_pair(pair) {
         Some(member) => {
-            if joins(member.status) {
+            if member.status.is_joining() {
                 return Some((member.unique, member.up_number));
             }
             None

@@ -138,7 +138,7 @@ impl MembershipState {
     }
 
     fn is_up(&self, who: &Unique) -> bool
-        ensures { result ≡ rules.is_member_with rules.is_up self.now.gossip.view.standings who.now }
+        ensures { result ≡ rules.is_member_with standing.is_up self.now.gossip.view.standings who.now }
     {
         is_up(self.gossip.members(), who)
     }

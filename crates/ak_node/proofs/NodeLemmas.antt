@@ -8,6 +8,7 @@ use Rattle.ak_address.proofs.TableLaws.{get-empty}
 use Rattle.ak_member.specs.declared.standing.Standing.{Standing}
 use Rattle.ak_member.specs.declared.standing.Standing.TheVariants.{Member, Buried}
 use Rattle.ak_member.specs.Standing as standing
+use Rattle.ak_member.specs.Standing.{is_exiting}
 use Rattle.ak_gossip.specs.Gossip.{GossipState}
 use Rattle.ak_gossip.proofs.InvariantLemmas.{and_first, and_second}
 use Rattle.ak_detector.proofs.DetectorLaws.{watched_member}
@@ -33,7 +34,7 @@ use Rattle.ak_wire.specs.Wire.{updates_of}
 use Rattle.ak_node.specs.declared.node.State.{State}
 use Rattle.ak_node.specs.declared.node.NodeEvent.{NodeEvent}
 use Rattle.ak_node.specs.declared.node.NodeEvent.TheVariants as event
-use Rattle.ak_node.specs.Node.{Outcome, known, me_of, is_member, is_gone, nothing, and_then, does, does_for, unless_refused, asks_at, is_exiting, exits, gossips_to, goes_on, ticked, on_message, rule, closes, is_dead, running_step, step}
+use Rattle.ak_node.specs.Node.{Outcome, known, me_of, is_member, is_gone, nothing, and_then, does, does_for, unless_refused, asks_at, exits, gossips_to, goes_on, ticked, on_message, rule, closes, is_dead, running_step, step}
 use Rattle.ak_node.specs.NodeContracts.{IsNode, Serves, ServesWhileItRuns}
 use Rattle.ak_node.specs.Change.{given_by, NotesNow, Notes}
 use Rattle.ak_node.proofs.StepChanges.{rule_changes, running_changes, step_is, step_changes, ran_before}

@@ -8,6 +8,7 @@ use Rattle.ak_address.proofs.Elements.{contains_nothing}
 use Rattle.ak_address.proofs.TableLaws.{same_key}
 use Rattle.ak_address.proofs.UniquesLaws.{has-with_one}
 use Rattle.ak_member.specs.Standing as standing
+use Rattle.ak_member.specs.Standing.{is_exiting}
 use Rattle.ak_gossip.specs.Gossip.{GossipState}
 use Rattle.ak_membership.specs.Membership as membership
 use Rattle.ak_membership.specs.Membership.{is_member_with}
@@ -24,7 +25,7 @@ use Rattle.ak_wire.proofs.Sending.{sent-append, updates-append}
 use Rattle.ak_node.specs.declared.node.State.{State}
 use Rattle.ak_node.specs.declared.node.NodeEvent.{NodeEvent}
 use Rattle.ak_node.specs.declared.node.NodeEvent.TheVariants as event
-use Rattle.ak_node.specs.Node.{known, me_of, is_member, is_gone, nothing, to_address, does, does_for, join, stop, asks_at, is_exiting, counted_members, exits, gossips_to, goes_on, ends, beats, ticked, update_by, tick, on_gossip, on_confirmed, on_message, rule, if_so, closes, is_dead, running_step, step}
+use Rattle.ak_node.specs.Node.{known, me_of, is_member, is_gone, nothing, to_address, does, does_for, join, stop, asks_at, counted_members, exits, gossips_to, goes_on, ends, beats, ticked, update_by, tick, on_gossip, on_confirmed, on_message, rule, if_so, closes, is_dead, running_step, step}
 use Rattle.ak_membership.specs.Tick as ticks
 use Rattle.ak_membership.specs.Tick.{gossip_peer}
 use Rattle.ak_node.specs.Change.{Changes, Quiet, IsConfirmed, given_by, asker_in}

@@ -6,9 +6,7 @@ use Rattle.ak_address.specs.Changed.{keys_of}
 use Rattle.ak_address.specs.Unique.{AddressModel, UniqueModel, address_cmp}
 use Rattle.ak_address.specs.Uniques.{in_order}
 use Rattle.ak_member.specs.declared.effect.Effect.{Effect}
-use Rattle.ak_member.specs.declared.status.Status.{Status}
-use Rattle.ak_member.specs.declared.status.Status.TheVariants as status
-use Rattle.ak_member.specs.Standing.{members_of}
+use Rattle.ak_member.specs.Standing.{members_of, is_exiting}
 use Rattle.ak_member.specs.Age.{counted_pairs}
 use Rattle.ak_gossip.specs.Gossip.{GossipState}
 use Rattle.ak_schedule.specs.Settings.{SettingsModel}
@@ -136,13 +134,6 @@ stop n = nothing (record n { runs = false })
 abbrev pub asks_at : Option AddressModel → State → Outcome
 asks_at None n = nothing n
 asks_at (Some target) n = (n, to_address n target message.TheVariants.Join ∷ [])
-
-abbrev pub is_exiting : Status → Bool
-is_exiting status.Joining = false
-is_exiting status.Up = false
-is_exiting status.Leaving = false
-is_exiting status.Exiting = true
-is_exiting status.Down = false
 
 -- the members that count, in the order of processes
 abbrev pub counted_members : State → List UniqueModel

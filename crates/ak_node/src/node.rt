@@ -1,4 +1,5 @@
 ghost use Rattle.std.specs.Prelude.{◌≡◌, ◌<◌, ◌≤◌, ◌^◌, ◌++◌, ◌∷◌, [], not, true, false, IfOk, OnOk, OnErr};
+ghost use Rattle.ak_member.specs.Standing.{is_exiting};
 ghost use Rattle.ak_membership.specs.Membership as rules_of_membership;
 ghost use Rattle.ak_membership.specs.MembershipContracts.{IsWatching};
 ghost use Rattle.ak_membership.specs.Tick as rules_of_ticks;
@@ -7,7 +8,6 @@ ghost use Rattle.ak_node.specs.NodeContracts.{Does, IsSameProcess, IsLeftOver, I
 
 use ak_address::{Address, Unique};
 use ak_gossip::Gossip;
-use ak_member::Status;
 use ak_membership::{Change, Closing, MemberFault, Membership, Reply};
 use ak_schedule::Settings;
 use ak_settled::Settled;
@@ -280,10 +280,10 @@ impl State {
     }
 
     fn is_exiting(&self) -> bool
-        ensures { result ≡ rules_of_membership.is_member_with rules.is_exiting (rules.known self.now).view.standings (rules.me_of self.now) }
+        ensures { result ≡ rules_of_membership.is_member_with is_exiting (rules.known self.now).view.standings (rules.me_of self.now) }
     {
         match self.membership.my_status() {
-            Some(status) => is_exiting(status),
+            Some(status) => status.is_exiting(),
             None => false,
         }
     }
@@ -464,18 +464,6 @@ impl State {
         let mut actions = self.rule(alloc, event)?;
         self.closes(alloc, &mut actions)?;
         Ok(actions)
-    }
-}
-
-fn is_exiting(status: Status) -> bool
-    ensures { result ≡ rules.is_exiting status }
-{
-    match status {
-        Status::Joining => false,
-        Status::Up => false,
-        Status::Leaving => false,
-        Status::Exiting => true,
-        Status::Down => false,
     }
 }
 

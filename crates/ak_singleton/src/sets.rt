@@ -1,6 +1,6 @@
-ghost use Rattle.std.specs.Prelude.{◌≡◌, IfOk, OnOk, not, slice_get, option_copied, option_to_list};
-ghost use Rattle.std.specs.List.{filter, fold, list_all};
-ghost use Rattle.ak_address.specs.Uniques.{has, in_order, those, with_one};
+ghost use Rattle.std.specs.Prelude.{◌≡◌, IfOk, not, slice_get, option_copied, option_to_list};
+ghost use Rattle.std.specs.List.{filter, list_all};
+ghost use Rattle.ak_address.specs.Uniques.{has, in_order, those};
 ghost use Rattle.ak_singleton.specs.Singleton.{only};
 
 use ak_address::{Unique, Uniques};
@@ -43,7 +43,7 @@ pub fn those_but(alloc: Global, set: &Uniques, others: &Uniques) -> Result<Uniqu
 {
     let mut rest = Uniques::empty(alloc);
     'set: for index in 0..set.len() {
-        add_one(alloc, other_at(set, others, index), &mut rest)?;
+        rest.insert_if_some(alloc, other_at(set, others, index))?;
     }
     Ok(rest)
 }
@@ -60,15 +60,5 @@ fn other_at<'a>(set: &'a Uniques, others: &Uniques, index: usize) -> Option<&'a 
             Some(who)
         }
         None => None,
-    }
-}
-
-// Puts the process, if there is one, into the set.
-fn add_one(alloc: Global, who: Option<&Unique>, set: &mut Uniques) -> Result<(), AllocError>
-    ensures { OnOk result (set.new ≡ fold with_one set.old (option_to_list (option_copied who.entry))) }
-{
-    match who {
-        Some(who) => set.insert(alloc, who),
-        None => Ok(()),
     }
 }

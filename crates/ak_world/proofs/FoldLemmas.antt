@@ -2,6 +2,7 @@
 use Rattle.std.proofs.Common.{◌≡◌, ◌≢◌, ℕ, zero, suc, ◌+◌, ◌≤◌, Bool, true, false, if◌then◌else◌, List, [], ◌∷◌, ◌++◌, slice_get, Option, Some, None, refl, sym, ap, ◌∙◌, subst, arith}
 use Rattle.ak_address.specs.Unique.{UniqueModel}
 use Rattle.ak_address.specs.Uniques.{UniqueSet, with_one}
+use Rattle.ak_address.proofs.Elements.{contains_at}
 use Rattle.ak_member.specs.Standing as standing
 use Rattle.ak_member.specs.View.{View, after_entry, merged_views}
 use Rattle.ak_clock.specs.Version.{count, covers, relation, relation_by}
@@ -22,7 +23,6 @@ use Rattle.ak_node.specs.Change.{Changes, given_by}
 use Rattle.ak_world.specs.World.{with_update, recorded}
 use Rattle.ak_world.specs.Fold.{IsFold}
 use Rattle.ak_history.proofs.HistoryLemmas.{bounded-prefix, bounded-update, entries-author, entries-others}
-use Rattle.ak_world.proofs.IndexLemmas.{contains_at}
 use Rattle.ak_world.proofs.WhatHappened.{accepts_from}
 use Rattle.ak_history.proofs.ViewsMerged.{view-merged, view-later, view-update}
 

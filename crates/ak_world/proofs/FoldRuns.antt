@@ -27,10 +27,10 @@ use Rattle.ak_node.proofs.StepChanges.{step_changes}
 use Rattle.ak_world.specs.World.{WorldState, Done, empty_world, recorded, with_update, stepped, starts, is_process, happens, after, run_from, run}
 use Rattle.ak_wire.specs.Wire.{sent, effects_of}
 use Rattle.ak_world.specs.Fold.{IsFold, IsIn}
-use Rattle.ak_address.proofs.Elements.{any_there}
+use Rattle.ak_address.proofs.Elements.{any_there, contains_at}
 use Rattle.ak_history.proofs.ViewsMerged.{view-prefix}
 use Rattle.ak_world.proofs.FoldLemmas.{CarriesFold, Packets, no_packets, more_packets, Knows, Good, BringsFold, change_good}
-use Rattle.ak_world.proofs.IndexLemmas.{contains_at, set_at, set_back, push_at, prefix_at}
+use Rattle.ak_world.proofs.IndexLemmas.{set_at, set_back, push_at, prefix_at}
 use Rattle.ak_world.proofs.WhatHappened.{WasSent, brought, begins, steps, nobody, IsAnswer, happened}
 
 -- nothing is shown where nothing is counted

@@ -1,13 +1,9 @@
 -- What stands at an index of a list after one element is replaced, and after some more.
 use Rattle.std.proofs.Common.{◌≡◌, ◌≢◌, ℕ, zero, suc, ◌⊎◌, inl, inr, List, [], ◌∷◌, ◌++◌, length, slice_get, slice_set, Some, Contains, refl, sym, ap, ◌∙◌, subst, arith}
-use Rattle.std.proofs.lemmas.Option.{same_Some, get_or_from_slice_get, slice_get_within}
-use Rattle.ak_address.proofs.Elements.{contains_rest}
-use Rattle.ak_history.proofs.HistoryLemmas.{contains_first}
+use Rattle.std.proofs.lemmas.Option.{same_Some}
+use Rattle.ak_address.proofs.Elements.{contains_rest, contains_first}
 use Rattle.ak_node.specs.declared.node.State.{State}
 use Rattle.ak_node.specs.Node.{me_of}
-
-pub contains_at : {X : Type 0} (xs : List X) (index : ℕ) (x : X) → slice_get xs index ≡ Some x → Contains xs x
-contains_at xs index x at = (index, slice_get_within xs index x at, get_or_from_slice_get xs index x x at)
 
 -- ---- one element is replaced
 -- what is true of each other element and of the new one is true of each

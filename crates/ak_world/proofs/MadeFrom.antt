@@ -2,7 +2,7 @@
 -- entry knows all of that.
 use Rattle.std.proofs.Common.{◌≡◌, ℕ, zero, suc, ◌+◌, ◌<◌, ◌⊎◌, inl, inr, List, [], ◌∷◌, ◌++◌, length, take, Option, Some, None, option_and_then, Result, Ok, Err, slice_get, Contains, IsTrue, refl, sym, ap, ◌∙◌, subst, arith, add-one}
 use Rattle.ak_address.specs.Unique.{UniqueModel}
-use Rattle.ak_address.proofs.Elements.{contains_rest, first_or_rest, contains_nothing}
+use Rattle.ak_address.proofs.Elements.{contains_rest, first_or_rest, contains_nothing, contains_first}
 use Rattle.ak_clock.specs.Version.{Counts, Covers}
 use Rattle.ak_member.specs.declared.effect.Effect.{Effect}
 use Rattle.ak_wire.specs.declared.action.Action.{Action}
@@ -10,7 +10,7 @@ use Rattle.ak_wire.specs.Wire.{effects_of}
 use Rattle.ak_gossip.specs.Gossip.{GossipState}
 use Rattle.ak_history.specs.declared.entry.Entry.{Entry}
 use Rattle.ak_history.specs.History.{entries_of, IsNumbered, is_covered}
-use Rattle.ak_history.proofs.HistoryLemmas.{contains_first, entries-prefix, number_range}
+use Rattle.ak_history.proofs.HistoryLemmas.{entries-prefix, number_range}
 use Rattle.ak_schedule.specs.Settings.{SettingsModel}
 use Rattle.ak_schedule.specs.declared.event.Event.{Event}
 use Rattle.ak_node.specs.declared.node.State.{State}

@@ -8,7 +8,7 @@ use Rattle.std.specs.FinMap as map
 use Rattle.std.specs.Ordering.{is_eq}
 use Rattle.ak_address.specs.Unique.{UniqueModel, address_cmp, unique_cmp}
 use Rattle.ak_address.specs.Uniques.{has}
-use Rattle.ak_address.proofs.Elements.{first_or_rest, contains_nothing, contains_either, any_there}
+use Rattle.ak_address.proofs.Elements.{first_or_rest, contains_nothing, contains_either, any_there, contains_at}
 use Rattle.ak_address.proofs.OrderLemmas.{address_total}
 use Rattle.ak_address.proofs.UniquesLaws.{has-no_one}
 use Rattle.ak_clock.specs.Version.{Covers}
@@ -42,7 +42,7 @@ use Rattle.ak_world.specs.InRun.{HasStopped, RunAlone, Names}
 use Rattle.ak_world.proofs.FoldLemmas.{after_updates, from_updates}
 use Rattle.ak_world.proofs.FoldRuns.{IsSound, empty_sound, happens_next}
 use Rattle.ak_world.proofs.HeldInOrder.{step_covers}
-use Rattle.ak_world.proofs.IndexLemmas.{contains_at, set_at, set_back, set_here, set_or, set_elsewhere, push_at, prefix_at}
+use Rattle.ak_world.proofs.IndexLemmas.{set_at, set_back, set_here, set_or, set_elsewhere, push_at, prefix_at}
 use Rattle.ak_world.proofs.Naming.{member_named}
 use Rattle.ak_world.proofs.WhatHappened.{WasSent, asked, begins, steps, nobody, IsAnswer, happened}
 

@@ -2,11 +2,11 @@
 use Rattle.std.proofs.Common.{◌≡◌, ℕ, ◌+◌, Bool, inl, inr, List, [], ◌∷◌, Option, Some, Ok, slice_get, Contains, IsTrue, sym, ap, ◌∙◌, subst, arith}
 use Rattle.std.specs.Prelude.{IsSomeAnd}
 use Rattle.ak_address.specs.Unique.{UniqueModel}
-use Rattle.ak_address.proofs.Elements.{first_or_rest, contains_nothing}
+use Rattle.ak_address.proofs.Elements.{first_or_rest, contains_nothing, contains_first}
 use Rattle.ak_member.specs.declared.effect.Effect.{Effect}
 use Rattle.ak_history.specs.declared.entry.Entry.{Entry}
 use Rattle.ak_history.specs.History.{entries_of}
-use Rattle.ak_history.proofs.HistoryLemmas.{contains_first, number_range}
+use Rattle.ak_history.proofs.HistoryLemmas.{number_range}
 use Rattle.ak_schedule.specs.Settings.{SettingsModel}
 use Rattle.ak_schedule.specs.declared.event.Event.{Event}
 use Rattle.ak_wire.specs.declared.action.Action.TheVariants.{Update}

@@ -3,6 +3,7 @@ use Rattle.std.proofs.Common.{◌≡◌, ℕ, ◌+◌, ◌-◌, ◌==◌, leb, l
 use Rattle.std.proofs.lemmas.Option.{same_Some}
 use Rattle.std.specs.List.{list_any, position_or_len}
 use Rattle.ak_address.specs.Unique.{UniqueModel}
+use Rattle.ak_address.proofs.Elements.{contains_at}
 use Rattle.ak_schedule.specs.Settings.{SettingsModel, is_listed}
 use Rattle.ak_schedule.specs.declared.event.Event.{Event}
 use Rattle.ak_schedule.specs.declared.event.Event.TheVariants.{Start, Found, Join, Tick, Deliver, Leave, Down, Offer, Stop}
@@ -22,7 +23,6 @@ use Rattle.ak_node.specs.Change.{asker_in, given_by}
 use Rattle.ak_world.specs.declared.world.Reason.{Reason}
 use Rattle.ak_world.specs.declared.world.Reason.TheVariants as reason
 use Rattle.ak_world.specs.World.{WorldState, Done, stepped, gives, acts_at, acts, arrives, delivers, starts, packet_at, is_process, is_in_use, is_full, is_reached, node_of, receiver_of, most_starts, happens}
-use Rattle.ak_world.proofs.IndexLemmas.{contains_at}
 
 -- a packet that a node is given was sent
 abbrev pub WasSent : WorldState → NodeEvent → Type 0

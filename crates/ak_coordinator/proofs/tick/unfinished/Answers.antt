@@ -10,7 +10,7 @@ use Rattle.ak_coordinator.proofs.tick.unfinished.Goals as goal
 pub whos-preserved : goal.whos-preserved
 whos-preserved c =
     let p = is_unfinished c.args.margin c.args.settled.now.view in
-    fold_next (filter p) (keeps_filtered (λ xs. xs) keeps_all p) with_one (in_order c.args.whos.now) c.whos.index c.whos.left _ _ _ c.unfinished_at-who.ensures c.in_ok-add_one.ensures c.whos.invariant
+    fold_next (filter p) (keeps_filtered (λ xs. xs) keeps_all p) with_one (in_order c.args.whos.now) c.whos.index c.whos.left _ _ _ c.unfinished_at-who.ensures c.in_ok-insert_if_some.ensures.ok c.whos.invariant
 
 pub returns : goal.returns
 returns c =

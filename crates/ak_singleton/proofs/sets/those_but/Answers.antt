@@ -10,7 +10,7 @@ use Rattle.ak_singleton.proofs.sets.those_but.Goals as goal
 pub set-preserved : goal.set-preserved
 set-preserved c =
     let apart : UniqueModel → Bool = λ who. not (has c.args.others.now who) in
-    fold_next (filter apart) (keeps_filtered (λ xs. xs) keeps_all apart) with_one (in_order c.args.set.now) c.set.index c.set.rest _ _ _ c.other_at.ensures c.in_ok-add_one.ensures c.set.invariant
+    fold_next (filter apart) (keeps_filtered (λ xs. xs) keeps_all apart) with_one (in_order c.args.set.now) c.set.index c.set.rest _ _ _ c.other_at.ensures c.in_ok-insert_if_some.ensures.ok c.set.invariant
 
 pub returns : goal.returns
 returns c =
