@@ -1,28 +1,27 @@
 -- What it means that a view moved, and what a gossip that is accepted moves.
-use Rattle.std.proofs.Common.{◌≡◌, ◌==◌, ℕ, Bool, true, false, not, ◌&&◌, ◌||◌, ◌⊎◌, inl, inr, List, [], ◌∷◌, if◌then◌else◌, Option, Some, None, option_map, is_some, Result, Ok, Err, Contains, refl, sym, ap, ◌∙◌, true≢false, nat_lt}
-use Rattle.std.proofs.lemmas.Bool.{eqb-true, eq-eqb}
+use Rattle.std.proofs.Common.{◌≡◌, ℕ, Bool, true, false, not, ◌&&◌, ◌||◌, List, [], ◌∷◌, if◌then◌else◌, Option, Some, None, Result, Ok, Err, refl, sym, ap, ◌∙◌, true≢false, nat_lt}
+use Rattle.std.proofs.lemmas.Bool.{eq-eqb}
 use Rattle.std.proofs.lemmas.Option.{same_Some}
 use Rattle.std.specs.Result.{is_ok, result_ok}
 use Rattle.std.specs.List.{list_any}
 use Rattle.std.specs.FinMap as map
 use Rattle.ak_address.specs.Unique.{UniqueModel}
-use Rattle.ak_address.specs.Uniques.{has, with_one}
-use Rattle.ak_address.proofs.Elements.{contains_first, contains_rest, first_or_rest, contains_nothing}
+use Rattle.ak_address.specs.Uniques.{with_one}
 use Rattle.ak_clock.specs.Version.{count, relation}
 use Rattle.ak_clock.specs.declared.version.Relation.{Relation}
 use Rattle.ak_clock.specs.declared.version.Relation.TheVariants as clock
 use Rattle.ak_member.specs.declared.status.Status.{Status}
-use Rattle.ak_member.specs.declared.status.Status.TheVariants.{Joining, Up, Leaving, Exiting, Down}
-use Rattle.ak_member.specs.Standing.{member_of, members_of, rank, merged_standings, is_member}
+use Rattle.ak_member.specs.Standing.{members_of, rank, merged_standings, is_member}
 use Rattle.ak_member.specs.View.{View}
-use Rattle.ak_member.proofs.MembersLaws.{members_have}
 use Rattle.ak_gossip.specs.declared.gossip.Received.{Received}
 use Rattle.ak_gossip.specs.declared.gossip.GossipFault.{GossipFault}
 use Rattle.ak_gossip.specs.Gossip.{GossipState, most_uniques, accepted, noted, same, seen_by, receive}
-use Rattle.ak_reach.specs.Unreachable.{unreachable_members}
+use Rattle.ak_gossip.specs.declared.gossip.GossipFault.TheVariants as faults
+use Rattle.ak_gossip.specs.GossipContracts as gossip
 use Rattle.ak_membership.specs.declared.state.MembershipState.{MembershipState}
+use Rattle.ak_membership.specs.MembershipContracts.{Receives}
 use Rattle.ak_membership.specs.Membership.{knowing}
-use Rattle.ak_membership.specs.Sight.{sight, is_same_reach, is_same_sight, is_otherwise, shows_otherwise, has_moved}
+use Rattle.ak_membership.specs.Sight.{sight, is_same_reach, is_same_sight, is_otherwise, has_moved}
 
 -- ---- the same sight
 pub or_false : (b : Bool) → (b || false) ≡ b
@@ -96,3 +95,23 @@ still_knowing m g same = λ i. record m { gossip = g; moved = moved_is i }
 
 pub knowing_by : (m : MembershipState) (g : GossipState) (v : View) (moved : Bool) → g.view ≡ v → moved ≡ (m.moved || has_moved m.gossip.view v) → record m { gossip = g; moved = moved } ≡ knowing g m
 knowing_by m g v moved same is = λ i. record m { gossip = g; moved = (is ∙ ap (λ w. m.moved || has_moved m.gossip.view w) (sym same)) i }
+
+-- ---- what accepting a gossip answered and left
+module _ (incoming : GossipState) (m : MembershipState) (after : GossipState) where
+  as_it_was : after ≡ m.gossip → record m { gossip = after } ≡ m
+  as_it_was same = ap (λ (g : GossipState). record m { gossip = g }) same
+
+  pub received_not : (fault : GossipFault) → gossip.Receives m.me m.gossip incoming (Err fault) after → Receives incoming m (Err fault) (record m { gossip = after })
+  received_not (faults.ForeignCount own theirs) is = (is.0, as_it_was is.1)
+  received_not (faults.TooManyUniques union) is = (is.0, as_it_was is.1)
+  received_not faults.NoMemory is = as_it_was is
+
+  received_as : ((r : Received × GossipState) → receive m.me m.gossip incoming ≡ Ok r → r.1.view ≡ m.gossip.view) → (result : Result Received GossipFault) → gossip.Receives m.me m.gossip incoming result after → Receives incoming m result (record m { gossip = after })
+  received_as view (Ok received) is = (after, is, still_knowing m after (view (received, after) is))
+  received_as view (Err fault) is = received_not fault is
+
+  pub received_same : relation m.gossip.version incoming.version ≡ clock.Same → (result : Result Received GossipFault) → gossip.Receives m.me m.gossip incoming result after → Receives incoming m result (record m { gossip = after })
+  received_same same result is = received_as (same_view m.me m.gossip incoming same) result is
+
+  pub received_older : relation m.gossip.version incoming.version ≡ clock.After → (result : Result Received GossipFault) → gossip.Receives m.me m.gossip incoming result after → Receives incoming m result (record m { gossip = after })
+  received_older older result is = received_as (older_view m.me m.gossip incoming older) result is

@@ -155,10 +155,10 @@ module _ (given : Given) (m : MembershipState) where
       learns_if (leads m) (λ is. updating_any m (leaders_effects m.gossip.view m.confirmed) itself (inl known, leading_causes given m (and_first (has_settled m) _ is))) (λ no. still))))
 
   -- what an update leaves for the tick to count
-  record Leaves (o : Outcome) : Type 0 where
-    ticks : o.0.ticks ≡ m.ticks
-    settings : o.0.settings ≡ m.settings
-    settled : o.0.settled ≡ m.settled
+  pub record Leaves (o : Outcome) : Type 0 where
+    pub ticks : o.0.ticks ≡ m.ticks
+    pub settings : o.0.settings ≡ m.settings
+    pub settled : o.0.settled ≡ m.settled
 
   leaves_if : (b : Bool) (o p : Outcome) → Leaves o → Leaves p → Leaves (if b then o else p)
   leaves_if true o p x y = x
@@ -171,7 +171,7 @@ module _ (given : Given) (m : MembershipState) where
   update_any_leaves [] = record { ticks = refl; settings = refl; settled = refl }
   update_any_leaves (x ∷ effects) = update_leaves (x ∷ effects)
 
-  updates_leave : Leaves (updates m)
+  pub updates_leave : Leaves (updates m)
   updates_leave =
       leaves_if (observes m) (update (Observed (silent m) ∷ []) m) _ (update_leaves (Observed (silent m) ∷ []))
       (leaves_if (decides m) (update (decided m) m) _ (update_leaves (decided m))

@@ -5,7 +5,7 @@ use Rattle.std.specs.List.{list_any, fold, filter}
 use Rattle.ak_address.specs.Unique.{UniqueModel}
 use Rattle.ak_address.specs.Uniques.{UniqueSet, no_one, has, with_one, those, in_order, set_of}
 use Rattle.ak_address.proofs.CountersLaws.{among-filter, has-set_of, set_of-in_order, set_walked}
-use Rattle.ak_address.proofs.UniquesLaws.{same_uniques, has-those}
+use Rattle.ak_address.proofs.UniquesLaws.{same_uniques, has-no_one, has-those}
 use Rattle.ak_member.specs.declared.status.Status.{Status}
 use Rattle.ak_member.specs.declared.standing.Standing.{Standing}
 use Rattle.ak_member.specs.declared.standing.Standing.TheVariants.{Member, Buried}
@@ -56,3 +56,6 @@ those_walked p set = set_walked (filter p (in_order set)) ∙ same_uniques (set_
   where
     each : (who : UniqueModel) → has (set_of (filter p (in_order set))) who ≡ has (those set p) who
     each who = has-set_of (filter p (in_order set)) who ∙ among-filter p (in_order set) who ∙ ap (λ b. b && p who) (sym (has-set_of (in_order set) who) ∙ ap (λ s. has s who) (set_of-in_order set)) ∙ sym (has-those set p who)
+
+pub none_those : (p : UniqueModel → Bool) → no_one ≡ those no_one p
+none_those p = same_uniques no_one (those no_one p) (λ who. has-no_one who ∙ sym (has-those no_one p who ∙ ap (λ b. b && p who) (has-no_one who)))

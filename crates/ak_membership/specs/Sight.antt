@@ -1,6 +1,6 @@
 -- What a view shows of a member: its status, and whether it is unreachable. Up numbers and tombstones do not count. A resolver
 -- decides only when all of this stood still for a while (Akka's Split Brain Resolver, "stable-after").
-use Rattle.std.specs.Prelude.{◌==◌, ℕ, Bool, true, false, ◌&&◌, ◌||◌, not, Option, Some, None, option_map}
+use Rattle.std.specs.Prelude.{◌==◌, Bool, true, false, ◌&&◌, ◌||◌, not, Option, Some, None, option_map}
 use Rattle.std.specs.List.{list_any}
 use Rattle.std.specs.FinMap as map
 use Rattle.ak_address.specs.Unique.{UniqueModel}

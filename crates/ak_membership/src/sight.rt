@@ -1,4 +1,4 @@
-ghost use Rattle.std.specs.Prelude.{◌≡◌, slice_get, option_to_list};
+ghost use Rattle.std.specs.Prelude.{◌≡◌, ◌||◌, slice_get, option_to_list};
 ghost use Rattle.std.specs.List.{list_any};
 ghost use Rattle.std.specs.FinMap as map;
 ghost use Rattle.ak_member.specs.Standing.{member_pairs};
@@ -77,9 +77,16 @@ fn shows_otherwise(one: &Gossip, other: &Gossip) -> bool
     false
 }
 
-/// Whether two views do not show the same members, each with the same status and reachability. Takes no memory.
-pub(crate) fn has_moved(old: &Gossip, new: &Gossip) -> bool
+// Two views do not show the same members, each with the same status and reachability.
+fn has_moved(old: &Gossip, new: &Gossip) -> bool
     ensures { result ≡ sights.has_moved old.now.view new.now.view }
 {
     shows_otherwise(old, new) || shows_otherwise(new, old)
+}
+
+/// Whether members were shown otherwise before, or are now. Takes no memory.
+pub(crate) fn moves(moved: bool, old: &Gossip, new: &Gossip) -> bool
+    ensures { result ≡ (moved || sights.has_moved old.now.view new.now.view) }
+{
+    moved || has_moved(old, new)
 }

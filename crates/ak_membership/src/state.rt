@@ -18,7 +18,7 @@ use crate::lost::{has_lost, lacks, members_among, some_counts};
 use crate::members::{
     downed_beside, has_member_beside, is_down, is_joining, is_known, is_up, joining_addresses,
 };
-use crate::sight::has_moved;
+use crate::sight::moves;
 use ak_address::{Address, Unique, Uniques};
 use ak_clock::{BOUND, Relation, Version};
 use ak_converge::{converged, settled_by};
@@ -27,7 +27,7 @@ use ak_downing::{decide, downs};
 use ak_gossip::{Gossip, GossipFault, Received};
 use ak_leader::{actions, founding, leader};
 use ak_member::{Effect, Effects, Status};
-use ak_schedule::Settings;
+use ak_schedule::{Settings, Strategy};
 use ak_select::peer;
 use ak_settled::Settled;
 use std::alloc::{AllocError, Global};
@@ -177,7 +177,7 @@ impl MembershipState {
     {
         let before = self.gossip.copy(alloc)?;
         let number = self.gossip.update(alloc, &self.me, &effects)?;
-        self.moved = self.moved || has_moved(&before, &self.gossip);
+        self.moved = moves(self.moved, &before, &self.gossip);
         Ok(Change {
             number: Some(number),
             effects,
@@ -355,7 +355,8 @@ impl MembershipState {
         match self.gossip.version().compare(incoming.version()) {
             Relation::Concurrent => return self.merge(alloc, incoming),
             Relation::Before => return self.replace_by(alloc, incoming),
-            _ => return self.gossip.receive(alloc, &self.me, incoming),
+            Relation::Same => return self.gossip.receive(alloc, &self.me, incoming),
+            Relation::After => return self.gossip.receive(alloc, &self.me, incoming),
         }
     }
 
@@ -364,10 +365,14 @@ impl MembershipState {
         requires { relation self.old.gossip.version incoming.now.version ≡ clock.Before }
         ensures { Receives incoming.now self.old result self.new }
     {
-        let moved = self.moved || has_moved(&self.gossip, incoming);
-        let received = self.gossip.receive(alloc, &self.me, incoming)?;
-        self.moved = moved;
-        Ok(received)
+        let moved = moves(self.moved, &self.gossip, incoming);
+        match self.gossip.receive(alloc, &self.me, incoming) {
+            Ok(received) => {
+                self.moved = moved;
+                return Ok(received);
+            }
+            Err(fault) => return Err(fault),
+        }
     }
 
     // Each knows what the other does not.
@@ -378,9 +383,13 @@ impl MembershipState {
             Ok(before) => before,
             Err(_) => return Err(GossipFault::NoMemory),
         };
-        let received = self.gossip.receive(alloc, &self.me, incoming)?;
-        self.moved = self.moved || has_moved(&before, &self.gossip);
-        Ok(received)
+        match self.gossip.receive(alloc, &self.me, incoming) {
+            Ok(received) => {
+                self.moved = moves(self.moved, &before, &self.gossip);
+                return Ok(received);
+            }
+            Err(fault) => return Err(fault),
+        }
     }
 
     // A gossip knows the node, as a member or as a tombstone.
@@ -565,13 +574,19 @@ impl MembershipState {
             && has_lost(self.gossip.members(), self.gossip.rows(), &self.me)
     }
 
+    fn strategy(&self) -> Strategy
+        ensures { result ≡ self.now.settings.strategy }
+    {
+        self.settings.strategy
+    }
+
     fn decided(&self, alloc: Global) -> Result<Effects, AllocError>
         ensures { IfOk result (λ effects. effects ≡ ticks.decided self.now) }
     {
         self.gossip.invariant();
         let members = self.gossip.members();
         let rows = self.gossip.rows();
-        let decision = decide(&self.settings.strategy, members, rows, &self.me);
+        let decision = decide(&self.strategy(), members, rows, &self.me);
         let effects = downs(alloc, decision, members, rows, &self.me)?;
         Ok(effects)
     }

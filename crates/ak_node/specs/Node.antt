@@ -67,8 +67,7 @@ abbrev pub to_process : State → UniqueModel → Message → Action
 to_process n to what = action.TheVariants.Send (record { from = me_of n; to = to.address; uid = to.uid; message = what })
 
 abbrev pub to_each : State → List UniqueModel → Message → List Action
-to_each n [] what = []
-to_each n (to ∷ rest) what = to_process n to what ∷ to_each n rest what
+to_each n whos what = map (λ to. to_process n to what) whos
 
 abbrev pub to_address : State → AddressModel → Message → Action
 to_address n to what = action.TheVariants.Send (record { from = me_of n; to = to; uid = 0; message = what })

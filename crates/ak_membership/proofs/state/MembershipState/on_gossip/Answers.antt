@@ -1,8 +1,8 @@
+use Rattle.ak_membership.proofs.RuleLemmas.{passed_over, is_received}
 use Rattle.std.proofs.Common.{Ok, refl, ap, ◌∙◌}
 use Rattle.ak_address.specs.Uniques.{has}
 use Rattle.ak_membership.specs.declared.state.MembershipState.{MembershipState}
-use Rattle.ak_membership.specs.Membership.{hears}
-use Rattle.ak_membership.proofs.RuleLemmas.{passed_over, is_received}
+use Rattle.ak_membership.specs.Membership.{hears, knowing}
 use Rattle.ak_membership.proofs.state.MembershipState.on_gossip.Goals as goal
 
 pub returns-then-not-is_known_in : goal.returns-then-not-is_known_in
@@ -10,8 +10,13 @@ returns-then-not-is_known_in c = (_, passed_over c.args.incoming.now c.args.self
 
 pub returns-in-Ok : goal.returns-in-Ok
 returns-in-Ok c =
-    let after : MembershipState = record c.args.self.now { gossip = c.receive.new.self } in (
+    let r = c.in-Ok.ensures in
+    let after = knowing r.0 c.args.self.now in (
       _,
-      is_received c.args.incoming.now c.args.self.now (Ok (c.in-Ok.received, c.receive.new.self)) c.if-not-is_known_in.ensures c.in-Ok.ensures,
-      record { state_after = refl; change_told = c.hears.ensures ∙ ap (λ known. (hears known c.in-Ok.received after).1) (c.contains-known.ensures ∙ ap (λ s. has s c.args.self.now.me) c.seen.ensures) },
+      is_received c.args.incoming.now c.args.self.now (Ok (c.in-Ok.received, r.0)) c.if-not-is_known_in.ensures r.1,
+      record {
+        state_after = r.2;
+        change_told = c.hears.ensures ∙ ap (λ (m : MembershipState). (hears c.contains-known.result c.in-Ok.received m).1) r.2
+            ∙ ap (λ known. (hears known c.in-Ok.received after).1) (c.contains-known.ensures ∙ ap (λ s. has s c.args.self.now.me) c.seen.ensures);
+      },
     )
