@@ -339,10 +339,11 @@ impl State {
         ensures { OnOk result (actions.new ≡ actions.old ++ rules.ends self.now) }
     {
         let settled = self.membership.settled();
-        let mut index = 0;
-        'ended: while let Some(who) = settled.just_ended(index) {
-            actions.push(Action::MarginEnd(who.copy(alloc)?))?;
-            index += 1;
+        'ended: for index in 0..settled.just_ended_len() {
+            if let Some(who) = settled.just_ended(index) {
+                let who = who.copy(alloc)?;
+                actions.push(Action::MarginEnd(who))?;
+            }
         }
         Ok(())
     }

@@ -1,4 +1,4 @@
-ghost use Rattle.std.specs.Prelude.{◌≡◌, ◌≤◌, IfOk, OnOk, OnErr, slice_get, option_copied, option_map, option_to_list, is_some};
+ghost use Rattle.std.specs.Prelude.{◌≡◌, ◌≤◌, IfOk, OnOk, OnErr, length, slice_get, option_copied, option_map, option_to_list, is_some};
 ghost use Rattle.std.specs.Prelude as list;
 ghost use Rattle.std.specs.List.{fold};
 ghost use Rattle.std.specs.FinMap as map;
@@ -106,6 +106,13 @@ impl Settled {
         self.counters.raise_all(margin);
     }
 
+    /// How many have a counter that reached the margin in the last tick. Takes no memory.
+    pub fn just_ended_len(&self) -> usize
+        ensures { result ≡ length self.now.just_ended }
+    {
+        marked_in(&self.counters)
+    }
+
     /// Of those whose counter reached the margin in the last tick the one at an index, from 0 on in the order of
     /// processes; none past the end. Takes no memory.
     pub fn just_ended(&self, index: usize) -> Option<&Unique>
@@ -165,6 +172,18 @@ fn marked_in_pair(counters: &Table<Ticks>, pair: usize) -> Option<&Unique>
         }
         None => None,
     }
+}
+
+fn marked_in(counters: &Table<Ticks>) -> usize
+    ensures { result ≡ length (marked counters.now) }
+{
+    let mut count = 0;
+    'pairs: for pair in 0..counters.len() {
+        if marked_in_pair(counters, pair).is_some() {
+            count += 1;
+        }
+    }
+    count
 }
 
 fn marked_at(counters: &Table<Ticks>, index: usize) -> Option<&Unique>

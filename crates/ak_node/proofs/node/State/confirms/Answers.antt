@@ -1,5 +1,6 @@
 use Rattle.std.proofs.Common.{◌≡◌, ◌++◌, [], ◌∷◌, ap, ◌∙◌, arith}
 use Rattle.std.specs.FinMap as finmap
+use Rattle.ak_address.specs.Unique.{UniqueModel}
 use Rattle.ak_gossip.specs.Gossip.{GossipState}
 use Rattle.ak_member.specs.Standing.{Standings}
 use Rattle.ak_wire.specs.declared.action.Action.{Action}
@@ -16,7 +17,7 @@ pairs-init c =
 
 pub pairs-preserved : goal.pairs-preserved
 pairs-preserved c =
-    let each = λ to. to_process c.args.self.now to message.ExitingConfirmed in
+    let each : UniqueModel → Action = λ to. to_process c.args.self.now to message.ExitingConfirmed in
     let es = finmap.entries c.members-members.result.now in
     elim c.match-counted_at_pair.branch [
       | in-Some+in_ok-action+in_ok-push w ↦
