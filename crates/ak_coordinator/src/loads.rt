@@ -1,14 +1,14 @@
-ghost use Rattle.std.specs.Prelude.{◌≡◌, ◌≤◌, ◌++◌, ◌∷◌, [], length, IfOk, OnOk, option_to_list, slice_get};
+ghost use Rattle.std.specs.Prelude.{◌≡◌, ◌≤◌, ◌<◌, ◌++◌, ◌∷◌, [], length, IfOk, OnOk, option_to_list, slice_get};
 ghost use Rattle.std.specs.Prelude as list;
-ghost use Rattle.std.specs.List.{filter};
 ghost use Rattle.std.specs.FinMap as map;
+ghost use Rattle.ak_address.specs.Counters.{counter};
 ghost use Rattle.ak_address.specs.Unique.{UniqueModel};
 ghost use Rattle.ak_member.specs.Standing.{Standings};
-ghost use Rattle.ak_coordinator.specs.Entry.{is_at};
 ghost use Rattle.ak_coordinator.specs.Coordinator.{less_one, loads_among};
+ghost use Rattle.ak_coordinator.specs.Homes.{with_home, AreHomes, loads_counted};
 
 use crate::entry::Entry;
-use ak_address::{Unique, Uniques};
+use ak_address::{Table, Unique, Uniques};
 use ak_allocation::Load;
 use ak_member::Members;
 use std::alloc::{AllocError, Global};
@@ -47,30 +47,53 @@ pub(crate) fn lightened(
     Ok(lightened)
 }
 
-// How many shards have their home at the node.
-fn homes_at(entries: &[Entry], who: &Unique) -> u32
-    requires { length entries.now ≤ 1000 }
-    ensures { result ≡ length (filter (is_at who.now) entries.now) }
+// The shards that were counted at the node; 0 where none was.
+fn count_of(counts: &Table<u32>, who: &Unique) -> u32
+    ensures { result ≡ counter counts.now who.now }
 {
-    let mut homes: u32 = 0;
-    'entries: for entry in entries {
-        if entry.is_at(who) {
-            homes += 1;
-        }
+    match counts.get(who) {
+        Some(count) => *count,
+        None => 0,
     }
-    homes
+}
+
+// One shard more at the home of a shard, where it has one.
+fn count_home(alloc: Global, counts: &mut Table<u32>, entry: &Entry) -> Result<(), AllocError>
+    requires { (who : UniqueModel) → counter counts.old who < 1000 }
+    ensures { OnOk result (counts.new ≡ with_home counts.old entry.now.home) }
+{
+    let Some(home) = &entry.home else {
+        return Ok(());
+    };
+    let count = count_of(counts, &home.owner) + 1;
+    if counts.update(&home.owner, count) {
+        return Ok(());
+    }
+    let owner = home.owner.copy(alloc)?;
+    counts.insert(owner, count)
+}
+
+// How many shards have their home at each node: one walk along the shards, each home looked up by halves.
+fn homes_in(alloc: Global, entries: &[Entry]) -> Result<Table<u32>, AllocError>
+    requires { length entries.now ≤ 1000 }
+    ensures { IfOk result (λ counts. AreHomes entries.now counts) }
+{
+    let mut counts = Table::empty(alloc);
+    'entries: for entry in entries {
+        count_home(alloc, &mut counts, entry)?;
+    }
+    Ok(counts)
 }
 
 // The load of the member at a pair, where it is Up and has granted.
 fn load_at(
     alloc: Global,
-    entries: &[Entry],
+    counts: &Table<u32>,
     granted: &Uniques,
     members: &Members,
     pair: usize,
 ) -> Result<Option<Load>, AllocError>
-    requires { length entries.now ≤ 1000 }
-    ensures { IfOk result (λ load. option_to_list load ≡ loads_among entries.now granted.now (option_to_list (slice_get (map.entries members.now) pair))) }
+    ensures { IfOk result (λ load. option_to_list load ≡ loads_counted counts.now granted.now (option_to_list (slice_get (map.entries members.now) pair))) }
 {
     let Some(member) = members.member_at_pair(pair) else {
         return Ok(None);
@@ -79,7 +102,7 @@ fn load_at(
         return Ok(None);
     }
     let unique = member.unique.copy(alloc)?;
-    let shards = homes_at(entries, member.unique);
+    let shards = count_of(counts, member.unique);
     Ok(Some(Load { unique, shards }))
 }
 
@@ -93,6 +116,23 @@ fn push_load(loads: &mut Vec<Load>, load: Option<Load>) -> Result<(), AllocError
     Ok(())
 }
 
+// The loads of the Up members that have granted, as counted.
+fn loads_by(
+    alloc: Global,
+    counts: &Table<u32>,
+    granted: &Uniques,
+    members: &Members,
+) -> Result<Vec<Load>, AllocError>
+    ensures { IfOk result (λ loads. loads.items ≡ loads_counted counts.now granted.now (map.entries members.now)) }
+{
+    let mut loads = Vec::new(alloc);
+    'pairs: for pair in 0..members.uniques() {
+        let load = load_at(alloc, counts, granted, members, pair)?;
+        push_load(&mut loads, load)?;
+    }
+    Ok(loads)
+}
+
 // The loads of the Up members that have granted.
 pub(crate) fn loads_in(
     alloc: Global,
@@ -103,10 +143,6 @@ pub(crate) fn loads_in(
     requires { length entries.now ≤ 1000 }
     ensures { IfOk result (λ loads. loads.items ≡ loads_among entries.now granted.now (map.entries members.now)) }
 {
-    let mut loads = Vec::new(alloc);
-    'pairs: for pair in 0..members.uniques() {
-        let load = load_at(alloc, entries, granted, members, pair)?;
-        push_load(&mut loads, load)?;
-    }
-    Ok(loads)
+    let counts = homes_in(alloc, entries)?;
+    loads_by(alloc, &counts, granted, members)
 }

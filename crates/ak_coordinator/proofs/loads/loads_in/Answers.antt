@@ -1,25 +1,10 @@
-use Rattle.std.proofs.Common.{◌++◌, ◌+◌, drop, append_assoc, append-nil, sym, ap, ◌∙◌, arith}
+use Rattle.std.proofs.Common.{◌≡◌, IfOk, subst}
 use Rattle.std.specs.FinMap as map
-use Rattle.ak_member.proofs.MemberLemmas.{kept_pair, kept_at_end}
-use Rattle.ak_coordinator.specs.Coordinator.{loads_among}
-use Rattle.ak_coordinator.proofs.LoadLemmas.{keeps_loads}
+use Rattle.ak_coordinator.proofs.LoadLemmas.{counted_loads}
 use Rattle.ak_coordinator.proofs.loads.loads_in.Goals as goal
-
-pub pairs-preserved : goal.pairs-preserved
-pairs-preserved c =
-    let kept = loads_among c.args.entries.now c.args.granted.now in
-    let keeps = keeps_loads c.args.entries.now c.args.granted.now in
-    let pairs = map.entries c.args.members.now in
-    ap (λ l. l ++ kept (drop (c.pairs.pair + 1) pairs)) c.in_ok-push_load.ensures
-    ∙ append_assoc c.pairs.loads.items _ _
-    ∙ ap (λ l. c.pairs.loads.items ++ l) (sym (kept_pair kept keeps pairs c.pairs.pair c.in_ok-load.load c.in_ok-load.ensures))
-    ∙ c.pairs.invariant
 
 pub returns : goal.returns
 returns c =
-    let kept = loads_among c.args.entries.now c.args.granted.now in
-    let keeps = keeps_loads c.args.entries.now c.args.granted.now in
-    let pairs = map.entries c.args.members.now in
-    sym (append-nil c.pairs.loads.items)
-    ∙ ap (λ l. c.pairs.loads.items ++ l) (sym (kept_at_end kept keeps pairs c.pairs.pair (let past = map.len-entries c.args.members.now in omega arith)))
-    ∙ c.pairs.invariant
+    subst (λ wanted. IfOk c.loads_by.result (λ loads. loads.items ≡ wanted))
+    (counted_loads c.args.entries.now c.in_ok-counts.counts (λ who. c.in_ok-counts.ensures who) c.args.granted.now (map.entries c.args.members.now))
+    c.loads_by.ensures
