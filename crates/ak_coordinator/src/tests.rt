@@ -202,22 +202,6 @@ fn ticks(
     Ok(found.as_slice() == wanted)
 }
 
-// Whether these are the loads, where a, b and c have granted.
-fn has_loads(
-    alloc: Global,
-    table: &Coordinator,
-    standings: &[Standing],
-    wanted: &[(u8, u32)],
-) -> Result<bool, Fail> {
-    let granted = set_of(alloc, b"abc")?;
-    let settled = settled(alloc, standings)?;
-    let mut found = Vec::new(alloc);
-    for load in &table.loads(alloc, &granted, &settled)? {
-        found.push((letter(&load.unique), load.shards))?;
-    }
-    Ok(found.as_slice() == wanted)
-}
-
 #[test]
 fn a_free_shard_is_placed_once(rt: HostRuntime) -> Result<(), Fail> {
     let alloc = rt.alloc();
@@ -328,8 +312,6 @@ fn an_overloaded_node_gives_a_shard_away(rt: HostRuntime) -> Result<(), Fail> {
         let turn = Turn::Learn(b'b', shard, 1, true);
         assert_eq!(rt; take(alloc, &mut table, turn)?, (b'b', 1));
     }
-    let loads = [(b'a', 0), (b'b', 2)];
-    assert!(rt; has_loads(alloc, &table, &[UP, UP, EXITING, UP], &loads)?);
     let begun = [(b'b', 3, 1, b'a'), (b'b', 3, 1, b'b'), (b'b', 3, 1, b'c')];
     assert!(rt; ticks(alloc, &mut table, &[UP, UP], &begun)?);
     assert!(rt; ticks(alloc, &mut table, &[UP, UP], &begun)?);
