@@ -309,8 +309,8 @@ impl State {
         match self.membership.gossip_peer(word) {
             Some(to) => {
                 let gossip = self.membership.gossip().copy(alloc)?;
-                let action = self.to_process(alloc, to, Message::Gossip(gossip))?;
-                actions.push(action)
+                let message = Message::Gossip(gossip);
+                actions.push(self.to_process(alloc, to, message)?)
             }
             None => Ok(()),
         }
