@@ -16,11 +16,12 @@ use Rattle.ak_line.specs.Grows.{Grows}
 use Rattle.ak_schedule.specs.Settings.{SettingsModel}
 use Rattle.ak_schedule.specs.declared.event.Event.{Event}
 use Rattle.ak_node.specs.Node.{known}
+use Rattle.ak_world.specs.InRun.{WasStarted, IsNamedIn, written}
 use Rattle.ak_world.specs.RunLine.{IsAged, line_of}
 use Rattle.ak_world.specs.SettledLine.{WasSettled, IsOverHalf}
 use Rattle.ak_world.specs.World.{WorldState, empty_world, run}
 use Rattle.ak_world.proofs.FoldRuns.{Next, run_next, run_sound, run_folds, run-append}
-use Rattle.ak_world.proofs.Processes.{IsThere, processes}
+use Rattle.ak_world.proofs.InRunLemmas.{named_started}
 use Rattle.ak_world.proofs.Rises.{did_then, did_back, removed_more}
 use Rattle.ak_world.proofs.SettledRuns.{in_parts, in_line, settled_later}
 
@@ -92,7 +93,10 @@ line_grows settings events more quorum =
     }
 
 -- ---- nobody has aged that was not started
-pub aged_there : (settings : SettingsModel) (events : List Event) (v : Counts) (who : UniqueModel) → IsAged (run settings events).history v who → IsThere (run settings events).nodes who
-aged_there settings events v who (inl rose) = (processes settings events).written rose.2.entry (Rise who rose.0 rose.1) who rose.2.in_history rose.2.does refl
-aged_there settings events v who (inr (inl d)) = (processes settings events).written d.entry (Removed who true) who d.in_history d.does refl
-aged_there settings events v who (inr (inr d)) = (processes settings events).written d.entry (Removed who false) who d.in_history d.does refl
+pub aged_started : (settings : SettingsModel) (events : List Event) (v : Counts) (who : UniqueModel) → IsAged (run settings events).history v who → WasStarted settings (run settings events).nodes who
+aged_started settings events v who aged = named_started settings events who (by_entry aged)
+  where
+    by_entry : IsAged (run settings events).history v who → IsNamedIn (run settings events) who
+    by_entry (inl rose) = written rose.2.entry (Rise who rose.0 rose.1) rose.2.in_history rose.2.does refl
+    by_entry (inr (inl d)) = written d.entry (Removed who true) d.in_history d.does refl
+    by_entry (inr (inr d)) = written d.entry (Removed who false) d.in_history d.does refl

@@ -1,3 +1,4 @@
+pub mod Ages
 pub mod Agreed
 pub mod AsLine
 pub mod Basis
@@ -15,6 +16,7 @@ pub mod IndexLemmas
 pub mod MadeFrom
 pub mod Naming
 pub mod Noted
+pub mod NotedLine
 pub mod OneFounder
 pub mod Processes
 pub mod RaisedBySteps

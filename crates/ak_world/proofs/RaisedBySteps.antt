@@ -168,7 +168,7 @@ module _ (settings : SettingsModel) (r : Remembered) (k : Raised settings r) whe
 
       cause_may : (entry : Entry) → entry.author ≡ me_of n → (x : Effect) → IsCause (given_by e) n.membership entry.effects x → MayDo r size entry (known n).version x
       cause_may entry author (Joined who) cause = tt
-      cause_may entry author (Rise who Joining number) cause = tt
+      cause_may entry author (Rise who Joining number) cause = cause.1
       cause_may entry author (Rise who Up number) cause = (is_named who cause.0, elim cause.1.1 [ inl f ↦ inl (founding_base entry author f) | inr is ↦ inr (settled_base is) ])
       cause_may entry author (Rise who Leaving number) cause =
           let h = status_of is_up (member_of (map.get (known n).view.standings who)) cause.1 in

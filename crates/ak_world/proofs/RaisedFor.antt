@@ -37,10 +37,10 @@ MayUp r size entry base who = IsNamed r.world.history base who × (IsFoundation 
 abbrev pub WasUp : Remembered → Counts → UniqueModel → Type 0
 WasUp r base who = (number : ℕ) × Rose r.world.history base who Up number
 
--- why an entry that was made from this version has an effect: only why a member counts is told
+-- why an entry that was made from this version has an effect: told is only why a member counts, and that none is raised to Joining
 abbrev pub MayDo : Remembered → ℕ → Entry → Counts → Effect → Type 0
 MayDo r size entry base (Joined who) = Unit {0}
-MayDo r size entry base (Rise who Joining number) = Unit {0}
+MayDo r size entry base (Rise who Joining number) = ⊥
 MayDo r size entry base (Rise who Up number) = MayUp r size entry base who
 MayDo r size entry base (Rise who Leaving number) = WasUp r base who
 MayDo r size entry base (Rise who Exiting number) = Unit {0}
@@ -80,7 +80,7 @@ module _ (r s : Remembered) (g : Grows r s) (founders : FoundersStay r s) where
 
   pub may_then : (size : ℕ) (entry : Entry) (base : Counts) (x : Effect) → IsBounded r.world.history base → MayDo r size entry base x → MayDo s size entry base x
   may_then size entry base (Joined who) bounded may = tt
-  may_then size entry base (Rise who Joining number) bounded may = tt
+  may_then size entry base (Rise who Joining number) bounded may = may
   may_then size entry base (Rise who Up number) bounded may = (
     subst (λ h. IsNamed h base who) (sym g.grown) (named_then g.more r.world.history base who may.0),
     elim may.1 [ inl f ↦ inl (foundation_then entry base bounded f) | inr a ↦ inr (agreed_then r s g size base a) ],
