@@ -6,6 +6,8 @@ mod fold_tests;
 mod laws;
 #[cfg(test)]
 mod life_tests;
+#[cfg(test)]
+mod line_tests;
 mod print;
 #[cfg(test)]
 mod seen_tests;
