@@ -44,7 +44,7 @@ up_is Leaving is = absurd (true≢false (sym is))
 up_is Exiting is = absurd (true≢false (sym is))
 up_is Down is = absurd (true≢false (sym is))
 
--- the row of an update
+-- an entry is the update, made from what the author knew
 record IsUpdate (me : UniqueModel) (own : Counts) (k : Knowledge) (entry : Entry) (base : Counts) : Type 0 where
   updates : k ≡ Updates entry.effects
   author : entry.author ≡ me
