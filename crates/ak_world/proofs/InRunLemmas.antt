@@ -31,7 +31,7 @@ use Rattle.ak_world.proofs.Processes.{IsThere, processes}
 use Rattle.ak_world.proofs.SeenHeld.{seen_held}
 
 -- a list is one of its first parts and the rest
-take_rest : (time : ℕ) (events : List Event) → (more : List Event) × (events ≡ take time events ++ more)
+pub take_rest : (time : ℕ) (events : List Event) → (more : List Event) × (events ≡ take time events ++ more)
 take_rest zero events = (events, refl)
 take_rest (suc time) [] = ([], refl)
 take_rest (suc time) (e ∷ events) = let h = take_rest time events in (h.0, ap (λ (l : List Event). e ∷ l) h.1)

@@ -207,7 +207,7 @@ one_more settings past e u v h = record {
 abbrev AllHeld : SettingsModel → List Event → Remembered → Type 0
 AllHeld settings past r = (u : UniqueModel) (v : Counts) → Contains r.held (u, v) → WasHeld settings past u v
 
-no_more : (l : List Event) → l ++ [] ≡ l
+pub no_more : (l : List Event) → l ++ [] ≡ l
 no_more [] = refl
 no_more (x ∷ l) = ap (λ (m : List Event). x ∷ m) (no_more l)
 
@@ -253,7 +253,7 @@ all_held settings past r (e ∷ events) is_run all =
     subst (λ (l : List Event). AllHeld settings l (remembered_from settings (remembers_answer r (happens settings e r.world)) events)) (append_assoc past (e ∷ []) events)
     (all_held settings (past ++ e ∷ []) (remembers_answer r (happens settings e r.world)) events (next_world settings past e r is_run all) (next_held settings past e r is_run all))
 
-take_first : (first more : List Event) → take (length first) (first ++ more) ≡ first
+pub take_first : (first more : List Event) → take (length first) (first ++ more) ≡ first
 take_first [] more = refl
 take_first (x ∷ first) more = ap (λ (l : List Event). x ∷ l) (take_first first more)
 

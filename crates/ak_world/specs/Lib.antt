@@ -2,6 +2,8 @@ pub mod Fold
 pub mod Held
 pub mod InRun
 pub mod Remembered
+pub mod RunLine
+pub mod SettledLine
 pub mod StepText
 pub mod World
 pub mod WorldContracts

@@ -1,10 +1,10 @@
-ghost use Rattle.std.specs.Prelude.{◌≡◌, ℕ, ◌+◌, ◌≤◌, List, ◌++◌, take, slice_get, Some, Ok, Contains, IsTrue, IsSomeAnd};
+ghost use Rattle.std.specs.Prelude.{◌≡◌, ◌⊎◌, ℕ, ◌+◌, ◌≤◌, List, ◌++◌, take, slice_get, Some, Ok, Contains, IsTrue, IsSomeAnd};
 ghost use Rattle.ak_address.specs.Unique.{UniqueModel};
 ghost use Rattle.ak_address.specs.Uniques.{has};
 ghost use Rattle.ak_clock.specs.Version.{Counts, count, Covers};
 ghost use Rattle.ak_member.specs.declared.effect.Effect.{Effect};
 ghost use Rattle.ak_wire.specs.declared.action.Action.TheVariants.{Update};
-ghost use Rattle.ak_schedule.specs.Settings.{SettingsModel};
+ghost use Rattle.ak_schedule.specs.Settings.{SettingsModel, settling_size};
 ghost use Rattle.ak_schedule.specs.declared.event.Event.{Event};
 ghost use Rattle.ak_node.specs.declared.node.State.{State};
 ghost use Rattle.ak_node.specs.Node.{known, me_of};
@@ -15,7 +15,13 @@ ghost use Rattle.ak_history.specs.History.{entries_of, IsNumbered, is_covered};
 ghost use Rattle.ak_world.specs.World.{Done, happens, run};
 ghost use Rattle.ak_world.specs.StepText.{acting};
 ghost use Rattle.ak_world.specs.Held.{Holds, Held, Enters, Made};
+ghost use Rattle.ak_history.specs.Shown.{IsRemoved};
+ghost use Rattle.ak_line.specs.Grows.{Grows};
+ghost use Rattle.ak_line.specs.Line.{IsLine};
+ghost use Rattle.ak_settled.specs.Settled.{candidate, is_finished, needed};
 ghost use Rattle.ak_settled.specs.SettledView.{NotedView};
+ghost use Rattle.ak_world.specs.RunLine.{IsAged, line_of};
+ghost use Rattle.ak_world.specs.SettledLine.{WasSettled, IsOverHalf, AreInLine};
 ghost use Rattle.ak_world.specs.InRun.{WasStarted, HasStopped, AllServe, RunAlone, IsConfirmed, IsNamedIn, IsSettled, HasNoted};
 
 /// After any events, what each node knows and what each packet carries is the fold of the history: its members with
@@ -95,4 +101,31 @@ pub fn settled_views_are_of_the_history()
     ensures settled { (settings : SettingsModel) (events : List Event) (index : ℕ) (n : State) (noted : NotedView) → slice_get (run settings events).nodes index ≡ Some n → n.membership.settled.view ≡ Some noted → IsSettled settings events n noted }
     ensures grows { (settings : SettingsModel) (events : List Event) (i j : ℕ) (who : UniqueModel) (earlier later : Counts) → i ≤ j
         → HasNoted (run settings (take i events)) who earlier → HasNoted (run settings (take j events)) who later → Covers later earlier }
+{}
+
+/// Where the strategy is a static quorum of more than half of the listed addresses: of any two versions that were settled in a
+/// run, at whichever running nodes and after whichever events, one covers the other. What a node has noted as settled was settled.
+pub fn settled_versions_are_in_line()
+    ensures line { (settings : SettingsModel) (events : List Event) (quorum : ℕ) → IsOverHalf settings quorum → AreInLine settings events quorum }
+    ensures noted { (settings : SettingsModel) (events : List Event) (index : ℕ) (n : State) (noted : NotedView) → slice_get (run settings events).nodes index ≡ Some n → n.membership.settled.view ≡ Some noted → WasSettled settings events (settling_size settings.strategy) noted.version }
+{}
+
+/// The settled versions of a run are a line of which promises, singletons and shards may speak: who has aged and who was removed
+/// only grows along it, and is the same later in the run of a version that was settled; whoever has aged was started.
+pub fn a_run_gives_a_line()
+    ensures line { (settings : SettingsModel) (events : List Event) (quorum : ℕ) → IsOverHalf settings quorum → IsLine Counts (line_of settings events quorum) }
+    ensures grows { (settings : SettingsModel) (events more : List Event) (quorum : ℕ)
+        → Grows Counts (line_of settings events quorum) (WasSettled settings (events ++ more) quorum) (IsAged (run settings (events ++ more)).history) (IsRemoved (run settings (events ++ more)).history) }
+    ensures started { (settings : SettingsModel) (events : List Event) (version : Counts) (who : UniqueModel) → IsAged (run settings events).history version who → WasStarted settings (run settings events).nodes who }
+{}
+
+/// By the version of the settled view that a node has noted its candidate has aged and was not removed, nor was the node itself;
+/// whoever has aged is needed or finished there.
+pub fn noted_views_show_who_has_aged()
+    ensures candidate { (settings : SettingsModel) (events : List Event) (index : ℕ) (n : State) (noted : NotedView) → slice_get (run settings events).nodes index ≡ Some n → n.membership.settled.view ≡ Some noted
+        → (who : UniqueModel) → candidate (Some noted) ≡ Some who → IsAged (run settings events).history noted.version who × (¬ IsRemoved (run settings events).history noted.version who) }
+    ensures itself { (settings : SettingsModel) (events : List Event) (index : ℕ) (n : State) (noted : NotedView) → slice_get (run settings events).nodes index ≡ Some n → n.membership.settled.view ≡ Some noted
+        → ¬ IsRemoved (run settings events).history noted.version (me_of n) }
+    ensures reached { (settings : SettingsModel) (events : List Event) (index : ℕ) (n : State) (noted : NotedView) → slice_get (run settings events).nodes index ≡ Some n → n.membership.settled.view ≡ Some noted
+        → (margin : ℕ) (who : UniqueModel) → IsAged (run settings events).history noted.version who → IsTrue (has (needed margin (Some noted)) who) ⊎ IsTrue (is_finished margin (Some noted) who) }
 {}

@@ -6,16 +6,19 @@ mod fold_tests;
 mod laws;
 #[cfg(test)]
 mod life_tests;
+#[cfg(test)]
+mod line_tests;
 mod print;
 #[cfg(test)]
 mod seen_tests;
 mod world;
 
 pub use laws::{
-    confirmed_means_stopped, equal_versions_have_equal_members, later_versions_cover_earlier_ones,
-    nodes_count_their_own_updates, one_process_runs_at_an_address, running_nodes_serve,
-    settled_views_are_of_the_history, updates_number_their_entries, what_is_known_is_the_fold,
-    who_has_seen_a_version_held_it, who_is_named_was_started,
+    a_run_gives_a_line, confirmed_means_stopped, equal_versions_have_equal_members,
+    later_versions_cover_earlier_ones, nodes_count_their_own_updates,
+    noted_views_show_who_has_aged, one_process_runs_at_an_address, running_nodes_serve,
+    settled_versions_are_in_line, settled_views_are_of_the_history, updates_number_their_entries,
+    what_is_known_is_the_fold, who_has_seen_a_version_held_it, who_is_named_was_started,
     who_knows_an_entry_knows_what_its_author_knew,
 };
 pub use print::{print_step, print_summary};

@@ -14,6 +14,8 @@ ghost use Rattle.ak_gossip.specs.Gossip.{GossipState};
 ghost use Rattle.ak_settled.specs.SettledView.{NotedView};
 ghost use Rattle.ak_node.specs.declared.node.State.{State};
 ghost use Rattle.ak_world.specs.InRun.{WasStarted, HasStopped, AllServe, RunAlone, IsConfirmed, IsNamedIn, IsSettled, HasNoted};
+ghost use Rattle.ak_world.specs.SettledLine.{WasSettled, IsOverHalf, AreInLine};
+ghost use Rattle.ak_schedule.specs.Settings.{settling_size};
 ghost use Rattle.ak_world.specs.WorldContracts.{Applies, Scenes, IsReady, Acts, state_of};
 ghost use Rattle.ak_node.specs.NodeContracts.{NodeModel};
 
@@ -487,6 +489,10 @@ impl World {
     /// What a node has noted as settled is the view of the history at its version, which the process held at the end of one
     /// of its steps; what the node knows covers it, and it shows the node neither as Down nor as a tombstone. Of two versions
     /// that one process noted as settled, the later covers the earlier.
+    ///
+    /// Where the strategy is a static quorum of more than half of the listed addresses, any two versions that were settled so
+    /// far, at whichever running nodes and whenever, are comparable: one covers the other. It matters neither what was delivered
+    /// nor who stopped. What a node has noted as settled was settled.
     pub fn apply(&mut self, alloc: Global, event: &Event) -> Result<Step, Refused>
         requires { length self.old.events < 2 ^ 62 }
         ensures applied { Applies event.now self.old result self.new }
@@ -503,6 +509,8 @@ impl World {
         ensures started { self.new.spent ≡ false → (who : UniqueModel) → IsNamedIn self.new.state who → WasStarted self.new.settings self.new.state.nodes who }
         ensures settled { self.new.spent ≡ false → (index : ℕ) (n : State) (noted : NotedView) → slice_get self.new.state.nodes index ≡ Some n → n.membership.settled.view ≡ Some noted → IsSettled self.new.settings self.new.events n noted }
         ensures grows { self.new.spent ≡ false → (i j : ℕ) (who : UniqueModel) (earlier later : Counts) → i ≤ j → HasNoted (rules.run self.new.settings (take i self.new.events)) who earlier → HasNoted (rules.run self.new.settings (take j self.new.events)) who later → Covers later earlier }
+        ensures line { self.new.spent ≡ false → (quorum : ℕ) → IsOverHalf self.new.settings quorum → AreInLine self.new.settings self.new.events quorum }
+        ensures noted { self.new.spent ≡ false → (index : ℕ) (n : State) (noted : NotedView) → slice_get self.new.state.nodes index ≡ Some n → n.membership.settled.view ≡ Some noted → WasSettled self.new.settings self.new.events (settling_size self.new.settings.strategy) noted.version }
     {
         if self.is_spent {
             return Err(Refused::NoMemory);

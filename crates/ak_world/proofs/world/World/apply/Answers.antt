@@ -9,6 +9,7 @@ use Rattle.ak_world.proofs.MadeFrom.{closed-of_run}
 use Rattle.ak_world.proofs.HeldInOrder.{held_in_order}
 use Rattle.ak_world.proofs.InRunLemmas.{serve-of_run, confirmed-of_run, alone-of_run, started-of_run, settled-of_run}
 use Rattle.ak_world.proofs.Noted.{noted_in_order}
+use Rattle.ak_world.proofs.SettledRuns.{in_line, noted-of_run}
 use Rattle.ak_world.proofs.WorldLemmas.{ready_run, run-went, at-ok}
 use Rattle.ak_world.proofs.world.World.apply.Goals as goal
 
@@ -129,3 +130,20 @@ returns-then-is_ok-clause-grows c =
 pub returns-in-Err-Invalid-clause-grows : goal.returns-in-Err-Invalid-clause-grows
 returns-in-Err-Invalid-clause-grows c =
     λ alive. noted_in_order c.happens.new.self.settings c.self.inside.accepted.items
+
+pub returns-then-is_ok-clause-line : goal.returns-then-is_ok-clause-line
+returns-then-is_ok-clause-line c =
+    λ alive. in_line c.happens.new.self.settings c.keep_event.new.accepted.items
+
+pub returns-in-Err-Invalid-clause-line : goal.returns-in-Err-Invalid-clause-line
+returns-in-Err-Invalid-clause-line c =
+    λ alive. in_line c.happens.new.self.settings c.self.inside.accepted.items
+
+pub returns-then-is_ok-clause-noted : goal.returns-then-is_ok-clause-noted
+returns-then-is_ok-clause-noted c =
+    λ alive. noted-of_run c.happens.new.self.settings c.keep_event.new.accepted.items (state_of c.happens.new.self) (returns-then-is_ok-clause-run c alive)
+
+pub returns-in-Err-Invalid-clause-noted : goal.returns-in-Err-Invalid-clause-noted
+returns-in-Err-Invalid-clause-noted c =
+    let is_run : c.self.inside.is_spent ≡ false → state_of c.happens.new.self ≡ run c.happens.new.self.settings c.self.inside.accepted.items = grind (arith, common_steps) in
+    λ alive. noted-of_run c.happens.new.self.settings c.self.inside.accepted.items (state_of c.happens.new.self) (is_run alive)
