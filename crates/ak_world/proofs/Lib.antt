@@ -6,12 +6,14 @@ pub mod HeldInOrder
 pub mod InRunLemmas
 pub mod IndexLemmas
 pub mod MadeFrom
+pub mod MarginRuns
 pub mod Naming
 pub mod Noted
 pub mod Processes
 pub mod RememberedLemmas
 pub mod SeenHeld
 pub mod StepLemmas
+pub mod Told
 pub mod UpdateLemmas
 pub mod WhatHappened
 pub mod WorldLemmas

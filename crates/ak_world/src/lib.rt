@@ -6,6 +6,7 @@ mod fold_tests;
 mod laws;
 #[cfg(test)]
 mod life_tests;
+mod margin;
 mod print;
 #[cfg(test)]
 mod seen_tests;
@@ -18,5 +19,6 @@ pub use laws::{
     who_has_seen_a_version_held_it, who_is_named_was_started,
     who_knows_an_entry_knows_what_its_author_knew,
 };
+pub use margin::Margin;
 pub use print::{print_step, print_summary};
 pub use world::{Reason, Refused, Step, World};
