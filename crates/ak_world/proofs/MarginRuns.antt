@@ -1,6 +1,6 @@
 -- The margin is broken at the first end of a margin of a process that runs: so the mark that a world keeps is the one of the
 -- definition, after each event.
-use Rattle.std.proofs.Common.{◌≡◌, ◌≢◌, ℕ, zero, suc, ◌+◌, ◌<◌, ◌≤◌, Bool, true, false, ◌&&◌, ◌⊎◌, inl, inr, List, [], ◌∷◌, ◌++◌, length, take, Option, Some, None, is_some, position, Ok, slice_get, slice_set, IsTrue, refl, sym, ap, ◌∙◌, subst, arith, add-one, true≢false}
+use Rattle.std.proofs.Common.{◌≡◌, append_assoc, append-nil, ◌≢◌, ℕ, zero, suc, ◌+◌, ◌<◌, ◌≤◌, Bool, true, false, ◌&&◌, ◌⊎◌, inl, inr, List, [], ◌∷◌, ◌++◌, length, take, Option, Some, None, is_some, position, Ok, slice_get, slice_set, IsTrue, refl, sym, ap, ◌∙◌, subst, arith, add-one, true≢false, Result, Err}
 use Rattle.std.proofs.lemmas.Option.{same_Some, slice_get_within}
 use Rattle.std.specs.Ordering.{is_eq}
 use Rattle.ak_address.specs.Unique.{UniqueModel, unique_cmp}
@@ -16,9 +16,10 @@ use Rattle.ak_node.specs.Node.{me_of, started, step}
 use Rattle.ak_node.proofs.StepChanges.{step_changes}
 use Rattle.ak_world.specs.declared.margin.Margin.{Margin}
 use Rattle.ak_world.specs.declared.margin.Margin.TheVariants.{Kept, Broken}
+use Rattle.ak_world.specs.declared.world.Reason.{Reason}
 use Rattle.ak_world.specs.World.{WorldState, Done, empty_world, happens, after, run}
 use Rattle.ak_world.specs.InRun.{HasStopped, WasStarted}
-use Rattle.ak_world.specs.Margin.{IsStep, HasNumber, IsTold, stopped, IsUntold, IsBroken, IsMargin}
+use Rattle.ak_world.specs.Margin.{Runs, IsStep, HasNumber, IsTold, stopped, IsUntold, IsBroken, IsMargin}
 use Rattle.ak_world.specs.MarginMark.{runs_as, running_end, or_else, first_end, broken_by, marked}
 use Rattle.ak_world.proofs.FoldRuns.{run_sound, one_node}
 use Rattle.ak_world.proofs.IndexLemmas.{set_back, set_or, set_elsewhere, push_at, push_here, prefix_at}
@@ -26,14 +27,7 @@ use Rattle.ak_world.proofs.Told.{done_or, later_stopped, what_happened, told_sto
 use Rattle.ak_world.proofs.WhatHappened.{begins, steps, nobody, IsAnswer, Happened, happened, position_passes}
 use Rattle.ak_world.proofs.WorldLemmas.{run-push, is_some-position, position-within}
 
--- ---- a process that runs, whose margin ends
-pub record Runs (nodes : List State) (who : UniqueModel) : Type 0 where
-  pub index : ℕ
-  pub node : State
-  pub at : slice_get nodes index ≡ Some node
-  pub is_who : me_of node ≡ who
-  pub runs : IsTrue node.runs
-
+-- ---- whose margin ends
 abbrev pub Ends : List Action → ℕ → UniqueModel → Type 0
 Ends actions place who = slice_get actions place ≡ Some (MarginEnd who)
 
@@ -345,3 +339,84 @@ module _ (settings : SettingsModel) (events : List Event) (e : Event) where
 -- nothing is broken where nothing happened
 pub kept_at_first : (settings : SettingsModel) → IsMargin settings [] Kept
 kept_at_first settings time place node who u = contains_nothing u.event (contains_at [] time u.event u.did.at)
+
+-- ---- a refused event
+module _ (settings : SettingsModel) (events : List Event) (e : Event) (why : Reason) (refused : happens settings e (run settings events) ≡ Err why) where
+  none_last : (time place node : ℕ) (who : UniqueModel) (u : IsUntold settings (events ++ e ∷ []) time place node who) → time ≡ length events → u.event ≡ e → ⊥
+  none_last time place node who u is same =
+      let whole : take time (events ++ e ∷ []) ≡ events = ap (λ k. take k (events ++ e ∷ [])) is ∙ take_whole events e in
+      let accepted : happens settings e (run settings events) ≡ Ok u.done =
+      ap (λ (l : List Event). happens settings e (run settings l)) (sym whole) ∙ ap (λ x. happens settings x (run settings (take time (events ++ e ∷ [])))) (sym same) ∙ u.did.happened in
+      absurd (let both = sym refused ∙ accepted in cc)
+
+  untold_old : (time place node : ℕ) (who : UniqueModel) → IsUntold settings (events ++ e ∷ []) time place node who → IsUntold settings events time place node who
+  untold_old time place node who u = elim (old_or_new settings events e time u.event u.did.at) [
+    | inl old ↦ untold_sooner settings events e time place node who u old
+    | inr new ↦ absurd (none_last time place node who u new.0 new.1)
+  ]
+
+  same_run : run settings (events ++ e ∷ []) ≡ run settings events
+  same_run = run-push settings empty_world events e ∙ ap (after (run settings events)) refused
+
+  mark_stays : (mark : Margin) → IsMargin settings events mark → IsMargin settings (events ++ e ∷ []) mark
+  mark_stays Kept kept = λ time place node who u. kept time place node who (untold_old time place node who u)
+  mark_stays (Broken step node member) b = record {
+    time = b.time;
+    place = b.place;
+    who = b.who;
+    untold = untold_later settings events e b.time b.place node b.who b.untold;
+    first = λ later later_place other whose u. b.first later later_place other whose (untold_old later later_place other whose u);
+    step_is = b.step_is;
+    member_is = subst (λ (w : WorldState). HasNumber w.nodes member b.who) (sym same_run) b.member_is;
+  }
+
+-- ---- each list of events has a margin
+module _ (settings : SettingsModel) where
+  one_event : (events : List Event) (e : Event) (mark : Margin) → IsMargin settings events mark → (next : Margin) × IsMargin settings (events ++ e ∷ []) next
+  one_event events e mark is = by_answer (happens settings e (run settings events)) refl
+    where
+      by_answer : (a : Result Done Reason) → happens settings e (run settings events) ≡ a → (next : Margin) × IsMargin settings (events ++ e ∷ []) next
+      by_answer (Ok done) did = (marked mark (length events + 1) done, mark_goes_on settings events e done did mark is)
+      by_answer (Err why) did = (mark, mark_stays settings events e why did mark is)
+
+  more_events : (events rest : List Event) (mark : Margin) → IsMargin settings events mark → (last : Margin) × IsMargin settings (events ++ rest) last
+  more_events events [] mark is = (mark, subst (λ l. IsMargin settings l mark) (sym (append-nil events)) is)
+  more_events events (e ∷ rest) mark is =
+      let one = one_event events e mark is in
+      let more = more_events (events ++ e ∷ []) rest one.0 one.1 in
+      (more.0, subst (λ l. IsMargin settings l more.0) (append_assoc events (e ∷ []) rest) more.1)
+
+  pub some_margin : (events : List Event) → (margin : Margin) × IsMargin settings events margin
+  some_margin events = more_events [] events Kept (kept_at_first settings)
+
+-- ---- and one alone
+module _ (settings : SettingsModel) (events : List Event) where
+  -- two ends at one place of one step are one
+  same_ends : (time place node other : ℕ) (who whose : UniqueModel) → IsUntold settings events time place node who → IsUntold settings events time place other whose → (node ≡ other) × (who ≡ whose)
+  same_ends time place node other who whose u v =
+      let event_is : u.event ≡ v.event = same_Some u.event v.event (sym u.did.at ∙ v.did.at) in
+      let done_is : u.done ≡ v.done = ap (done_or u.done) (sym u.did.happened ∙ ap (λ x. happens settings x (run settings (take time events))) event_is ∙ v.did.happened) in
+      let ends : MarginEnd who ≡ MarginEnd whose = same_Some (MarginEnd who) (MarginEnd whose) (sym u.ended ∙ ap (λ (d : Done). slice_get d.actions place) done_is ∙ v.ended) in
+      (same_Some node other (sym u.acted ∙ ap (λ (d : Done). d.node) done_is ∙ v.acted), cc)
+
+  same_number : (number other : ℕ) (who whose : UniqueModel) → who ≡ whose → HasNumber (run settings events).nodes number who → HasNumber (run settings events).nodes other whose → number ≡ other
+  same_number number other who whose same h g = (run_sound settings events).apart number other h.node g.node h.at g.at (h.is_who ∙ same ∙ sym g.is_who)
+
+  same_place : (a b c d : ℕ) → (a < b) ⊎ ((a ≡ b) × (c ≤ d)) → (b < a) ⊎ ((b ≡ a) × (d ≤ c)) → (a ≡ b) × (c ≡ d)
+  same_place a b c d (inl x) (inl y) = absurd (omega arith)
+  same_place a b c d (inl x) (inr y) = let same = y.0 in absurd (omega arith)
+  same_place a b c d (inr x) (inl y) = let same = x.0 in absurd (omega arith)
+  same_place a b c d (inr x) (inr y) = let one = x.1 in let other = y.1 in (x.0, omega arith)
+
+  pub one_margin : (one other : Margin) → IsMargin settings events one → IsMargin settings events other → one ≡ other
+  one_margin Kept Kept h g = refl
+  one_margin Kept (Broken step node member) h g = absurd (h g.time g.place node g.who g.untold)
+  one_margin (Broken step node member) Kept h g = absurd (g h.time h.place node h.who h.untold)
+  one_margin (Broken step node member) (Broken step_2 node_2 member_2) h g =
+      let at = same_place h.time g.time h.place g.place (h.first g.time g.place node_2 g.who g.untold) (g.first h.time h.place node h.who h.untold) in
+      let moved : IsUntold settings events g.time g.place node h.who = subst (λ p. IsUntold settings events g.time p node h.who) at.1 (subst (λ t. IsUntold settings events t h.place node h.who) at.0 h.untold) in
+      let ends = same_ends g.time g.place node node_2 h.who g.who moved g.untold in
+      let numbers : member ≡ member_2 = same_number member member_2 h.who g.who ends.1 h.member_is g.member_is in
+      let steps_are : step ≡ step_2 = h.step_is ∙ ap (λ t. t + 1) at.0 ∙ sym g.step_is in
+      let nodes_are : node ≡ node_2 = ends.0 in
+      λ i. Broken (steps_are i) (nodes_are i) (numbers i)

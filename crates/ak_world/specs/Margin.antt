@@ -1,6 +1,6 @@
 -- Whether the removal margin of a run was kept: each process whose tombstone had waited for as long as the margin had been told
 -- before that it is out (this project's choice; Akka's Cluster Singleton, "removal-margin", waits as long, and hopes the same).
-use Rattle.std.specs.Prelude.{◌≡◌, ◌⊎◌, ℕ, ◌+◌, ◌<◌, ◌≤◌, List, slice_get, take, Some, Ok}
+use Rattle.std.specs.Prelude.{◌≡◌, ◌⊎◌, ℕ, ◌+◌, ◌<◌, ◌≤◌, List, slice_get, take, Some, Ok, IsTrue}
 use Rattle.ak_address.specs.Unique.{UniqueModel}
 use Rattle.ak_clock.specs.Version.{Counts}
 use Rattle.ak_member.specs.declared.effect.Effect.{Effect}
@@ -30,6 +30,14 @@ pub record HasNumber (nodes : List State) (number : ℕ) (who : UniqueModel) : T
   pub node : State
   pub at : slice_get nodes number ≡ Some node
   pub is_who : me_of node ≡ who
+
+-- a process runs
+pub record Runs (nodes : List State) (who : UniqueModel) : Type 0 where
+  pub index : ℕ
+  pub node : State
+  pub at : slice_get nodes index ≡ Some node
+  pub is_who : me_of node ≡ who
+  pub runs : IsTrue node.runs
 
 -- an effect downs a process, or removes it
 abbrev pub PutsOut : Effect → UniqueModel → Type 0

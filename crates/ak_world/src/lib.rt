@@ -13,10 +13,12 @@ mod seen_tests;
 mod world;
 
 pub use laws::{
-    confirmed_means_stopped, equal_versions_have_equal_members, later_versions_cover_earlier_ones,
+    confirmed_means_stopped, each_run_has_one_margin, equal_versions_have_equal_members,
+    later_versions_cover_earlier_ones, margins_break_where_members_run,
     nodes_count_their_own_updates, one_process_runs_at_an_address, running_nodes_serve,
     settled_views_are_of_the_history, updates_number_their_entries, what_is_known_is_the_fold,
     who_has_seen_a_version_held_it, who_is_named_was_started,
+    who_was_told_has_stopped,
     who_knows_an_entry_knows_what_its_author_knew,
 };
 pub use margin::Margin;
