@@ -1,6 +1,6 @@
 -- The margin is broken at the first end of a margin of a process that runs: so the mark that a world keeps is the one of the
 -- definition, after each event.
-use Rattle.std.proofs.Common.{◌≡◌, append_assoc, append-nil, ◌≢◌, ℕ, zero, suc, ◌+◌, ◌<◌, ◌≤◌, Bool, true, false, ◌&&◌, ◌⊎◌, inl, inr, List, [], ◌∷◌, ◌++◌, length, take, Option, Some, None, is_some, position, Ok, slice_get, slice_set, IsTrue, refl, sym, ap, ◌∙◌, subst, arith, add-one, true≢false, Result, Err}
+use Rattle.std.proofs.Common.{length-append, ◌≡◌, append_assoc, append-nil, ◌≢◌, ℕ, zero, suc, ◌+◌, ◌<◌, ◌≤◌, Bool, true, false, ◌&&◌, ◌⊎◌, inl, inr, List, [], ◌∷◌, ◌++◌, length, take, Option, Some, None, is_some, position, Ok, slice_get, slice_set, IsTrue, refl, sym, ap, ◌∙◌, subst, arith, add-one, true≢false, Result, Err}
 use Rattle.std.proofs.lemmas.Option.{same_Some, slice_get_within}
 use Rattle.std.specs.Ordering.{is_eq}
 use Rattle.ak_address.specs.Unique.{UniqueModel, unique_cmp}
@@ -18,6 +18,8 @@ use Rattle.ak_world.specs.declared.margin.Margin.{Margin}
 use Rattle.ak_world.specs.declared.margin.Margin.TheVariants.{Kept, Broken}
 use Rattle.ak_world.specs.declared.world.Reason.{Reason}
 use Rattle.ak_world.specs.World.{WorldState, Done, empty_world, happens, after, run}
+use Rattle.ak_world.specs.declared.world.Step.{Step}
+use Rattle.ak_world.specs.WorldContracts.{Went}
 use Rattle.ak_world.specs.InRun.{HasStopped, WasStarted}
 use Rattle.ak_world.specs.Margin.{Runs, IsStep, HasNumber, IsTold, stopped, IsUntold, IsBroken, IsMargin}
 use Rattle.ak_world.specs.MarginMark.{runs_as, running_end, or_else, first_end, broken_by, marked}
@@ -420,3 +422,19 @@ module _ (settings : SettingsModel) (events : List Event) where
       let steps_are : step ≡ step_2 = h.step_is ∙ ap (λ t. t + 1) at.0 ∙ sym g.step_is in
       let nodes_are : node ≡ node_2 = ends.0 in
       λ i. Broken (steps_are i) (nodes_are i) (numbers i)
+
+-- ---- in the code: who is found has a number, and the mark after an accepted event is the margin
+pub end_within : (nodes : List State) (actions : List Action) (number : ℕ) → first_end nodes actions ≡ Some number → number < length nodes
+end_within nodes actions number is = let f = first_some nodes actions number is in position-within (runs_as f.who) nodes number f.found
+
+pub went_margin : (settings new_settings : SettingsModel) (w v : WorldState) (events new_events : List Event) (e : Event) (s : Step) (mark next : Margin) (number : ℕ)
+    → w ≡ run settings events → new_settings ≡ settings → new_events ≡ events ++ e ∷ [] → number ≡ length new_events → Went w (happens settings e w) s v
+    → next ≡ marked mark number (record { world = v; node = s.node; actions = s.actions }) → IsMargin settings events mark → IsMargin new_settings new_events next
+went_margin settings new_settings w v events new_events e s mark next number is_run same_settings events_are number_is went next_is margin =
+    let done_is : record { world = v; node = s.node; actions = s.actions } ≡ went.done = λ i. record { world = went.world i; node = went.shown.node i; actions = went.shown.actions i } in
+    let did : happens settings e (run settings events) ≡ Ok went.done = ap (happens settings e) (sym is_run) ∙ went.happened in
+    let count : number ≡ length events + 1 = number_is ∙ ap length events_are ∙ length-append events (e ∷ []) in
+    let mark_is : next ≡ marked mark (length events + 1) went.done = next_is ∙ (λ i. marked mark (count i) (done_is i)) in
+    subst (λ l. IsMargin new_settings l next) (sym events_are)
+    (subst (λ (x : SettingsModel). IsMargin x (events ++ e ∷ []) next) (sym same_settings)
+    (subst (IsMargin settings (events ++ e ∷ [])) (sym mark_is) (mark_goes_on settings events e went.done did mark margin)))

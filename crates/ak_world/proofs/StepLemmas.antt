@@ -3,8 +3,10 @@ use Rattle.std.proofs.Common.{◌≡◌, ℕ, List, [], ◌∷◌, ◌++◌, len
 use Rattle.std.specs.Prelude.{codes}
 use Rattle.std.specs.Fmt.{decimal}
 use Rattle.ak_report.specs.ActionText.{actions_text}
-use Rattle.ak_world.specs.StepText.{summary_text, margin_text, step_text, delivery_text, shown, acting}
+use Rattle.ak_world.specs.StepText.{summary_text, margin_text, IsSummary, step_text, delivery_text, shown, acting}
 use Rattle.ak_world.specs.declared.margin.Margin.{Margin}
+use Rattle.ak_schedule.specs.Settings.{SettingsModel}
+use Rattle.ak_world.specs.Margin.{IsMargin}
 use Rattle.ak_world.specs.World.{WorldState, Done}
 use Rattle.ak_node.specs.declared.node.State.{State}
 use Rattle.ak_schedule.specs.Schedule.{event_text}
@@ -33,6 +35,11 @@ summary_printed steps margin w packets history t0 t1 t2 t3 t4 t5 are_packets are
     ∙ lines (codes "steps ") (decimal steps) (codes "packets ") (decimal packets) (codes "history ") (decimal history) m (codes "doubles none") (10 ∷ [])
     ∙ ap (λ (p : ℕ). codes "steps " ++ decimal steps ++ 10 ∷ [] ++ codes "packets " ++ decimal p ++ 10 ∷ [] ++ codes "history " ++ decimal history ++ 10 ∷ [] ++ m ++ codes "doubles none" ++ 10 ∷ []) are_packets
     ∙ ap (λ (h : ℕ). codes "steps " ++ decimal steps ++ 10 ∷ [] ++ codes "packets " ++ decimal (length w.packets) ++ 10 ∷ [] ++ codes "history " ++ decimal h ++ 10 ∷ [] ++ m ++ codes "doubles none" ++ 10 ∷ []) are_entries
+
+-- what was printed is a summary of the run
+pub summary_of : (settings : SettingsModel) (events : List Event) (steps : ℕ) (w : WorldState) (margin : Margin) (text old new : List ℕ) → IsMargin settings events margin → text ≡ summary_text steps margin w
+    → new ≡ old ++ text → (added : List ℕ) × IsSummary settings events steps w added × (new ≡ old ++ added)
+summary_of settings events steps w margin text old new is text_is printed = (text, (margin, is, text_is), printed)
 
 -- the parts of a step, one after another
 pub step_printed : (first number : ℕ) (e : Event) (done : Done) (n : Option State) (t0 t1 t2 t3 : List ℕ) → n ≡ acting done → t0 ≡ []

@@ -176,6 +176,10 @@ ready_run settings events few =
       few_steps = λ index n is. let below : n.steps ≤ 0 + length events = young.steps index n is in omega arith;
     }
 
+-- however many events there were, few nodes were started
+pub few_run : (settings : SettingsModel) (events : List Event) → length (run settings events).nodes ≤ 64
+few_run settings events = (run_young 0 settings empty_world events empty_young).few
+
 -- one more event
 pub run-push : (settings : SettingsModel) (w : WorldState) (events : List Event) (e : Event) → run_from settings w (events ++ e ∷ []) ≡ after (run_from settings w events) (happens settings e (run_from settings w events))
 run-push settings w [] e = refl
