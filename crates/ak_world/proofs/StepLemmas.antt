@@ -41,6 +41,21 @@ pub summary_of : (settings : SettingsModel) (events : List Event) (steps : ℕ) 
     → new ≡ old ++ text → (added : List ℕ) × IsSummary settings events steps w added × (new ≡ old ++ added)
 summary_of settings events steps w margin text old new is text_is printed = (text, (margin, is, text_is), printed)
 
+-- the parts of the line of a broken margin, one after another
+pub margin_printed : (a b c d e f g t0 t1 t2 t3 t4 t5 t6 t7 : List ℕ) → t1 ≡ t0 ++ a → t2 ≡ t1 ++ b → t3 ≡ t2 ++ c → t4 ≡ t3 ++ d → t5 ≡ t4 ++ e → t6 ≡ t5 ++ f → t7 ≡ t6 ++ g → t7 ≡ t0 ++ (a ++ b ++ c ++ d ++ e ++ f ++ g)
+margin_printed a b c d e f g t0 t1 t2 t3 t4 t5 t6 t7 e1 e2 e3 e4 e5 e6 e7 =
+    e7
+    ∙ ap (λ (t : List ℕ). t ++ g)
+    (e6 ∙ ap (λ (t : List ℕ). t ++ f)
+    (e5 ∙ ap (λ (t : List ℕ). t ++ e)
+    (e4 ∙ ap (λ (t : List ℕ). t ++ d)
+    (e3 ∙ ap (λ (t : List ℕ). t ++ c)
+    (e2 ∙ ap (λ (t : List ℕ). t ++ b) e1)))))
+    ∙ in_order a b c d e f g t0
+  where
+    in_order : (a b c d e f g t : List ℕ) → (((((((t ++ a) ++ b) ++ c) ++ d) ++ e) ++ f) ++ g) ≡ t ++ (a ++ b ++ c ++ d ++ e ++ f ++ g)
+    in_order a b c d e f g t = simp append_assoc
+
 -- the parts of a step, one after another
 pub step_printed : (first number : ℕ) (e : Event) (done : Done) (n : Option State) (t0 t1 t2 t3 : List ℕ) → n ≡ acting done → t0 ≡ []
     → t1 ≡ t0 ++ (decimal number ++ codes " " ++ event_text e ++ 10 ∷ [])

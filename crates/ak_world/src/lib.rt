@@ -7,6 +7,8 @@ mod laws;
 #[cfg(test)]
 mod life_tests;
 mod margin;
+#[cfg(test)]
+mod margin_tests;
 mod print;
 #[cfg(test)]
 mod seen_tests;

@@ -483,6 +483,13 @@ fn keep_event(alloc: Global, event: &Event, accepted: &mut Vec<Event>) -> Result
     Ok(())
 }
 
+// How many events there are.
+fn count_of(events: &[Event]) -> u64
+    ensures { result ≡ length events.now }
+{
+    events.len() as u64
+}
+
 /// A world: the run of its settings over the events that it accepted. Once out of memory it is spent: it still shows its
 /// settings and the events that it accepted, and each later event answers that it is out of memory.
 #[derive(Drop)]
@@ -574,8 +581,9 @@ impl World {
         match self.scene.happens(alloc, event) {
             Ok(step) => {
                 if keep_event(alloc, event, &mut self.accepted).is_ok() {
-                    let number = self.accepted.len() as u64;
-                    self.margin = self.scene.marked(self.margin, number, &step);
+                    let number = count_of(&self.accepted);
+                    let margin = self.scene.marked(self.margin, number, &step);
+                    self.margin = margin;
                     return Ok(step);
                 }
                 self.is_spent = true;

@@ -27,12 +27,12 @@ invariant_of-self c =
       is_run = λ alive.
           run-went c.self.inside.scene.settings _ _ _ c.self.inside.accepted.items _ c.args.event.now _ (c.self.invariant.is_run c.if-self.false) c.happens.ensures.settings kept c.in-Ok.ensures.scenes;
       is_margin =
-          went_margin c.self.inside.scene.settings _ _ _ c.self.inside.accepted.items _ c.args.event.now _ c.self.inside.margin _ _ (c.self.invariant.is_run c.if-self.false) c.happens.ensures.settings kept c.len.ensures c.in-Ok.ensures.scenes
-          c.marked.ensures c.self.invariant.is_margin;
+          went_margin c.self.inside.scene.settings _ _ _ c.self.inside.accepted.items _ c.args.event.now _ c.self.inside.margin _ _ (c.self.invariant.is_run c.if-self.false) c.happens.ensures.settings kept (c.count_of-number.ensures ∙ ap length c.deref.ensures.value) c.in-Ok.ensures.scenes
+          c.marked-margin.ensures c.self.invariant.is_margin;
     }
 
-pub marked-requires : goal.marked-requires
-marked-requires c =
+pub marked-margin-requires : goal.marked-margin-requires
+marked-margin-requires c =
     let kept : c.keep_event.new.accepted.items ≡ c.self.inside.accepted.items ++ c.args.event.now ∷ [] =
     at-ok c.keep_event.result _ (sym c.is_ok.ensures.value ∙ c.if-is_ok.true) c.keep_event.ensures.ok in
     let is_run : state_of c.happens.new.self ≡ run c.happens.new.self.settings c.keep_event.new.accepted.items =
