@@ -186,9 +186,9 @@ pub along_finish : (r : Result (Unit {0}) Stop) (bytes : List ℕ) (old now late
     (number : ℕ) (answer : Status) (w0 w1 : ℕ) → Along bytes old now p rest out → rest ≡ [] → FinishAnswers r p out after
     → number ≡ p.line → Ended r number after answer w0 w1 now later → Prints bytes answer old later
 along_finish (Ok u) bytes old now later p rest out after number answer w0 w1 a e f n w =
-    let whole = along_whole bytes old now p rest out a (Finished p) (subst (λ (ls : List (List ℕ)). Replays p ls [] (Finished p)) (sym e) (refl, inl (f.0, refl))) in
-    prints_done bytes old now later a.text (out ++ ending_text (Finished p)) answer w0 w1 (a.steps, Finished p, whole.0, refl, whole.1) a.written
-    (subst (λ (t : List ℕ). Written Done t answer w0 w1 now later) f.1 w)
+    let whole = along_whole bytes old now p rest out a (Finished p f.1) (subst (λ (ls : List (List ℕ)). Replays p ls [] (Finished p f.1)) (sym e) (refl, inl (f.0, f.1, f.2, refl))) in
+    prints_done bytes old now later a.text (out ++ ending_text (Finished p f.1)) answer w0 w1 (a.steps, Finished p f.1, whole.0, refl, whole.1) a.written
+    (subst (λ (t : List ℕ). Written Done t answer w0 w1 now later) f.3 w)
 along_finish (Err (Refused Malformed)) bytes old now later p rest out after number answer w0 w1 a e f n w = absurd f
 along_finish (Err (Refused PastLimit)) bytes old now later p rest out after number answer w0 w1 a e f n w = absurd f
 along_finish (Err (Refused (Invalid why))) bytes old now later p rest out after number answer w0 w1 a e f n w = absurd f

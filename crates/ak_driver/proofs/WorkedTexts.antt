@@ -45,6 +45,9 @@ use Rattle.ak_node.specs.Node.{Outcome, started, and_then, does, if_so, closes, 
 use Rattle.ak_world.specs.StepText.{step_text}
 use Rattle.ak_report.specs.ActionText.{listed_text, count_text, member_text, tombstone_text, view_text, item}
 use Rattle.ak_world.specs.World.{WorldState, Done, empty_world, happens, stepped}
+use Rattle.ak_world.specs.declared.margin.Margin.TheVariants.{Kept}
+use Rattle.ak_world.specs.Margin.{IsMargin}
+use Rattle.ak_world.proofs.MarginRuns.{kept_at_first, mark_goes_on}
 use Rattle.ak_driver.specs.ReplayText.{Progress, Sets, Steps, Ending, Finished, Replays, at_start, IsReplay, most_lines, most_events, header_count}
 use Rattle.ak_driver.specs.Worked.{text_of, and_limits, empty_schedule, empty_text, founding_schedule, founding_text}
 
@@ -181,10 +184,10 @@ unfolding digits
 empty =
     let end : Progress = headed 9 (limited (at_a ∷ []) (StaticQuorum 1)) in (
       [],
-      Finished end,
-      first_lines (codes "listed a:1") (codes "strategy static-quorum 1") (at_a ∷ []) 1 [] [] (Finished end)
+      Finished end Kept,
+      first_lines (codes "listed a:1") (codes "strategy static-quorum 1") (at_a ∷ []) 1 [] [] (Finished end Kept)
           (lit≤ tt) listing_a (lit≤ tt) (strategy_of 1 (codes "strategy static-quorum 1") refl (lit≤ tt) (lit≤ tt))
-          (refl, inl (lit≤ tt, refl)),
+          (refl, inl (lit≤ tt, Kept, kept_at_first end.settings, refl)),
       refl,
       refl,
     )
@@ -378,23 +381,30 @@ after_third = record { line = 13; headers = 9; settings = settled; events = Star
 abbrev founding_steps : List (List ℕ)
 founding_steps = step_text 1 1 (Start a_1) first_start ∷ step_text 1 2 (Start b_1) second_start ∷ step_text 1 3 (Found a_1) founded ∷ []
 
-founding_replays : Replays (headed 9 settled) (codes "start a:1#1" ∷ codes "start b:1#1" ∷ codes "found a:1#1" ∷ []) founding_steps (Finished after_third)
+-- no margin ends in it
+founding_kept : IsMargin settled after_third.events Kept
+founding_kept =
+    mark_goes_on settled (Start a_1 ∷ Start b_1 ∷ []) (Found a_1) founded (ap (λ o. Ok (stepped 0 o (record both_started { founded = true }))) founds) Kept
+    (mark_goes_on settled (Start a_1 ∷ []) (Start b_1) second_start refl Kept
+    (mark_goes_on settled [] (Start a_1) first_start refl Kept (kept_at_first settled)))
+
+founding_replays : Replays (headed 9 settled) (codes "start a:1#1" ∷ codes "start b:1#1" ∷ codes "found a:1#1" ∷ []) founding_steps (Finished after_third Kept)
 unfolding digits
 founding_replays =
-    event_line (headed 9 settled) (codes "start a:1#1") (codes "start b:1#1" ∷ codes "found a:1#1" ∷ []) (Start a_1) first_start _ (Finished after_third)
+    event_line (headed 9 settled) (codes "start a:1#1") (codes "start b:1#1" ∷ codes "found a:1#1" ∷ []) (Start a_1) first_start _ (Finished after_third Kept)
     (lit≤ tt) (lit≤ tt) (lit< tt) (canonical (Start a_1) is_a_1) refl
-    (event_line after_first (codes "start b:1#1") (codes "found a:1#1" ∷ []) (Start b_1) second_start _ (Finished after_third)
+    (event_line after_first (codes "start b:1#1") (codes "found a:1#1" ∷ []) (Start b_1) second_start _ (Finished after_third Kept)
     (lit≤ tt) (lit≤ tt) (lit< tt) (canonical (Start b_1) is_b_1) refl
-    (event_line after_second (codes "found a:1#1") [] (Found a_1) founded [] (Finished after_third)
+    (event_line after_second (codes "found a:1#1") [] (Found a_1) founded [] (Finished after_third Kept)
     (lit≤ tt) (lit≤ tt) (lit< tt) (canonical (Found a_1) is_a_1) (ap (λ o. Ok (stepped 0 o (record both_started { founded = true }))) founds)
-    (refl, inl (lit≤ tt, refl))))
+    (refl, inl (lit≤ tt, Kept, founding_kept, refl))))
 
 pub founding_text_is : IsReplay founding_schedule 0 founding_text
 unfolding digits
 founding_text_is = (
   founding_steps,
-  Finished after_third,
-  first_lines (codes "listed a:1 b:1") (codes "strategy static-quorum 2") (at_a ∷ at_b ∷ []) 2 (codes "start a:1#1" ∷ codes "start b:1#1" ∷ codes "found a:1#1" ∷ []) founding_steps (Finished after_third)
+  Finished after_third Kept,
+  first_lines (codes "listed a:1 b:1") (codes "strategy static-quorum 2") (at_a ∷ at_b ∷ []) 2 (codes "start a:1#1" ∷ codes "start b:1#1" ∷ codes "found a:1#1" ∷ []) founding_steps (Finished after_third Kept)
       (lit≤ tt) listing_ab (lit≤ tt) (strategy_of 2 (codes "strategy static-quorum 2") refl (lit≤ tt) (lit≤ tt))
       founding_replays,
   refl,

@@ -15,6 +15,8 @@ use Rattle.ak_world.specs.WorldContracts.{WorldModel}
 use Rattle.ak_driver.specs.declared.replay.Replay.{Replay}
 use Rattle.ak_outside.specs.declared.status.Status.{Status}
 use Rattle.ak_outside.specs.declared.status.Status as status
+use Rattle.ak_world.specs.declared.margin.Margin.{Margin}
+use Rattle.ak_world.specs.Margin.{IsMargin}
 use Rattle.ak_driver.specs.ReplayText.{Progress, Judgement, Judged, IsRefused, WantsEvent, HasRoom, Finished, turn, header_count, ending_text, refusal_text}
 use Rattle.ak_driver.specs.StatusContracts.{Written, memory_line}
 use Rattle.ak_world.specs.StepText.{step_text}
@@ -95,7 +97,7 @@ TurnAnswers (Err NoMemory) line p q before after = MayRunOut p line × (after �
 
 -- what comes after the last line: the summary, or a header is missing
 abbrev pub FinishAnswers : Result (Unit {0}) Stop → Progress → List ℕ → List ℕ → Type 0
-FinishAnswers (Ok u) p before after = (header_count ≤ p.headers) × (after ≡ before ++ ending_text (Finished p))
+FinishAnswers (Ok u) p before after = (header_count ≤ p.headers) × (margin : Margin) × IsMargin p.settings p.events margin × (after ≡ before ++ ending_text (Finished p margin))
 FinishAnswers (Err (Refused BadHeader)) p before after = (p.headers < header_count) × (after ≡ before)
 FinishAnswers (Err (Refused Malformed)) p before after = ⊥
 FinishAnswers (Err (Refused PastLimit)) p before after = ⊥

@@ -11,6 +11,8 @@ use Rattle.ak_world.specs.declared.world.Reason.{Reason}
 use Rattle.ak_world.specs.declared.world.Reason.TheVariants.{Unlisted, UniqueUsed, AddressInUse, SecondFound, UnknownNode, NodeStopped, NoPacket, TooManyPackets, TooManyStarts, NotBuilt}
 use Rattle.ak_driver.specs.declared.replay.Code.{Code}
 use Rattle.ak_driver.specs.declared.replay.Code.TheVariants.{Malformed, BadHeader, PastLimit, Invalid}
+use Rattle.ak_world.specs.declared.margin.Margin.{Margin}
+use Rattle.ak_world.specs.Margin.{IsMargin}
 use Rattle.ak_world.specs.World.{WorldState, Done, empty_world, happens}
 use Rattle.ak_world.specs.StepText.{step_text, summary_text}
 
@@ -108,14 +110,14 @@ turn p (Steps event done) = (
   step_text (length p.world.packets + 1) (length p.events + 1) event done ∷ [],
 )
 
--- how a replay ends: after its last line, or at a line that is refused
+-- how a replay ends: after its last line, with the margin of its events, or at a line that is refused
 pub data Ending : Type 0 where
-  Finished : Progress → Ending
+  Finished : Progress → Margin → Ending
   Stopped : Code → ℕ → Ending
 
 -- after the last line a replay is finished, or a header is missing
 abbrev pub EndsAs : Progress → Ending → Type 0
-EndsAs p ending = ((header_count ≤ p.headers) × (ending ≡ Finished p)) ⊎ ((p.headers < header_count) × (ending ≡ Stopped BadHeader p.line))
+EndsAs p ending = ((header_count ≤ p.headers) × (margin : Margin) × IsMargin p.settings p.events margin × (ending ≡ Finished p margin)) ⊎ ((p.headers < header_count) × (ending ≡ Stopped BadHeader p.line))
 
 -- From here a replay of these lines takes steps with these texts, and ends so.
 abbrev pub Replays : Progress → List (List ℕ) → List (List ℕ) → Ending → Type 0
@@ -127,11 +129,11 @@ Replays p (line ∷ lines) steps ending =
 
 -- what is printed at the end, and the status
 abbrev pub ending_text : Ending → List ℕ
-ending_text (Finished p) = summary_text (length p.events) p.world
+ending_text (Finished p margin) = summary_text (length p.events) margin p.world
 ending_text (Stopped code line) = refusal_text code line
 
 abbrev pub ending_status : Ending → ℕ
-ending_status (Finished p) = 0
+ending_status (Finished p margin) = 0
 ending_status (Stopped code line) = 4
 
 -- the bytes of a schedule have these texts of steps and this end

@@ -1,5 +1,6 @@
 ghost use Rattle.std.specs.Prelude.{◌≡◌, ℕ, ◌⊎◌, List};
 ghost use Rattle.ak_driver.specs.ReplayText.{IsReplay, ReplaysAs, Progress, Finished};
+ghost use Rattle.ak_world.specs.declared.margin.Margin.{Margin};
 ghost use Rattle.ak_world.specs.World.{run};
 ghost use Rattle.ak_driver.specs.Worked.{empty_schedule, empty_text, founding_schedule, founding_text};
 
@@ -13,7 +14,7 @@ pub fn replays_are_determined()
 
 /// The world that a replay has reached after its last line is the run of the settings over the events that it accepted.
 pub fn replays_reach_runs()
-    ensures { (bytes : List ℕ) (steps : List (List ℕ)) (end : Progress) → ReplaysAs bytes steps (Finished end) → end.world ≡ run end.settings end.events }
+    ensures { (bytes : List ℕ) (steps : List (List ℕ)) (end : Progress) (margin : Margin) → ReplaysAs bytes steps (Finished end margin) → end.world ≡ run end.settings end.events }
 {}
 
 /// What the definitions say that two small schedules print: one without an event, and one in which two nodes start and

@@ -1,3 +1,4 @@
 pub mod Change
+pub mod GivesUp
 pub mod Node
 pub mod NodeContracts

@@ -295,6 +295,10 @@ fn print_action(
             print_bytes(b"settled ", out)?;
             print_version(gossip.version(), out)
         }
+        Action::MarginEnd(who) => {
+            print_bytes(b"margin-end ", out)?;
+            who.print_into(out)
+        }
         Action::Refused(why) => {
             print_bytes(b"refused N", out)?;
             print_number(u64::from(*why), out)

@@ -14,6 +14,7 @@ pub mod InLine
 pub mod InRunLemmas
 pub mod IndexLemmas
 pub mod MadeFrom
+pub mod MarginRuns
 pub mod Naming
 pub mod Noted
 pub mod NotedLine
@@ -27,6 +28,7 @@ pub mod Rises
 pub mod SeenHeld
 pub mod SettledRuns
 pub mod StepLemmas
+pub mod Told
 pub mod UpdateLemmas
 pub mod WhatHappened
 pub mod WorldLemmas

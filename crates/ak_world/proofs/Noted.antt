@@ -15,7 +15,8 @@ use Rattle.ak_history.proofs.ViewsMerged.{view-prefix}
 use Rattle.ak_schedule.specs.Settings.{SettingsModel}
 use Rattle.ak_schedule.specs.declared.event.Event.{Event}
 use Rattle.ak_settled.specs.Settled.{version_of, standings_of}
-use Rattle.ak_settled.specs.SettledView.{SettledModel, NotedView}
+use Rattle.ak_settled.specs.SettledView.{NotedView}
+use Rattle.ak_membership.proofs.MembershipLemmas.{waits_version, waits_standings}
 use Rattle.ak_node.specs.declared.node.State.{State}
 use Rattle.ak_node.specs.declared.node.NodeEvent.{NodeEvent}
 use Rattle.ak_node.specs.Node.{known, me_of, started, step}
@@ -62,13 +63,13 @@ module _ (old new : List Entry) (held more : List (UniqueModel × Counts)) (adde
     stays = s.stays;
   }
 
--- a node that has noted the same
-settles_alike : (history : List Entry) (held : List (UniqueModel × Counts)) (n m : State) → m.membership.settled ≡ n.membership.settled → me_of m ≡ me_of n → Settles history held n → Settles history held m
-settles_alike history held n m same who s = record {
-  shown = subst (λ (x : SettledModel). standings_of x.view ≡ (view history (version_of x.view)).standings) (sym same) s.shown;
-  bounded = subst (λ (x : SettledModel). IsBounded history (version_of x.view)) (sym same) s.bounded;
-  held_it = subst (λ (x : SettledModel). Contains held (me_of m, version_of x.view)) (sym same) (subst (λ u. Contains held (u, noted_version n)) (sym who) s.held_it);
-  stays = subst (λ (x : SettledModel). is_gone (map.get (standings_of x.view) (me_of m)) ≡ false) (sym same) (ap (λ u. is_gone (map.get (noted_standings n) u)) who ∙ s.stays);
+-- a node that has noted the same version with the same members and tombstones
+settles_alike : (history : List Entry) (held : List (UniqueModel × Counts)) (n m : State) → noted_version m ≡ noted_version n → noted_standings m ≡ noted_standings n → me_of m ≡ me_of n → Settles history held n → Settles history held m
+settles_alike history held n m version standings who s = record {
+  shown = standings ∙ s.shown ∙ ap (λ v. (view history v).standings) (sym version);
+  bounded = subst (IsBounded history) (sym version) s.bounded;
+  held_it = subst (λ v. Contains held (me_of m, v)) (sym version) (subst (λ u. Contains held (u, noted_version n)) (sym who) s.held_it);
+  stays = ap (λ (x : Standings). is_gone (map.get x (me_of m))) standings ∙ ap (λ u. is_gone (map.get (noted_standings n) u)) who ∙ s.stays;
 }
 
 -- a node that has noted what it knows
@@ -109,7 +110,11 @@ module _ (r : Remembered) (s : AllSettle r) where
       where
         by_case : (d : Done) (held : List (UniqueModel × Counts)) → IsFold d.world.history (known (step e n).0) → Settles d.world.history ((me_of (step e n).0, (known (step e n).0).version) ∷ r.held) n → Notes n (step e n).0
             → Settles d.world.history ((me_of (step e n).0, (known (step e n).0).version) ∷ r.held) (step e n).0
-        by_case d held fold before (inl same) = settles_alike d.world.history _ n (step e n).0 same (step_changes e n runs).same_me before
+        by_case d held fold before (inl waits) =
+            settles_alike d.world.history _ n (step e n).0
+            (waits_version n.membership.settings.margin n.membership.settled (step e n).0.membership.settled waits)
+            (waits_standings n.membership.settings.margin n.membership.settled (step e n).0.membership.settled waits)
+            (step_changes e n runs).same_me before
         by_case d held fold before (inr now) = settles_now d.world.history _ (step e n).0 fold (contains_first _ r.held) now.version now.standings now.stays
 
   answered_settle : (settings : SettingsModel) (a : Result Done Reason) → IsAnswer settings r.world a → Next r.world.history (after r.world a) → AllSettle (remembers_answer r a)
@@ -161,7 +166,7 @@ noted_grows : (e : NodeEvent) (n : State) → IsTrue n.runs → Covers (known n)
 noted_grows e n runs before = by_case (step_notes e n runs)
   where
     by_case : Notes n (step e n).0 → Covers (noted_version (step e n).0) (noted_version n)
-    by_case (inl same) = covers_equal (noted_version (step e n).0) (noted_version n) (ap (λ (s : SettledModel). version_of s.view) same)
+    by_case (inl waits) = covers_equal (noted_version (step e n).0) (noted_version n) (waits_version n.membership.settings.margin n.membership.settled (step e n).0.membership.settled waits)
     by_case (inr now) = subst (λ v. Covers v (noted_version n)) (sym now.version) (covers_along (known (step e n).0).version (known n).version (noted_version n) (step_covers e n runs) before)
 
 module _ (settings : SettingsModel) (w : WorldState) (k : Processes settings w) (who : UniqueModel) (v : Counts) (h : Beyond w.nodes who v) where

@@ -1,13 +1,12 @@
 -- Who is named was started, who is said to have stopped has stopped, at one address at most one process runs, and a running
 -- node serves: in each world of a run.
-use Rattle.std.proofs.Common.{◌≡◌, ℕ, Bool, true, false, ◌&&◌, ◌⊎◌, inl, inr, List, [], ◌∷◌, ◌++◌, length, Some, Result, Ok, Err, slice_get, slice_set, Contains, IsTrue, refl, sym, ap, ◌∙◌, subst, arith, true≢false}
+use Rattle.std.proofs.Common.{◌≡◌, ℕ, Bool, true, false, ◌&&◌, ◌⊎◌, inl, inr, List, [], ◌∷◌, ◌++◌, length, Some, Result, Ok, Err, slice_get, slice_set, Contains, IsTrue, refl, sym, ap, ◌∙◌, subst, true≢false}
 use Rattle.std.proofs.lemmas.Option.{same_Some}
 use Rattle.std.proofs.lemmas.Cmp.{tied_itself}
 use Rattle.std.specs.List.{list_any}
-use Rattle.std.specs.FinMap as map
 use Rattle.std.specs.Ordering.{is_eq}
-use Rattle.ak_address.specs.Unique.{UniqueModel, address_cmp, unique_cmp}
-use Rattle.ak_address.specs.Uniques.{has}
+use Rattle.ak_address.specs.Unique.{UniqueModel, address_cmp}
+use Rattle.ak_address.specs.Uniques.{UniqueSet, has}
 use Rattle.ak_address.proofs.Elements.{first_or_rest, contains_nothing, contains_either, any_there, contains_at}
 use Rattle.ak_address.proofs.OrderLemmas.{address_total}
 use Rattle.ak_address.proofs.UniquesLaws.{has-no_one}
@@ -23,9 +22,8 @@ use Rattle.ak_schedule.specs.Settings.{SettingsModel, is_listed}
 use Rattle.ak_schedule.specs.declared.event.Event.{Event}
 use Rattle.ak_membership.specs.MembershipContracts.{IsMembership}
 use Rattle.ak_membership.specs.Knowledge.{Knowledge, Keeps, Updates, Accepts, made_by, HasMember, IsCause, IsLawful}
-use Rattle.ak_membership.proofs.MembershipLemmas.{starts_as_membership}
+use Rattle.ak_membership.proofs.MembershipLemmas.{starts_as_membership, waits_version}
 use Rattle.ak_settled.specs.Settled.{version_of}
-use Rattle.ak_settled.specs.SettledView.{SettledModel}
 use Rattle.ak_wire.specs.declared.envelope.Envelope.{Envelope}
 use Rattle.ak_wire.specs.Wire.{sent, says_it_stops}
 use Rattle.ak_node.specs.declared.node.State.{State}
@@ -34,8 +32,9 @@ use Rattle.ak_node.specs.declared.node.NodeEvent.TheVariants as event
 use Rattle.ak_node.specs.Node.{Outcome, known, me_of, started, step}
 use Rattle.ak_node.specs.NodeContracts.{IsNode}
 use Rattle.ak_node.specs.Change.{given_by, Notes}
+use Rattle.ak_node.proofs.SilentMembers.{silent_member}
 use Rattle.ak_node.proofs.StepChanges.{step_changes}
-use Rattle.ak_node.proofs.NodeLemmas.{step_itself, step_keeps_node, step_notes}
+use Rattle.ak_node.proofs.NodeLemmas.{step_itself, step_keeps_node, step_notes, starts_as_node}
 use Rattle.ak_world.specs.declared.world.Reason.{Reason}
 use Rattle.ak_world.specs.World.{WorldState, Done, empty_world, recorded, stepped, starts, is_process, runs_at, is_in_use, happens, after, run_from, run}
 use Rattle.ak_world.specs.InRun.{HasStopped, RunAlone, Names}
@@ -88,8 +87,8 @@ noted_covered : (e : NodeEvent) (n : State) → IsTrue n.runs → Covers (known 
 noted_covered e n runs before = by_case (step_notes e n runs)
   where
     by_case : Notes n (step e n).0 → Covers (known (step e n).0).version (version_of (step e n).0.membership.settled.view)
-    by_case (inl same) =
-        subst (λ (s : SettledModel). Covers (known (step e n).0).version (version_of s.view)) (sym same)
+    by_case (inl waits) =
+        subst (Covers (known (step e n).0).version) (sym (waits_version n.membership.settings.margin n.membership.settled (step e n).0.membership.settled waits))
         (covers_along (known (step e n).0).version (known n).version (version_of n.membership.settled.view) (step_covers e n runs) before)
     by_case (inr now) = covers_equal (known (step e n).0).version (version_of (step e n).0.membership.settled.view) (sym now.version)
 
@@ -135,7 +134,7 @@ module _ (settings : SettingsModel) (w : WorldState) (k : Processes settings w) 
     cause_there effects (Joined u) who (inr asks) is = let from = asked w e was_sent u asks.1 in subst (IsThere w.nodes) (from.2 ∙ is) (k.senders from.0 from.1)
     cause_there effects (Rise u status number) who cause is = subst (IsThere w.nodes) is (member_there index n at u cause.0)
     cause_there effects (Removed u confirmed) who cause is = subst (IsThere w.nodes) is (member_there index n at u cause.0)
-    cause_there effects (Observed subjects) who cause is = absurd cause
+    cause_there effects (Observed subjects) who cause is = member_there index n at who (silent_member n (k.sane index n at).is_node who (ap (λ (s : UniqueSet). has s who) (sym cause) ∙ is))
 
     -- an entry after the step
     in_history_then : (entry : Entry) → Contains (recorded (me_of o.0) o.1 w.history) entry → Contains w.history entry ⊎ IsUpdate (me_of n) (step_changes e n runs).knowledge entry
@@ -237,7 +236,7 @@ module _ (settings : SettingsModel) (w : WorldState) (k : Processes settings w) 
       sane = push_at (λ j (m : State). Sane settings m) w.nodes new_node k.sane (record {
         listed = listed;
         membership = starts_as_membership u settings;
-        is_node = record { ticked = omega arith; shown = refl; stays = λ runs. ap standing.is_gone (map.get-empty unique_cmp u) };
+        is_node = starts_as_node (started u settings) refl;
       });
       alone = λ i j n m is js. alone_by i j n m (old_or_new i n is) (old_or_new j m js);
       authors = λ entry there. more_there entry.author (k.authors entry there);

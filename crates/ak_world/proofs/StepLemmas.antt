@@ -3,32 +3,58 @@ use Rattle.std.proofs.Common.{◌≡◌, ℕ, List, [], ◌∷◌, ◌++◌, len
 use Rattle.std.specs.Prelude.{codes}
 use Rattle.std.specs.Fmt.{decimal}
 use Rattle.ak_report.specs.ActionText.{actions_text}
-use Rattle.ak_world.specs.StepText.{summary_text, step_text, delivery_text, shown, acting}
+use Rattle.ak_world.specs.StepText.{summary_text, margin_text, IsSummary, step_text, delivery_text, shown, acting}
+use Rattle.ak_world.specs.declared.margin.Margin.{Margin}
+use Rattle.ak_schedule.specs.Settings.{SettingsModel}
+use Rattle.ak_world.specs.Margin.{IsMargin}
 use Rattle.ak_world.specs.World.{WorldState, Done}
 use Rattle.ak_node.specs.declared.node.State.{State}
 use Rattle.ak_schedule.specs.Schedule.{event_text}
 use Rattle.ak_schedule.specs.declared.event.Event.{Event}
 
-lines : (a b c d e f g h n : List ℕ) → ((((a ++ b ++ n) ++ (c ++ d ++ n)) ++ (e ++ f ++ n)) ++ (g ++ n ++ h ++ n)) ≡ a ++ b ++ n ++ c ++ d ++ n ++ e ++ f ++ n ++ g ++ n ++ h ++ n
+lines : (a b c d e f g h n : List ℕ) → (((((a ++ b ++ n) ++ (c ++ d ++ n)) ++ (e ++ f ++ n)) ++ g) ++ (h ++ n)) ≡ a ++ b ++ n ++ c ++ d ++ n ++ e ++ f ++ n ++ g ++ h ++ n
 lines a b c d e f g h n = simp append_assoc
 
 -- the lines of a summary, one after another
-pub summary_printed : (steps : ℕ) (w : WorldState) (packets history : ℕ) (t0 t1 t2 t3 t4 : List ℕ) → packets ≡ length w.packets → history ≡ length w.history
+pub summary_printed : (steps : ℕ) (margin : Margin) (w : WorldState) (packets history : ℕ) (t0 t1 t2 t3 t4 t5 : List ℕ) → packets ≡ length w.packets → history ≡ length w.history
     → t0 ≡ []
     → t1 ≡ t0 ++ (codes "steps " ++ decimal steps ++ 10 ∷ [])
     → t2 ≡ t1 ++ (codes "packets " ++ decimal packets ++ 10 ∷ [])
     → t3 ≡ t2 ++ (codes "history " ++ decimal history ++ 10 ∷ [])
-    → t4 ≡ t3 ++ (codes "margin kept" ++ 10 ∷ [] ++ codes "doubles none" ++ 10 ∷ [])
-    → t4 ≡ summary_text steps w
-summary_printed steps w packets history t0 t1 t2 t3 t4 are_packets are_entries e0 e1 e2 e3 e4 =
-    e4
-    ∙ ap (λ (t : List ℕ). t ++ (codes "margin kept" ++ 10 ∷ [] ++ codes "doubles none" ++ 10 ∷ []))
+    → t4 ≡ t3 ++ margin_text margin w.nodes
+    → t5 ≡ t4 ++ (codes "doubles none" ++ 10 ∷ [])
+    → t5 ≡ summary_text steps margin w
+summary_printed steps margin w packets history t0 t1 t2 t3 t4 t5 are_packets are_entries e0 e1 e2 e3 e4 e5 =
+    let m : List ℕ = margin_text margin w.nodes in
+    e5
+    ∙ ap (λ (t : List ℕ). t ++ (codes "doubles none" ++ 10 ∷ []))
+    (e4 ∙ ap (λ (t : List ℕ). t ++ m)
     (e3 ∙ ap (λ (t : List ℕ). t ++ (codes "history " ++ decimal history ++ 10 ∷ []))
     (e2 ∙ ap (λ (t : List ℕ). t ++ (codes "packets " ++ decimal packets ++ 10 ∷ []))
-    (e1 ∙ ap (λ (t : List ℕ). t ++ (codes "steps " ++ decimal steps ++ 10 ∷ [])) e0)))
-    ∙ lines (codes "steps ") (decimal steps) (codes "packets ") (decimal packets) (codes "history ") (decimal history) (codes "margin kept") (codes "doubles none") (10 ∷ [])
-    ∙ ap (λ (p : ℕ). codes "steps " ++ decimal steps ++ 10 ∷ [] ++ codes "packets " ++ decimal p ++ 10 ∷ [] ++ codes "history " ++ decimal history ++ 10 ∷ [] ++ codes "margin kept" ++ 10 ∷ [] ++ codes "doubles none" ++ 10 ∷ []) are_packets
-    ∙ ap (λ (h : ℕ). codes "steps " ++ decimal steps ++ 10 ∷ [] ++ codes "packets " ++ decimal (length w.packets) ++ 10 ∷ [] ++ codes "history " ++ decimal h ++ 10 ∷ [] ++ codes "margin kept" ++ 10 ∷ [] ++ codes "doubles none" ++ 10 ∷ []) are_entries
+    (e1 ∙ ap (λ (t : List ℕ). t ++ (codes "steps " ++ decimal steps ++ 10 ∷ [])) e0))))
+    ∙ lines (codes "steps ") (decimal steps) (codes "packets ") (decimal packets) (codes "history ") (decimal history) m (codes "doubles none") (10 ∷ [])
+    ∙ ap (λ (p : ℕ). codes "steps " ++ decimal steps ++ 10 ∷ [] ++ codes "packets " ++ decimal p ++ 10 ∷ [] ++ codes "history " ++ decimal history ++ 10 ∷ [] ++ m ++ codes "doubles none" ++ 10 ∷ []) are_packets
+    ∙ ap (λ (h : ℕ). codes "steps " ++ decimal steps ++ 10 ∷ [] ++ codes "packets " ++ decimal (length w.packets) ++ 10 ∷ [] ++ codes "history " ++ decimal h ++ 10 ∷ [] ++ m ++ codes "doubles none" ++ 10 ∷ []) are_entries
+
+-- what was printed is a summary of the run
+pub summary_of : (settings : SettingsModel) (events : List Event) (steps : ℕ) (w : WorldState) (margin : Margin) (text old new : List ℕ) → IsMargin settings events margin → text ≡ summary_text steps margin w
+    → new ≡ old ++ text → (added : List ℕ) × IsSummary settings events steps w added × (new ≡ old ++ added)
+summary_of settings events steps w margin text old new is text_is printed = (text, (margin, is, text_is), printed)
+
+-- the parts of the line of a broken margin, one after another
+pub margin_printed : (a b c d e f g t0 t1 t2 t3 t4 t5 t6 t7 : List ℕ) → t1 ≡ t0 ++ a → t2 ≡ t1 ++ b → t3 ≡ t2 ++ c → t4 ≡ t3 ++ d → t5 ≡ t4 ++ e → t6 ≡ t5 ++ f → t7 ≡ t6 ++ g → t7 ≡ t0 ++ (a ++ b ++ c ++ d ++ e ++ f ++ g)
+margin_printed a b c d e f g t0 t1 t2 t3 t4 t5 t6 t7 e1 e2 e3 e4 e5 e6 e7 =
+    e7
+    ∙ ap (λ (t : List ℕ). t ++ g)
+    (e6 ∙ ap (λ (t : List ℕ). t ++ f)
+    (e5 ∙ ap (λ (t : List ℕ). t ++ e)
+    (e4 ∙ ap (λ (t : List ℕ). t ++ d)
+    (e3 ∙ ap (λ (t : List ℕ). t ++ c)
+    (e2 ∙ ap (λ (t : List ℕ). t ++ b) e1)))))
+    ∙ in_order a b c d e f g t0
+  where
+    in_order : (a b c d e f g t : List ℕ) → (((((((t ++ a) ++ b) ++ c) ++ d) ++ e) ++ f) ++ g) ≡ t ++ (a ++ b ++ c ++ d ++ e ++ f ++ g)
+    in_order a b c d e f g t = simp append_assoc
 
 -- the parts of a step, one after another
 pub step_printed : (first number : ℕ) (e : Event) (done : Done) (n : Option State) (t0 t1 t2 t3 : List ℕ) → n ≡ acting done → t0 ≡ []

@@ -61,6 +61,8 @@ asker_is : (from who : UniqueModel) (m : Message) → asker_in from m ≡ Some w
 asker_is from who message.Join is = same_Some from who is
 asker_is from who (message.Welcome g) is = no_one_asks who is
 asker_is from who (message.Gossip g) is = no_one_asks who is
+asker_is from who message.Heartbeat is = no_one_asks who is
+asker_is from who message.HeartbeatReply is = no_one_asks who is
 asker_is from who message.ExitingConfirmed is = no_one_asks who is
 
 pub asked : (w : WorldState) (e : NodeEvent) → WasSent w e → (who : UniqueModel) → (given_by e).asks ≡ Some who → (p : Envelope) × Contains w.packets p × (p.from ≡ who)
@@ -91,7 +93,7 @@ first_passes p (y ∷ xs) x at = by_case (p y) refl at (λ h. first_passes p xs 
     by_case true is at rest = ap p (sym (same_Some y x at)) ∙ is
     by_case false is at rest = rest (ap (slice_get (y ∷ xs)) (sym (one-add (position_or_len p xs))) ∙ at)
 
-position_passes : {X : Type 0} (p : X → Bool) (xs : List X) (index : ℕ) (x : X) → position p xs ≡ Some index → slice_get xs index ≡ Some x → p x ≡ true
+pub position_passes : {X : Type 0} (p : X → Bool) (xs : List X) (index : ℕ) (x : X) → position p xs ≡ Some index → slice_get xs index ≡ Some x → p x ≡ true
 position_passes p xs index x is at = by_case (ltb (position_or_len p xs) (length xs)) is
   where
     by_case : (b : Bool) → cond b (Some (position_or_len p xs)) None ≡ Some index → p x ≡ true

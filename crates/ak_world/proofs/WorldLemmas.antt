@@ -54,6 +54,7 @@ sent-none (Send e) other = absurd (other e refl)
 sent-none (Update number effects) other = refl
 sent-none action.View other = refl
 sent-none action.Settled other = refl
+sent-none (action.MarginEnd who) other = refl
 sent-none (action.Refused why) other = refl
 sent-none action.Dead other = refl
 sent-none action.Stopped other = refl
@@ -78,6 +79,7 @@ recorded-none author now (Send e) other = refl
 recorded-none author now (Update number effects) other = absurd (other number effects refl)
 recorded-none author now action.View other = refl
 recorded-none author now action.Settled other = refl
+recorded-none author now (action.MarginEnd who) other = refl
 recorded-none author now (action.Refused why) other = refl
 recorded-none author now action.Dead other = refl
 recorded-none author now action.Stopped other = refl
@@ -173,6 +175,10 @@ ready_run settings events few =
       few_nodes = young.few;
       few_steps = λ index n is. let below : n.steps ≤ 0 + length events = young.steps index n is in omega arith;
     }
+
+-- however many events there were, few nodes were started
+pub few_run : (settings : SettingsModel) (events : List Event) → length (run settings events).nodes ≤ 64
+few_run settings events = (run_young 0 settings empty_world events empty_young).few
 
 -- one more event
 pub run-push : (settings : SettingsModel) (w : WorldState) (events : List Event) (e : Event) → run_from settings w (events ++ e ∷ []) ≡ after (run_from settings w events) (happens settings e (run_from settings w events))

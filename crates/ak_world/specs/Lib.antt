@@ -1,6 +1,8 @@
 pub mod Fold
 pub mod Held
 pub mod InRun
+pub mod Margin
+pub mod MarginMark
 pub mod Remembered
 pub mod RunLine
 pub mod SettledLine

@@ -1,5 +1,5 @@
 -- What a replay prints of a step, and at its end (this project's format).
-use Rattle.std.specs.Prelude.{ℕ, List, [], ◌∷◌, ◌++◌, length, codes, slice_get, Option, Some, None, option_and_then}
+use Rattle.std.specs.Prelude.{◌≡◌, ℕ, List, [], ◌∷◌, ◌++◌, length, codes, slice_get, Option, Some, None, option_and_then}
 use Rattle.std.specs.Fmt.{decimal}
 use Rattle.ak_address.specs.Spelling.{unique_text}
 use Rattle.ak_schedule.specs.Schedule.{event_text}
@@ -11,6 +11,10 @@ use Rattle.ak_wire.specs.Wire.{kind_text}
 use Rattle.ak_report.specs.ActionText.{item, actions_text}
 use Rattle.ak_node.specs.declared.node.State.{State}
 use Rattle.ak_node.specs.Node.{known, me_of}
+use Rattle.ak_world.specs.declared.margin.Margin.{Margin}
+use Rattle.ak_world.specs.declared.margin.Margin.TheVariants.{Kept, Broken}
+use Rattle.ak_world.specs.Margin.{IsMargin}
+use Rattle.ak_schedule.specs.Settings.{SettingsModel}
 use Rattle.ak_world.specs.World.{WorldState, Done, packet_at}
 
 -- what a delivered packet was, or that it reached nobody
@@ -46,11 +50,26 @@ step_text first number event done =
     ++ delivery_text event done.world (acting done)
     ++ actions_text (shown (acting done)) first done.actions
 
--- The summary. (A margin that ends and an entity that is active on two nodes come with later rules.)
-abbrev pub summary_text : ℕ → WorldState → List ℕ
-summary_text steps w =
+-- the process of a start number
+abbrev pub name_text : Option State → List ℕ
+name_text (Some n) = unique_text (me_of n)
+name_text None = []
+
+-- whether the removal margin was kept, or where it was broken first
+abbrev pub margin_text : Margin → List State → List ℕ
+margin_text Kept nodes = codes "margin kept" ++ 10 ∷ []
+margin_text (Broken step node member) nodes =
+    codes "margin broken step " ++ decimal step ++ codes " node " ++ name_text (slice_get nodes node) ++ codes " member " ++ name_text (slice_get nodes member) ++ 10 ∷ []
+
+-- The summary. (An entity that is active on two nodes comes with later rules.)
+abbrev pub summary_text : ℕ → Margin → WorldState → List ℕ
+summary_text steps margin w =
     codes "steps " ++ decimal steps ++ 10 ∷ []
     ++ codes "packets " ++ decimal (length w.packets) ++ 10 ∷ []
     ++ codes "history " ++ decimal (length w.history) ++ 10 ∷ []
-    ++ codes "margin kept" ++ 10 ∷ []
+    ++ margin_text margin w.nodes
     ++ codes "doubles none" ++ 10 ∷ []
+
+-- a text is the summary of a run: its margin is that of its events
+abbrev pub IsSummary : SettingsModel → List Event → ℕ → WorldState → List ℕ → Type 0
+IsSummary settings events steps w text = (margin : Margin) × IsMargin settings events margin × (text ≡ summary_text steps margin w)

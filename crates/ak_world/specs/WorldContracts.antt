@@ -3,6 +3,7 @@ use Rattle.std.specs.Prelude.{◌≡◌, ℕ, ◌+◌, ◌^◌, ◌<◌, ◌≤�
 use Rattle.ak_address.specs.Unique.{UniqueModel}
 use Rattle.ak_schedule.specs.Settings.{SettingsModel}
 use Rattle.ak_schedule.specs.declared.event.Event.{Event}
+use Rattle.ak_world.specs.declared.margin.Margin.{Margin}
 use Rattle.ak_world.specs.declared.world.Scene.{Scene}
 use Rattle.ak_world.specs.declared.world.Step.{Step}
 use Rattle.ak_world.specs.declared.world.Reason.{Reason}
@@ -12,6 +13,7 @@ use Rattle.ak_node.specs.declared.node.State.{State}
 use Rattle.ak_node.specs.declared.node.NodeEvent.{NodeEvent}
 use Rattle.ak_node.specs.NodeContracts.{NodeModel}
 use Rattle.ak_world.specs.World.{WorldState, Done, node_of, gives, acts, happens, run}
+use Rattle.ak_world.specs.Margin.{IsMargin}
 use Rattle.ak_wire.specs.Wire.{sent}
 
 -- a world with its settings and the events that it accepted, in their order; a spent one has run out of memory
@@ -96,6 +98,7 @@ Applies event old (Ok step) new = Accepts event old step new
 Applies event old (Err (refused.TheVariants.Invalid why)) new = Refuses event old why new
 Applies event old (Err refused.TheVariants.NoMemory) new = Spends event old new
 
--- what is true of what a world keeps: it is the run of its events, unless it is spent
-pub record IsWorld (settings : SettingsModel) (w : WorldState) (events : List Event) (spent : Bool) : Type 0 where
+-- what is true of what a world keeps: it is the run of its events, unless it is spent; and the mark is the margin of its events
+pub record IsWorld (settings : SettingsModel) (w : WorldState) (events : List Event) (margin : Margin) (spent : Bool) : Type 0 where
   pub is_run : spent ≡ false → w ≡ run settings events
+  pub is_margin : IsMargin settings events margin

@@ -3,7 +3,7 @@ ghost use Rattle.ak_address.specs.Unique.{UniqueModel};
 ghost use Rattle.ak_address.specs.Uniques.{has};
 ghost use Rattle.ak_clock.specs.Version.{Counts, count, Covers};
 ghost use Rattle.ak_member.specs.declared.effect.Effect.{Effect};
-ghost use Rattle.ak_wire.specs.declared.action.Action.TheVariants.{Update};
+ghost use Rattle.ak_wire.specs.declared.action.Action.TheVariants.{Update, MarginEnd};
 ghost use Rattle.ak_schedule.specs.Settings.{SettingsModel, settling_size};
 ghost use Rattle.ak_schedule.specs.declared.event.Event.{Event};
 ghost use Rattle.ak_node.specs.declared.node.State.{State};
@@ -22,6 +22,8 @@ ghost use Rattle.ak_settled.specs.Settled.{candidate, is_finished, needed};
 ghost use Rattle.ak_settled.specs.SettledView.{NotedView};
 ghost use Rattle.ak_world.specs.RunLine.{IsAged, line_of};
 ghost use Rattle.ak_world.specs.SettledLine.{WasSettled, IsOverHalf, AreInLine};
+ghost use Rattle.ak_world.specs.declared.margin.Margin.{Margin};
+ghost use Rattle.ak_world.specs.Margin.{IsStep, Runs, IsTold, IsUntold, IsMargin};
 ghost use Rattle.ak_world.specs.InRun.{WasStarted, HasStopped, AllServe, RunAlone, IsConfirmed, IsNamedIn, IsSettled, HasNoted};
 
 /// After any events, what each node knows and what each packet carries is the fold of the history: its members with
@@ -128,4 +130,25 @@ pub fn noted_views_show_who_has_aged()
         → ¬ IsRemoved (run settings events).history noted.version (me_of n) }
     ensures reached { (settings : SettingsModel) (events : List Event) (index : ℕ) (n : State) (noted : NotedView) → slice_get (run settings events).nodes index ≡ Some n → n.membership.settled.view ≡ Some noted
         → (margin : ℕ) (who : UniqueModel) → IsAged (run settings events).history noted.version who → IsTrue (has (needed margin (Some noted)) who) ⊎ IsTrue (is_finished margin (Some noted) who) }
+{}
+
+/// Whoever was told that it is out at a step of any events does not run at the end of that step; and whoever does not run
+/// at the end of a step was told at it.
+pub fn who_was_told_has_stopped()
+    ensures stopped { (settings : SettingsModel) (events : List Event) (time : ℕ) (who : UniqueModel) → IsTold settings events time who → HasStopped (run settings (take (time + 1) events)).nodes who }
+    ensures told { (settings : SettingsModel) (events : List Event) (time : ℕ) (who : UniqueModel) → HasStopped (run settings (take (time + 1) events)).nodes who → IsTold settings events time who }
+{}
+
+/// A member whose margin ends at a step was told at no earlier step just where it runs at the start of the step. So the margin
+/// is broken at the first end of the margin of a member that runs.
+pub fn margins_break_where_members_run()
+    ensures runs { (settings : SettingsModel) (events : List Event) (time place node : ℕ) (who : UniqueModel) → IsUntold settings events time place node who → Runs (run settings (take time events)).nodes who }
+    ensures untold { (settings : SettingsModel) (events : List Event) (time place node : ℕ) (who : UniqueModel) (event : Event) (done : Done) → IsStep settings events time event done → done.node ≡ Some node → slice_get done.actions place ≡ Some (MarginEnd who)
+        → Runs (run settings (take time events)).nodes who → IsUntold settings events time place node who }
+{}
+
+/// Each list of events has one margin.
+pub fn each_run_has_one_margin()
+    ensures some { (settings : SettingsModel) (events : List Event) → (margin : Margin) × IsMargin settings events margin }
+    ensures one { (settings : SettingsModel) (events : List Event) (one other : Margin) → IsMargin settings events one → IsMargin settings events other → one ≡ other }
 {}

@@ -8,18 +8,23 @@ mod laws;
 mod life_tests;
 #[cfg(test)]
 mod line_tests;
+mod margin;
+#[cfg(test)]
+mod margin_tests;
 mod print;
 #[cfg(test)]
 mod seen_tests;
 mod world;
 
 pub use laws::{
-    a_run_gives_a_line, confirmed_means_stopped, equal_versions_have_equal_members,
-    later_versions_cover_earlier_ones, nodes_count_their_own_updates,
-    noted_views_show_who_has_aged, one_process_runs_at_an_address, running_nodes_serve,
-    settled_versions_are_in_line, settled_views_are_of_the_history, updates_number_their_entries,
-    what_is_known_is_the_fold, who_has_seen_a_version_held_it, who_is_named_was_started,
-    who_knows_an_entry_knows_what_its_author_knew,
+    a_run_gives_a_line, confirmed_means_stopped, each_run_has_one_margin,
+    equal_versions_have_equal_members, later_versions_cover_earlier_ones,
+    margins_break_where_members_run, nodes_count_their_own_updates, noted_views_show_who_has_aged,
+    one_process_runs_at_an_address, running_nodes_serve, settled_versions_are_in_line,
+    settled_views_are_of_the_history, updates_number_their_entries, what_is_known_is_the_fold,
+    who_has_seen_a_version_held_it, who_is_named_was_started,
+    who_knows_an_entry_knows_what_its_author_knew, who_was_told_has_stopped,
 };
+pub use margin::Margin;
 pub use print::{print_step, print_summary};
 pub use world::{Reason, Refused, Step, World};

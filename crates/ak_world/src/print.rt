@@ -1,6 +1,6 @@
 //! The text of a step, and of the end of a replay (this project's format).
 
-ghost use Rattle.std.specs.Prelude.{◌≡◌, ◌++◌, ◌∷◌, [], slice_get, codes, OnOk, OnErr};
+ghost use Rattle.std.specs.Prelude.{◌≡◌, ℕ, List, ◌++◌, ◌∷◌, [], slice_get, codes, OnOk, OnErr};
 ghost use Rattle.std.specs.Fmt.{decimal};
 ghost use Rattle.std.specs.Option.{option_and_then, option_map};
 ghost use Rattle.ak_schedule.specs.Schedule.{event_text};
@@ -8,6 +8,7 @@ ghost use Rattle.ak_report.specs.ActionText.{actions_text};
 ghost use Rattle.ak_world.specs.World.{packet_at};
 ghost use Rattle.ak_world.specs.StepText as text;
 
+use crate::margin::Margin;
 use crate::world::{Step, World};
 use ak_address::print_number;
 use ak_gossip::Gossip;
@@ -122,20 +123,50 @@ fn print_count(name: &[u8], count: u64, out: &mut Vec<u8>) -> Result<(), AllocEr
     print_bytes(b"\n", out)
 }
 
-/// Appends the summary of a replay of so many steps. An error leaves the text as it was; only memory can fail.
+// The process of a start number.
+fn print_name(world: &World, number: u32, out: &mut Vec<u8>) -> Result<(), AllocError>
+    ensures { OnOk result (out.new.items ≡ out.old.items ++ text.name_text (slice_get world.now.state.nodes number)) }
+{
+    match world.node(number) {
+        Some(node) => node.me().print_into(out),
+        None => Ok(()),
+    }
+}
+
+// Whether the removal margin was kept, or where it was broken first.
+fn print_margin(world: &World, margin: Margin, out: &mut Vec<u8>) -> Result<(), AllocError>
+    ensures { OnOk result (out.new.items ≡ out.old.items ++ text.margin_text margin world.now.state.nodes) }
+{
+    match margin {
+        Margin::Kept => print_bytes(b"margin kept\n", out),
+        Margin::Broken { step, node, member } => {
+            print_bytes(b"margin broken step ", out)?;
+            print_number(step, out)?;
+            print_bytes(b" node ", out)?;
+            print_name(world, node, out)?;
+            print_bytes(b" member ", out)?;
+            print_name(world, member, out)?;
+            print_bytes(b"\n", out)
+        }
+    }
+}
+
+/// Appends the summary of a replay of so many steps. Its margin is that of the events that the world accepted. An error
+/// leaves the text as it was; only memory can fail.
 pub fn print_summary(
     alloc: Global,
     world: &World,
     steps: u64,
     out: &mut Vec<u8>,
 ) -> Result<(), AllocError>
-    ensures ok { OnOk result (out.new.items ≡ out.old.items ++ text.summary_text steps world.now.state) }
+    ensures ok { OnOk result ((added : List ℕ) × text.IsSummary world.now.settings world.now.events steps world.now.state added × (out.new.items ≡ out.old.items ++ added)) }
     ensures err { OnErr result (out.new.items ≡ out.old.items) }
 {
     let mut text = Vec::new(alloc);
     print_count(b"steps ", steps, &mut text)?;
     print_count(b"packets ", world.packets(), &mut text)?;
     print_count(b"history ", world.history().len() as u64, &mut text)?;
-    print_bytes(b"margin kept\ndoubles none\n", &mut text)?;
+    print_margin(world, world.margin(), &mut text)?;
+    print_bytes(b"doubles none\n", &mut text)?;
     print_bytes(&text, out)
 }

@@ -2,6 +2,8 @@ ghost use Rattle.std.specs.Prelude.{◌≡◌, ℕ, ◌+◌, ◌-◌, ◌<◌, �
 ghost use Rattle.std.specs.Option.{option_copied, option_map};
 ghost use Rattle.ak_wire.specs.Wire.{sent};
 ghost use Rattle.ak_world.specs.World as rules;
+ghost use Rattle.ak_world.specs.Margin.{IsMargin};
+ghost use Rattle.ak_world.specs.MarginMark as mark;
 ghost use Rattle.std.specs.List.{list_any, position};
 ghost use Rattle.ak_address.specs.Unique.{UniqueModel};
 ghost use Rattle.ak_address.specs.Uniques.{has};
@@ -16,9 +18,10 @@ ghost use Rattle.ak_node.specs.declared.node.State.{State};
 ghost use Rattle.ak_world.specs.InRun.{WasStarted, HasStopped, AllServe, RunAlone, IsConfirmed, IsNamedIn, IsSettled, HasNoted};
 ghost use Rattle.ak_world.specs.SettledLine.{WasSettled, IsOverHalf, AreInLine};
 ghost use Rattle.ak_schedule.specs.Settings.{settling_size};
-ghost use Rattle.ak_world.specs.WorldContracts.{Applies, Scenes, IsReady, Acts, state_of};
+ghost use Rattle.ak_world.specs.WorldContracts.{Applies, Scenes, IsReady, Acts, states, state_of};
 ghost use Rattle.ak_node.specs.NodeContracts.{NodeModel};
 
+use crate::margin::Margin;
 use ak_address::{Address, Unique};
 use ak_history::History;
 use ak_node::{Node, NodeEvent, is_for};
@@ -125,6 +128,45 @@ fn is_in_use(nodes: &[Node], address: &Address) -> bool
     ensures { result ≡ list_any (λ (n : NodeModel). rules.runs_at address.now n.state) nodes.now }
 {
     nodes.iter().any(|node| runs_at(node, address))
+}
+
+// The node is this process, and runs.
+fn runs_as(node: &Node, who: &Unique) -> bool
+    ensures { result ≡ mark.runs_as who.now node.now.state }
+{
+    if node.stopped() {
+        return false;
+    }
+    node.me().compare(who).is_eq()
+}
+
+// Which node the process is, where it runs.
+fn running_of(nodes: &[Node], who: &Unique) -> Option<usize>
+    ensures { result ≡ position (λ (n : NodeModel). mark.runs_as who.now n.state) nodes.now }
+{
+    nodes.iter().position(|node| runs_as(node, who))
+}
+
+// The process whose margin the action ends, where it runs.
+fn running_end(nodes: &[Node], action: &Action) -> Option<usize>
+    ensures { result ≡ mark.running_end (states nodes.now) action.now }
+{
+    match action {
+        Action::MarginEnd(who) => running_of(nodes, who),
+        _ => None,
+    }
+}
+
+// The first such process of the actions.
+fn first_end(nodes: &[Node], actions: &[Action]) -> Option<usize>
+    ensures { result ≡ mark.first_end (states nodes.now) actions.now }
+{
+    'actions: for action in actions {
+        if let Some(index) = running_end(nodes, action) {
+            return Some(index);
+        }
+    }
+    None
 }
 
 impl Scene {
@@ -332,6 +374,30 @@ impl Scene {
         }
     }
 
+    // Whether the margin was kept, after a step of this number.
+    fn marked(&self, margin: Margin, number: u64, step: &Step) -> Margin
+        requires { length self.now.nodes.items ≤ 64 }
+        ensures { result ≡ mark.marked margin number (record { world = state_of self.now; node = step.now.node; actions = step.now.actions }) }
+    {
+        let Margin::Kept = margin else {
+            return margin;
+        };
+        let Some(node) = step.node else {
+            return Margin::Kept;
+        };
+        let Some(index) = first_end(&self.nodes, step.actions.as_slice()) else {
+            return Margin::Kept;
+        };
+        match number_of(index) {
+            Some(member) => Margin::Broken {
+                step: number,
+                node,
+                member,
+            },
+            None => Margin::Kept,
+        }
+    }
+
     // The number of the next packet that is sent.
     fn next_packet(&self) -> u64
         ensures { result ≡ length self.now.packets.items + 1 }
@@ -423,12 +489,20 @@ fn keep_event(alloc: Global, event: &Event, accepted: &mut Vec<Event>) -> Result
     Ok(())
 }
 
+// How many events there are.
+fn count_of(events: &[Event]) -> u64
+    ensures { result ≡ length events.now }
+{
+    events.len() as u64
+}
+
 /// A world: the run of its settings over the events that it accepted. Once out of memory it is spent: it still shows its
 /// settings and the events that it accepted, and each later event answers that it is out of memory.
 #[derive(Drop)]
 pub struct World {
     scene: Scene,
     accepted: Vec<Event>,
+    margin: Margin,
     is_spent: bool,
 }
 
@@ -447,7 +521,7 @@ impl Model for World {
 
     ghost view = { λ w. record { settings = w.scene.settings; state = state_of w.scene; events = w.accepted.items; spent = w.is_spent } };
 
-    ghost invariant = { λ w. IsWorld w.scene.settings (state_of w.scene) w.accepted.items w.is_spent };
+    ghost invariant = { λ w. IsWorld w.scene.settings (state_of w.scene) w.accepted.items w.margin w.is_spent };
 }
 
 impl World {
@@ -465,6 +539,7 @@ impl World {
         World {
             scene,
             accepted: Vec::new(alloc),
+            margin: Margin::Kept,
             is_spent: false,
         }
     }
@@ -518,6 +593,9 @@ impl World {
         match self.scene.happens(alloc, event) {
             Ok(step) => {
                 if keep_event(alloc, event, &mut self.accepted).is_ok() {
+                    let number = count_of(&self.accepted);
+                    let margin = self.scene.marked(self.margin, number, &step);
+                    self.margin = margin;
                     return Ok(step);
                 }
                 self.is_spent = true;
@@ -543,6 +621,17 @@ impl World {
         ensures { option_map (λ n. n.now.state) result ≡ slice_get self.now.state.nodes number }
     {
         self.scene.nodes.get(number as usize)
+    }
+
+    /// Whether the removal margin was kept in the events that were accepted, or where it was broken first: where a node of the
+    /// world found that the margin of a member had ended that was told at no earlier step that it is out. A member is told
+    /// where it stops, where what it knows comes to cover an entry that downs or removes it, and where static-quorum decides
+    /// at its tick that its side gives up. A spent world answers for the events that it accepted. Takes no memory. (This
+    /// project's choice: whether a margin was long enough is known to the world alone.)
+    pub fn margin(&self) -> Margin
+        ensures { IsMargin self.now.settings self.now.events result }
+    {
+        self.margin
     }
 
     /// How many packets were sent.

@@ -1,7 +1,7 @@
-use Rattle.std.proofs.Common.{◌≡◌, false, ◌<◌, ◌^◌, ◌++◌, ◌∷◌, [], List, length, sym, subst, ap, ◌∙◌, arith}
+use Rattle.std.proofs.Common.{◌≡◌, false, ◌<◌, ◌≤◌, ◌^◌, ◌++◌, ◌∷◌, [], List, length, sym, subst, ap, ◌∙◌, arith}
 use Rattle.std.proofs.lemmas.Grind.{common_steps}
 use Rattle.ak_schedule.specs.declared.event.Event.{Event}
-use Rattle.ak_world.specs.World.{run}
+use Rattle.ak_world.specs.World.{WorldState, run}
 use Rattle.ak_world.specs.WorldContracts.{WorldModel, IsReady, state_of}
 use Rattle.ak_world.proofs.FoldRuns.{folds-of_run, views_at_times}
 use Rattle.ak_world.proofs.SeenHeld.{seen-of_run}
@@ -10,7 +10,8 @@ use Rattle.ak_world.proofs.HeldInOrder.{held_in_order}
 use Rattle.ak_world.proofs.InRunLemmas.{serve-of_run, confirmed-of_run, alone-of_run, started-of_run, settled-of_run}
 use Rattle.ak_world.proofs.Noted.{noted_in_order}
 use Rattle.ak_world.proofs.SettledRuns.{in_line, noted-of_run}
-use Rattle.ak_world.proofs.WorldLemmas.{ready_run, run-went, at-ok}
+use Rattle.ak_world.proofs.MarginRuns.{went_margin}
+use Rattle.ak_world.proofs.WorldLemmas.{ready_run, few_run, length-states, run-went, at-ok}
 use Rattle.ak_world.proofs.world.World.apply.Goals as goal
 
 pub happens-requires : goal.happens-requires
@@ -26,7 +27,19 @@ invariant_of-self c =
     record {
       is_run = λ alive.
           run-went c.self.inside.scene.settings _ _ _ c.self.inside.accepted.items _ c.args.event.now _ (c.self.invariant.is_run c.if-self.false) c.happens.ensures.settings kept c.in-Ok.ensures.scenes;
+      is_margin =
+          went_margin c.self.inside.scene.settings _ _ _ c.self.inside.accepted.items _ c.args.event.now _ c.self.inside.margin _ _ (c.self.invariant.is_run c.if-self.false) c.happens.ensures.settings kept (c.count_of-number.ensures ∙ ap length c.deref.ensures.value) c.in-Ok.ensures.scenes
+          c.marked-margin.ensures c.self.invariant.is_margin;
     }
+
+pub marked-margin-requires : goal.marked-margin-requires
+marked-margin-requires c =
+    let kept : c.keep_event.new.accepted.items ≡ c.self.inside.accepted.items ++ c.args.event.now ∷ [] =
+    at-ok c.keep_event.result _ (sym c.is_ok.ensures.value ∙ c.if-is_ok.true) c.keep_event.ensures.ok in
+    let is_run : state_of c.happens.new.self ≡ run c.happens.new.self.settings c.keep_event.new.accepted.items =
+    run-went c.self.inside.scene.settings _ _ _ c.self.inside.accepted.items _ c.args.event.now _ (c.self.invariant.is_run c.if-self.false) c.happens.ensures.settings kept c.in-Ok.ensures.scenes in
+    let few : length (state_of c.happens.new.self).nodes ≤ 64 = subst (λ (w : WorldState). length w.nodes ≤ 64) (sym is_run) (few_run c.happens.new.self.settings c.keep_event.new.accepted.items) in
+    omega (arith, few, length-states c.happens.new.self.nodes.items)
 
 pub returns-then-is_ok-clause-run : goal.returns-then-is_ok-clause-run
 returns-then-is_ok-clause-run c =

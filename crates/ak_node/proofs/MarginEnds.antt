@@ -1,0 +1,207 @@
+-- Whose margin ends in a step: tombstones of the settled view, at a tick.
+use Rattle.std.proofs.Common.{ℕ, ◌≡◌, ◌+◌, Bool, true, false, not, inl, inr, if◌then◌else◌, List, [], ◌∷◌, ◌++◌, Option, Some, None, Result, Ok, Err, IsTrue, Contains, refl, sym, ap, ◌∙◌, subst, true≢false}
+use Rattle.ak_address.specs.Unique.{AddressModel, UniqueModel}
+use Rattle.ak_address.specs.Changed.{keys_of}
+use Rattle.ak_address.specs.Uniques.{in_order}
+use Rattle.ak_address.proofs.Elements.{contains_nothing, first_or_rest, contains_either, in_map}
+use Rattle.std.specs.FinMap as finmap
+use Rattle.ak_member.specs.declared.effect.Effect.{Effect}
+use Rattle.ak_member.specs.declared.effect.Effect.TheVariants.{Observed}
+use Rattle.ak_member.specs.Standing.{tombstone_of, is_exiting}
+use Rattle.ak_leader.specs.Leader.{founding_effects, leaders_effects}
+use Rattle.ak_settled.specs.Settled.{standings_of, ticked, ending, after_tick, IsCounting}
+use Rattle.ak_settled.specs.SettledView.{SettledView}
+use Rattle.ak_settled.proofs.SettledLaws.{ticked_finished, finished_means}
+use Rattle.ak_membership.specs.declared.change.MemberFault.{MemberFault}
+use Rattle.ak_membership.specs.declared.change.Reply.{Reply}
+use Rattle.ak_membership.specs.declared.change.Reply.TheVariants as reply
+use Rattle.ak_membership.specs.declared.state.MembershipState.{MembershipState}
+use Rattle.ak_membership.specs.Membership as membership
+use Rattle.ak_membership.specs.Membership.{may_count, made, update, update_any, unchanged, is_member_with}
+use Rattle.ak_membership.specs.Closing as closing
+use Rattle.ak_membership.specs.declared.change.Closing.{Closing}
+use Rattle.ak_membership.specs.Tick as ticks
+use Rattle.ak_membership.specs.Tick.{observes, silent, decides, decided, founds, leads, updates, counted}
+use Rattle.ak_wire.specs.declared.action.Action.{Action}
+use Rattle.ak_wire.specs.declared.action.Action.TheVariants as action
+use Rattle.ak_wire.specs.declared.envelope.Message.{Message}
+use Rattle.ak_wire.specs.declared.envelope.Message.TheVariants as message
+use Rattle.ak_node.specs.declared.node.State.{State}
+use Rattle.ak_node.specs.declared.node.NodeEvent.{NodeEvent}
+use Rattle.ak_node.specs.declared.node.NodeEvent.TheVariants as event
+use Rattle.ak_node.specs.Node.{Outcome, known, me_of, is_member, is_gone, nothing, and_then, to_each, update_by, does, does_for, answer, unless_refused, asks_at, counted_members, exits, gossips_to, goes_on, ends, beats, on_message, rule, if_so, due, closes, is_dead, running_step, step}
+use Rattle.ak_node.proofs.StepChanges.{step_is}
+
+-- ---- no action of these ends a margin
+abbrev EndsNone : List Action → Type 0
+EndsNone actions = (who : UniqueModel) → Contains actions (action.MarginEnd who) → ⊥
+
+-- an action that ends no margin
+abbrev is_end : Action → Bool
+is_end (action.MarginEnd who) = true
+is_end other = false
+
+none_of : EndsNone []
+none_of who there = contains_nothing _ there
+
+none_first : (a : Action) (actions : List Action) → is_end a ≡ false → EndsNone actions → EndsNone (a ∷ actions)
+none_first a actions is rest who there = elim (first_or_rest a (action.MarginEnd who) actions there) [
+  | inl same ↦ true≢false (ap is_end same ∙ is)
+  | inr later ↦ rest who later
+]
+
+none_both : (a b : List Action) → EndsNone a → EndsNone b → EndsNone (a ++ b)
+none_both a b x y who there = elim (contains_either a b (action.MarginEnd who) there) [ inl one ↦ x who one | inr other ↦ y who other ]
+
+none_each : (n : State) (tos : List UniqueModel) (what : Message) → EndsNone (to_each n tos what)
+none_each n [] what = none_of
+none_each n (to ∷ tos) what = none_first _ (to_each n tos what) refl (none_each n tos what)
+
+none_updated : (number : Option ℕ) (effects : List Effect) → EndsNone (update_by number effects)
+none_updated None effects = none_of
+none_updated (Some number) effects = none_first _ [] refl none_of
+
+none_if : (b : Bool) (o p : Outcome) → EndsNone o.1 → EndsNone p.1 → EndsNone (if b then o else p).1
+none_if true o p x y = x
+none_if false o p x y = y
+
+none_refused : (next : membership.Outcome → Outcome) (n : State) (r : Result membership.Outcome MemberFault) → ((o : membership.Outcome) → EndsNone (next o).1) → EndsNone (unless_refused next n r).1
+none_refused next n (Ok o) each = each o
+none_refused next n (Err fault) each = none_first _ [] refl none_of
+
+none_asked : (target : Option AddressModel) (n : State) → EndsNone (asks_at target n).1
+none_asked None n = none_of
+none_asked (Some target) n = none_first _ [] refl none_of
+
+none_told : (to : Option UniqueModel) (n : State) → EndsNone (gossips_to to n).1
+none_told None n = none_of
+none_told (Some to) n = none_first _ [] refl none_of
+
+none_on : (word : ℕ) (n : State) → EndsNone (goes_on word n).1
+none_on word n =
+    none_if (is_gone n) (nothing n) _ none_of
+    (none_if (is_member_with is_exiting (known n).view.standings (me_of n)) (exits n) (gossips_to (ticks.gossip_peer word n.membership) n)
+    (none_each n (counted_members n) message.ExitingConfirmed) (none_told (ticks.gossip_peer word n.membership) n))
+
+none_answered : (r : Reply) (to : UniqueModel) (n : State) → EndsNone (answer r to n)
+none_answered reply.Nothing to n = none_of
+none_answered reply.Welcome to n = none_first _ [] refl none_of
+none_answered reply.Gossip to n = none_first _ [] refl none_of
+
+none_for : (from : UniqueModel) (n : State) (o : membership.Outcome) → EndsNone (does_for from n o).1
+none_for from n o = none_both _ _ (none_updated o.1.number o.1.effects) (none_answered o.1.reply from (does n o).0)
+
+none_heard : (from : UniqueModel) (m : Message) (n : State) → EndsNone (on_message from m n).1
+none_heard from message.Join n = none_refused (does_for from n) n (membership.on_join from n.membership) (none_for from n)
+none_heard from (message.Welcome g) n = none_refused (does_for from n) n (membership.on_gossip g n.membership) (none_for from n)
+none_heard from (message.Gossip g) n = none_refused (does_for from n) n (membership.on_gossip g n.membership) (none_for from n)
+none_heard from message.Heartbeat n = none_if (is_member n) _ (nothing n) (none_first _ [] refl none_of) none_of
+none_heard from message.HeartbeatReply n = none_if (is_member n) _ (nothing n) none_of none_of
+none_heard from message.ExitingConfirmed n = none_if (is_member n) _ (nothing n) none_of none_of
+
+none_so : (b : Bool) (a : Action) → is_end a ≡ false → EndsNone (if_so b a)
+none_so true a is = none_first a [] is none_of
+none_so false a is = none_of
+
+none_due : (c : Closing) → EndsNone (due c)
+none_due c =
+    none_both (if_so c.viewed action.View ++ if_so c.stopped action.Stopped) (if_so c.settled action.Settled)
+    (none_both (if_so c.viewed action.View) (if_so c.stopped action.Stopped) (none_so c.viewed action.View refl) (none_so c.stopped action.Stopped refl))
+    (none_so c.settled action.Settled refl)
+
+none_closed : (n : State) → EndsNone (closes n).1
+none_closed n = none_due (closing.close (not n.runs) n.membership).1
+
+-- ---- an update leaves the settled view to the tick
+record Leaves (m : MembershipState) (o : membership.Outcome) : Type 0 where
+  settings : o.0.settings ≡ m.settings
+  settled : o.0.settled ≡ m.settled
+
+module _ (m : MembershipState) where
+  leaves_if : (b : Bool) (o p : membership.Outcome) → Leaves m o → Leaves m p → Leaves m (if b then o else p)
+  leaves_if true o p x y = x
+  leaves_if false o p x y = y
+
+  update_leaves : (effects : List Effect) → Leaves m (update effects m)
+  update_leaves effects = leaves_if (may_count m) (made effects m) (unchanged m) (record { settings = refl; settled = refl }) (record { settings = refl; settled = refl })
+
+  update_any_leaves : (effects : List Effect) → Leaves m (update_any effects m)
+  update_any_leaves [] = record { settings = refl; settled = refl }
+  update_any_leaves (x ∷ effects) = update_leaves (x ∷ effects)
+
+  updates_leave : Leaves m (updates m)
+  updates_leave =
+      leaves_if (observes m) (update (Observed (silent m) ∷ []) m) _ (update_leaves (Observed (silent m) ∷ []))
+      (leaves_if (decides m) (update (decided m) m) _ (update_leaves (decided m))
+      (leaves_if (founds m) (update (founding_effects m.gossip.view.standings) m) _ (update_leaves (founding_effects m.gossip.view.standings))
+      (leaves_if (leads m) (update_any (leaders_effects m.gossip.view m.confirmed) m) (unchanged m) (update_any_leaves (leaders_effects m.gossip.view m.confirmed)) (record { settings = refl; settled = refl }))))
+
+-- ---- whose margin ends in a step
+abbrev Ending : State → List Action → Type 0
+Ending n actions = (who : UniqueModel) → Contains actions (action.MarginEnd who) → Contains (ending n.membership.settings.margin n.membership.settled.view) who
+
+end_of : Action → UniqueModel → UniqueModel
+end_of (action.MarginEnd who) other = who
+end_of a other = other
+
+module _ (n : State) where
+  none_ends : (actions : List Action) → EndsNone actions → Ending n actions
+  none_ends actions none who there = absurd (none who there)
+
+  ending_if : (b : Bool) (o p : Outcome) → (b ≡ true → Ending n o.1) → Ending n p.1 → Ending n (if b then o else p).1
+  ending_if true o p x y = x refl
+  ending_if false o p x y = y
+
+  ending_both : (a b : List Action) → Ending n a → EndsNone b → Ending n (a ++ b)
+  ending_both a b x none who there = elim (contains_either a b (action.MarginEnd who) there) [ inl one ↦ x who one | inr other ↦ absurd (none who other) ]
+
+  tick_ended : is_member n ≡ true → (ticks.tick n.membership).0.settled.just_ended ≡ ending n.membership.settings.margin n.membership.settled.view
+  tick_ended member =
+      let left = updates_leave n.membership in
+      ap (λ b. (if b then (counted (updates n.membership).0, (updates n.membership).1) else unchanged n.membership).0.settled.just_ended) member
+      ∙ (λ i. (after_tick (left.settings i).margin (left.settled i)).just_ended)
+
+  ends_ending : (after : State) → after.membership.settled.just_ended ≡ ending n.membership.settings.margin n.membership.settled.view → Ending n (ends after)
+  unfolding end_of
+  ends_ending after is who there =
+      let h = in_map action.MarginEnd after.membership.settled.just_ended (action.MarginEnd who) there in
+      subst (λ l. Contains l who) is (subst (Contains after.membership.settled.just_ended) (sym (ap (λ a. end_of a who) h.2)) h.1)
+
+  ticking : (word : ℕ) → Ending n (rule (event.Tick word) n).1
+  ticking word =
+      let t = ticks.tick n.membership in
+      let after : State = record n { membership = t.0 } in
+      ending_if (is_member n) _ (asks_at n.membership.target n)
+      (λ member.
+      ending_both (ends after ++ beats after ++ update_by t.1.number t.1.effects) (goes_on word after).1
+      (ending_both (ends after ++ beats after) (update_by t.1.number t.1.effects)
+      (ending_both (ends after) (beats after) (ends_ending after (tick_ended member)) (none_each after (in_order (keys_of after.membership.detector)) message.Heartbeat))
+      (none_updated t.1.number t.1.effects))
+      (none_on word after))
+      (none_ends _ (none_asked n.membership.target n))
+
+  ruling : (e : NodeEvent) → Ending n (rule e n).1
+  ruling event.Found = none_ends _ (none_updated (membership.found n.membership).1.number (membership.found n.membership).1.effects)
+  ruling (event.Join target) = none_ends _ (none_if (is_member n) (nothing n) _ none_of (none_first _ [] refl none_of))
+  ruling (event.Tick word) = ticking word
+  ruling (event.Packet p) = none_ends _ (none_heard p.from p.message n)
+  ruling (event.Leave who) = none_ends _ (none_refused (does n) n (membership.leave who n.membership) (λ o. none_updated o.1.number o.1.effects))
+  ruling (event.Down who) = none_ends _ (none_refused (does n) n (membership.down who n.membership) (λ o. none_updated o.1.number o.1.effects))
+  ruling event.Stop = none_ends [] none_of
+
+  running : (e : NodeEvent) → Ending n (running_step e n).1
+  running e = ending_if (is_dead (me_of n) e) (n, action.Dead ∷ []) (and_then closes (rule e n)) (λ _. none_ends (action.Dead ∷ []) (none_first action.Dead [] refl none_of)) (ending_both (rule e n).1 (closes (rule e n).0).1 (ruling e) (none_closed (rule e n).0))
+
+pub step_ends : (e : NodeEvent) (n : State) → IsTrue n.runs → (who : UniqueModel) → Contains (step e n).1 (action.MarginEnd who) → Contains (ending n.membership.settings.margin n.membership.settled.view) who
+step_ends e n runs who there = running (record n { steps = n.steps + 1 }) e who (subst (λ (o : Outcome). Contains o.1 (action.MarginEnd who)) (step_is e n runs) there)
+
+-- whose counter reaches the margin is a tombstone of the settled view
+standings-ticked : (margin : ℕ) (settled : SettledView) → standings_of (ticked margin settled) ≡ standings_of settled
+standings-ticked margin None = refl
+standings-ticked margin (Some noted) = refl
+
+pub ending_tombstone : (margin : ℕ) (settled : SettledView) (who : UniqueModel) → IsCounting margin settled → Contains (ending margin settled) who
+    → (confirmed : Bool) × (tombstone_of (finmap.get (standings_of settled) who) ≡ Some confirmed)
+ending_tombstone margin settled who counting there =
+    let over = finished_means margin (ticked margin settled) who ((ticked_finished margin settled who counting).1 (inr there)) in
+    (over.0, ap (λ s. tombstone_of (finmap.get s who)) (sym (standings-ticked margin settled)) ∙ over.1)

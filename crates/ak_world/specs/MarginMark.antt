@@ -1,0 +1,44 @@
+-- How a world keeps in mind whether its removal margin was kept: at a step it looks whether a process runs whose margin ends.
+use Rattle.std.specs.Prelude.{ℕ, Bool, ◌&&◌, List, [], ◌∷◌, Option, Some, None}
+use Rattle.std.specs.List.{position}
+use Rattle.ak_address.specs.Unique.{UniqueModel}
+use Rattle.ak_wire.specs.declared.action.Action.{Action}
+use Rattle.ak_wire.specs.declared.action.Action.TheVariants.{Send, Update, View, Settled, MarginEnd, Refused, Dead, Stopped}
+use Rattle.ak_node.specs.declared.node.State.{State}
+use Rattle.ak_world.specs.declared.margin.Margin.{Margin}
+use Rattle.ak_world.specs.declared.margin.Margin.TheVariants.{Kept, Broken}
+use Rattle.ak_world.specs.World.{Done, is_process}
+
+-- a node is this process, and runs
+abbrev pub runs_as : UniqueModel → State → Bool
+runs_as u n = n.runs && is_process u n
+
+-- the number of the process whose margin an action ends, where it runs
+abbrev pub running_end : List State → Action → Option ℕ
+running_end nodes (Send e) = None
+running_end nodes (Update number effects) = None
+running_end nodes View = None
+running_end nodes Settled = None
+running_end nodes (MarginEnd who) = position (runs_as who) nodes
+running_end nodes (Refused why) = None
+running_end nodes Dead = None
+running_end nodes Stopped = None
+
+abbrev pub or_else : Option ℕ → Option ℕ → Option ℕ
+or_else None other = other
+or_else (Some number) other = Some number
+
+-- the first such process
+abbrev pub first_end : List State → List Action → Option ℕ
+first_end nodes [] = None
+first_end nodes (a ∷ actions) = or_else (running_end nodes a) (first_end nodes actions)
+
+-- a broken margin stays so; a kept one is broken where a node acts and there is such a process
+abbrev pub broken_by : ℕ → Option ℕ → Option ℕ → Margin
+broken_by step (Some node) (Some member) = Broken step node member
+broken_by step (Some node) None = Kept
+broken_by step None member = Kept
+
+abbrev pub marked : Margin → ℕ → Done → Margin
+marked Kept step done = broken_by step done.node (first_end done.world.nodes done.actions)
+marked (Broken earlier node member) step done = Broken earlier node member

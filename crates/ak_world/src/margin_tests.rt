@@ -1,0 +1,96 @@
+ghost use Rattle.std.specs.Prelude.{◌+◌, ◌<◌, ◌≤◌, length, IfOk};
+
+use crate::fold_tests::settings_of;
+use crate::margin::Margin;
+use crate::world::World;
+use ak_schedule::read_line;
+use std::alloc::Global;
+use std::test::Fail;
+
+// A tombstone waits for two ticks.
+const HEADERS: [&str; 9] = [
+    "listed a:1 b:1",
+    "strategy down-all",
+    "margin 2",
+    "deadline 1",
+    "stable 9",
+    "shards 10",
+    "buffer 2",
+    "threshold 1",
+    "limit 1",
+];
+
+// a founds, b joins, both are Up, and b downs a, which does not hear of it.
+const DOWNED: [&str; 11] = [
+    "start a:1#1",
+    "start b:1#1",
+    "found a:1#1",
+    "tick a:1#1 0",
+    "join b:1#1 a:1",
+    "tick a:1#1 0",
+    "deliver 1",
+    "deliver 2",
+    "tick a:1#1 0",
+    "deliver 5",
+    "down b:1#1 a:1#1",
+];
+
+// b finds a silent, removes it, and waits; at its fifth tick the margin ends.
+const REMOVED: [&str; 3] = ["tick b:1#1 0", "tick b:1#1 0", "tick b:1#1 0"];
+
+const WAITED: [&str; 2] = ["tick b:1#1 0", "tick b:1#1 0"];
+
+// a stops after its margin ended.
+const LATE: [&str; 2] = ["stop a:1#1", "tick b:1#1 0"];
+
+// a stops a tick before that.
+const IN_TIME: [&str; 3] = ["tick b:1#1 0", "stop a:1#1", "tick b:1#1 0"];
+
+// a hears from b that it is Down, and stops.
+const TOLD: [&str; 2] = ["deliver 5", "deliver 7"];
+
+// The margin after some more lines.
+fn margin_after(alloc: Global, world: &mut World, lines: &[&str]) -> Result<Margin, Fail>
+    requires { length world.old.events + length lines.now < 1000 }
+    ensures { IfOk result (λ margin. length world.new.events ≤ length world.old.events + length lines.now) }
+{
+    'lines: for line in lines {
+        let event = read_line(alloc, line.as_bytes())?;
+        if world.apply(alloc, &event).is_err() {
+            return Err("an event was refused")?;
+        }
+    }
+    Ok(world.margin())
+}
+
+#[test]
+fn a_margin_that_ends_before_a_member_is_told_is_broken(rt: HostRuntime) -> Result<(), Fail> {
+    let alloc = rt.alloc();
+    let mut world = World::new(alloc, settings_of(alloc, HEADERS)?);
+    assert_eq!(rt; world.margin(), Margin::Kept);
+    assert_eq!(rt; margin_after(alloc, &mut world, &DOWNED)?, Margin::Kept);
+    assert_eq!(rt; margin_after(alloc, &mut world, &REMOVED)?, Margin::Kept);
+    let broken = Margin::Broken {
+        step: 16,
+        node: 1,
+        member: 0,
+    };
+    assert_eq!(rt; margin_after(alloc, &mut world, &WAITED)?, broken);
+    assert_eq!(rt; margin_after(alloc, &mut world, &LATE)?, broken);
+    Ok(())
+}
+
+#[test]
+fn a_margin_that_ends_after_a_member_has_stopped_is_kept(rt: HostRuntime) -> Result<(), Fail> {
+    let alloc = rt.alloc();
+    let mut world = World::new(alloc, settings_of(alloc, HEADERS)?);
+    margin_after(alloc, &mut world, &DOWNED)?;
+    margin_after(alloc, &mut world, &REMOVED)?;
+    assert_eq!(rt; margin_after(alloc, &mut world, &IN_TIME)?, Margin::Kept);
+    let mut told = World::new(alloc, settings_of(alloc, HEADERS)?);
+    margin_after(alloc, &mut told, &DOWNED)?;
+    margin_after(alloc, &mut told, &TOLD)?;
+    margin_after(alloc, &mut told, &REMOVED)?;
+    assert_eq!(rt; margin_after(alloc, &mut told, &WAITED)?, Margin::Kept);
+    Ok(())
+}
