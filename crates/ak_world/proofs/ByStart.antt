@@ -5,7 +5,7 @@ use Rattle.std.proofs.lemmas.Cmp.{tied_itself}
 use Rattle.std.proofs.lemmas.Option.{slice_get_within}
 use Rattle.std.specs.Ordering.{is_eq}
 use Rattle.ak_address.specs.Unique.{UniqueModel, address_cmp}
-use Rattle.ak_address.proofs.Elements.{any_there}
+use Rattle.ak_address.proofs.Elements.{any_there, contains_at}
 use Rattle.ak_address.proofs.OrderLemmas.{address_total}
 use Rattle.ak_schedule.specs.Settings.{SettingsModel}
 use Rattle.ak_node.specs.declared.node.State.{State}
@@ -14,7 +14,7 @@ use Rattle.ak_node.specs.Node.{me_of, started, step}
 use Rattle.ak_node.proofs.StepChanges.{step_changes}
 use Rattle.ak_world.specs.declared.world.Reason.{Reason}
 use Rattle.ak_world.specs.World.{WorldState, Done, is_in_use, runs_at, after}
-use Rattle.ak_world.proofs.IndexLemmas.{contains_at, set_at, push_at}
+use Rattle.ak_world.proofs.IndexLemmas.{set_at, push_at}
 use Rattle.ak_world.proofs.WhatHappened.{begins, steps, nobody, IsAnswer}
 
 pub record ByStart (settings : SettingsModel) (nodes : List State) : Type 0 where

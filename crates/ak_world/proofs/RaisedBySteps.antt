@@ -10,7 +10,7 @@ use Rattle.ak_member.specs.declared.effect.Effect.TheVariants.{Joined, Rise, Rem
 use Rattle.ak_member.specs.declared.status.Status.{Status}
 use Rattle.ak_member.specs.declared.status.Status.TheVariants.{Joining, Up, Leaving, Exiting, Down}
 use Rattle.ak_member.specs.Standing as standing
-use Rattle.ak_member.specs.Standing.{member_of}
+use Rattle.ak_member.specs.Standing.{member_of, is_up}
 use Rattle.ak_member.specs.View.{View}
 use Rattle.ak_leader.specs.Led.{IsMemberWith}
 use Rattle.ak_converge.specs.Convergence.{is_settled}
@@ -18,7 +18,6 @@ use Rattle.ak_history.specs.declared.entry.Entry.{Entry}
 use Rattle.ak_history.specs.History.{entries_of, IsNumbered, IsBounded, view}
 use Rattle.ak_history.specs.Shown.{IsNamed}
 use Rattle.ak_schedule.specs.Settings.{SettingsModel, settling_size}
-use Rattle.ak_membership.specs.Membership.{is_up}
 use Rattle.ak_membership.specs.Tick.{has_settled}
 use Rattle.ak_membership.specs.Knowledge.{Knowledge, Keeps, Updates, Accepts, made_by, HasMember, IsFounding, IsCause, IsLawful}
 use Rattle.ak_membership.proofs.Causes.{status_of, joining_member}

@@ -1,12 +1,12 @@
 -- In the words of the run: settled versions are in line, and what a node has noted as settled was settled.
-use Rattle.std.proofs.Common.{◌≡◌, ℕ, ◌*◌, ◌<◌, inl, inr, List, [], ◌∷◌, ◌++◌, length, take, Some, is_some, Result, Ok, Err, slice_get, IsTrue, refl, sym, ap, ◌∙◌, subst, arith, true≢false, append_assoc}
+use Rattle.std.proofs.Common.{◌≡◌, ℕ, ◌*◌, ◌<◌, inl, inr, List, [], ◌∷◌, ◌++◌, length, take, Some, None, is_some, Result, Ok, Err, slice_get, IsTrue, refl, sym, ap, ◌∙◌, subst, arith, true≢false, append_assoc}
 use Rattle.ak_address.specs.Distinct.{distinct}
 use Rattle.ak_clock.specs.Version.{Counts}
 use Rattle.ak_converge.specs.Convergence.{is_settled}
 use Rattle.ak_schedule.specs.declared.event.Event.{Event}
 use Rattle.ak_schedule.specs.Settings.{SettingsModel, settling_size}
-use Rattle.ak_settled.specs.Settled.{version_of}
-use Rattle.ak_settled.specs.SettledView.{SettledModel, NotedView}
+use Rattle.ak_settled.specs.Settled.{version_of, ticked}
+use Rattle.ak_settled.specs.SettledView.{SettledView, SettledModel, NotedView}
 use Rattle.ak_node.specs.declared.node.State.{State}
 use Rattle.ak_node.specs.declared.node.NodeEvent.{NodeEvent}
 use Rattle.ak_node.specs.Node.{known, started, step}
@@ -122,8 +122,14 @@ module _ (settings : SettingsModel) (past : List Event) (event : Event) where
       → slice_get (run settings now).nodes index ≡ Some (step e n).0 → NotesSettled settings now (step e n).0
   given w e index n at runs before here noted is = by_case (step_notes e n runs)
     where
+      -- where its tombstones wait for a tick more, it is the same view
+      by_view : (v : SettledView) → n.membership.settled.view ≡ v → ticked n.membership.settings.margin v ≡ Some noted → SettledIn settings now size noted.version
+      by_view None at none = absurd (true≢false (sym (ap is_some none)))
+      by_view (Some old) at waits = subst (SettledIn settings now size) (ap version_of waits) (still n before old at)
+
       by_case : Notes n (step e n).0 → SettledIn settings now size noted.version
-      by_case (inl same) = still n before noted (ap (λ (s : SettledModel). s.view) (sym same) ∙ is)
+      by_case (inl (inl same)) = still n before noted (ap (λ (s : SettledModel). s.view) (sym same) ∙ is)
+      by_case (inl (inr later)) = by_view n.membership.settled.view refl (ap (λ (s : SettledModel). s.view) (sym later) ∙ is)
       by_case (inr new) = record {
         first = now;
         more = [];
