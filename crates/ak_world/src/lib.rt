@@ -20,8 +20,7 @@ pub use laws::{
     nodes_count_their_own_updates, one_process_runs_at_an_address, running_nodes_serve,
     settled_views_are_of_the_history, updates_number_their_entries, what_is_known_is_the_fold,
     who_has_seen_a_version_held_it, who_is_named_was_started,
-    who_was_told_has_stopped,
-    who_knows_an_entry_knows_what_its_author_knew,
+    who_knows_an_entry_knows_what_its_author_knew, who_was_told_has_stopped,
 };
 pub use margin::Margin;
 pub use print::{print_step, print_summary};

@@ -387,7 +387,11 @@ impl Scene {
             return Margin::Kept;
         };
         match number_of(index) {
-            Some(member) => Margin::Broken { step: number, node, member },
+            Some(member) => Margin::Broken {
+                step: number,
+                node,
+                member,
+            },
             None => Margin::Kept,
         }
     }
