@@ -1,5 +1,5 @@
 -- What is printed of the parts of a step and a summary, one after another.
-use Rattle.std.proofs.Common.{◌≡◌, ℕ, List, [], ◌∷◌, ◌++◌, length, Option, ap, ◌∙◌, append_assoc}
+use Rattle.std.proofs.Common.{◌≡◌, ℕ, List, [], ◌∷◌, ◌++◌, length, Option, sym, ap, ◌∙◌, append_assoc}
 use Rattle.std.specs.Prelude.{codes}
 use Rattle.std.specs.Fmt.{decimal}
 use Rattle.ak_report.specs.ActionText.{actions_text}
@@ -55,6 +55,11 @@ margin_printed a b c d e f g t0 t1 t2 t3 t4 t5 t6 t7 e1 e2 e3 e4 e5 e6 e7 =
   where
     in_order : (a b c d e f g t : List ℕ) → (((((((t ++ a) ++ b) ++ c) ++ d) ++ e) ++ f) ++ g) ≡ t ++ (a ++ b ++ c ++ d ++ e ++ f ++ g)
     in_order a b c d e f g t = simp append_assoc
+
+pub margin_done : (a b c d e f g text t0 t1 t2 t3 t4 t5 t6 t7 : List ℕ) → t1 ≡ t0 ++ a → t2 ≡ t1 ++ b → t3 ≡ t2 ++ c → t4 ≡ t3 ++ d → t5 ≡ t4 ++ e → t6 ≡ t5 ++ f → text ≡ a ++ b ++ c ++ d ++ e ++ f ++ g
+    → t7 ≡ t6 ++ g → t7 ≡ t0 ++ text
+margin_done a b c d e f g text t0 t1 t2 t3 t4 t5 t6 t7 e1 e2 e3 e4 e5 e6 is printed =
+    margin_printed a b c d e f g t0 t1 t2 t3 t4 t5 t6 t7 e1 e2 e3 e4 e5 e6 printed ∙ ap (λ (t : List ℕ). t0 ++ t) (sym is)
 
 -- the parts of a step, one after another
 pub step_printed : (first number : ℕ) (e : Event) (done : Done) (n : Option State) (t0 t1 t2 t3 : List ℕ) → n ≡ acting done → t0 ≡ []
