@@ -5,6 +5,7 @@ use Rattle.std.specs.Fmt.{digits, decimal}
 use Rattle.std.specs.Prelude.{nat_le, nat_lt, map as list_map}
 use Rattle.std.specs.List.{AllPairs, list_all, concat}
 use Rattle.std.specs.FinMap as map
+use Rattle.ak_address.specs.Counters.{Counters}
 use Rattle.ak_address.specs.Uniques.{no_one, with_one}
 use Rattle.ak_address.proofs.TableLaws.{get-empty, get-insert_here, entries-insert-empty}
 use Rattle.ak_address.specs.Table.{value_with}
@@ -30,12 +31,14 @@ use Rattle.ak_member.specs.declared.status.Status.TheVariants.{Joining}
 use Rattle.ak_member.specs.Standing.{nobody, merged_standing, member_pairs, tombstone_pairs, is_gone}
 use Rattle.ak_member.specs.Age.{counted_pairs}
 use Rattle.ak_address.specs.Distinct.{distinct}
-use Rattle.ak_member.specs.View.{View}
+use Rattle.ak_member.specs.View.{View, empty_view}
+use Rattle.ak_detector.specs.Detector.{watching}
 use Rattle.ak_node.specs.declared.node.State.{State}
 use Rattle.ak_settled.specs.Settled.{after_note}
 use Rattle.ak_membership.specs.declared.state.MembershipState.{MembershipState}
 use Rattle.ak_membership.specs.Membership as membership
-use Rattle.ak_membership.specs.Closing.{is_same, is_other, is_noted}
+use Rattle.ak_membership.specs.Closing.{is_same, is_other, is_noted, stable_after}
+use Rattle.ak_membership.specs.Sight.{has_moved}
 use Rattle.ak_converge.specs.Convergence.{is_converged}
 use Rattle.ak_wire.specs.declared.action.Action.{Action}
 use Rattle.ak_wire.specs.declared.action.Action as action
@@ -272,10 +275,17 @@ founders_membership number standing =
     record (membership.started a_1 settled) {
       founder = true;
       gossip = record founders_gossip { version = map.insert map.empty a_1 number; view = founders_view standing };
+      moved = has_moved empty_view (founders_view standing);
     }
 
+-- whom a membership watches from its closing on
+abbrev watching_by : MembershipState → Counters
+watching_by m = watching m.me m.gossip.view.standings m.settings.deadline m.detector
+
 abbrev founder_a : State
-founder_a = record node_a { membership = record (founders_membership 1 joining) { shown = map.insert map.empty a_1 1 }; steps = 1 }
+founder_a =
+    let m = founders_membership 1 joining in
+    record node_a { membership = record m { shown = map.insert map.empty a_1 1; stable = stable_after m; moved = false; detector = watching_by m }; steps = 1 }
 
 abbrev founding : List Action
 founding = action.TheVariants.Update 1 (Joined a_1 ∷ []) ∷ action.TheVariants.View ∷ []
@@ -321,7 +331,7 @@ abbrev closed_by : Bool → Bool → Bool → Outcome
 closed_by viewed gone noted =
     let m = founders_membership 1 joining in (
       record node_a {
-        membership = record m { shown = m.gossip.version; settled = if not gone && noted then after_note m.gossip.version m.gossip.view.standings m.settled else m.settled };
+        membership = record m { shown = m.gossip.version; stable = stable_after m; moved = false; detector = watching_by m; settled = if not gone && noted then after_note m.gossip.version m.gossip.view.standings m.settled else m.settled };
         runs = not gone;
         steps = 1;
       },
