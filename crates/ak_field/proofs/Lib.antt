@@ -1,0 +1,4 @@
+pub mod Steps
+pub mod Combined
+pub mod Small
+pub mod Whole

@@ -1,0 +1,5 @@
+pub mod Reading
+pub mod Spelling
+pub mod Ranges
+pub mod Fields
+pub mod Laws
