@@ -1,4 +1,8 @@
 pub mod Steps
 pub mod Combined
 pub mod Small
+pub mod Items
+pub mod Versions
+pub mod ListFields
+pub mod Written
 pub mod Whole

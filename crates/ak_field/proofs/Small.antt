@@ -1,12 +1,12 @@
 -- Bytes and numbers are read as they are spelled.
-use Rattle.std.proofs.Common.{◌≡◌, ℕ, zero, suc, ◌+◌, ◌^◌, ◌<◌, ◌≤◌, Bool, true, false, ltb, List, [], ◌∷◌, ◌++◌, length, take, drop, if◌then◌else◌, Result, Ok, Err, refl, sym, ap, subst, ◌∙◌, arith}
+use Rattle.std.proofs.Common.{◌≡◌, ℕ, zero, ◌^◌, ◌<◌, ◌≤◌, Bool, true, false, ltb, List, [], ◌∷◌, ◌++◌, length, take, drop, if◌then◌else◌, Ok, Err, refl, sym, subst, arith}
 use Rattle.std.specs.Int.{Width, w16, w64, byte_len, from_be_bytes, to_be_bytes}
 use Rattle.std.proofs.lemmas.Bool.{ltb-false, le-ltb}
 use Rattle.std.proofs.lemmas.List.{take_at, drop_at, take-append-drop, length-append, length-take}
 use Rattle.std.proofs.lemmas.Nat.{be_bytes_2, be_bytes_8, from_be_bytes-to_be_bytes_2, from_be_bytes-to_be_bytes_8}
 use Rattle.ak_field.specs.declared.fault.WireFault.{WireFault}
 use Rattle.ak_field.specs.declared.fault.WireFault.TheVariants.{Short}
-use Rattle.ak_field.specs.Reading.{◌>>=◌, bytes_at, byte_at, wide_at}
+use Rattle.ak_field.specs.Reading.{bytes_at, byte_at, wide_at}
 use Rattle.ak_field.specs.Spelling.{byte}
 use Rattle.ak_field.specs.Laws.{IsBytes, IsField}
 use Rattle.ak_field.proofs.Combined.{ok_is, made_field}

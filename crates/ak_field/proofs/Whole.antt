@@ -1,18 +1,18 @@
 -- Each field is read as it is spelled.
-use Rattle.std.proofs.Common.{◌≡◌, ℕ, zero, suc, ◌+◌, ◌-◌, ◌^◌, ◌<◌, ◌≤◌, Bool, true, false, ◌&&◌, ◌==◌, nat_le, IsTrue, List, [], ◌∷◌, ◌++◌, length, take, drop, if◌then◌else◌, Result, Ok, Err, refl, sym, ap, subst, ◌∙◌, arith}
+use Rattle.std.proofs.Common.{◌≡◌, ℕ, zero, suc, ◌+◌, ◌-◌, ◌^◌, ◌<◌, ◌≤◌, Bool, true, false, ◌&&◌, ◌==◌, nat_le, IsTrue, List, [], ◌∷◌, ◌++◌, length, take, drop, if◌then◌else◌, Result, Ok, refl, sym, ap, subst, ◌∙◌, arith}
 use Rattle.std.specs.List.{list_all}
-use Rattle.std.specs.Int.{w16, w64, from_be_bytes, to_be_bytes}
+use Rattle.std.specs.Int.{w16, w64, from_be_bytes}
 use Rattle.std.proofs.lemmas.Bool.Decides.{nat_tests}
 use Rattle.std.proofs.lemmas.List.{take_at, drop_at, take-append-drop, length-append, length-take, length-drop}
-use Rattle.ak_address.specs.Unique.{UniqueModel, IsHost, IsAddress, IsUnique, is_host_byte}
+use Rattle.ak_address.specs.Unique.{UniqueModel, IsUnique, is_host_byte}
 use Rattle.ak_clock.specs.declared.version.TheConstants.{BOUND}
 use Rattle.ak_promise.specs.Ballot.{BallotModel, IsBallot}
 use Rattle.ak_field.specs.declared.fault.WireFault.{WireFault}
 use Rattle.ak_field.specs.declared.fault.WireFault.TheVariants.{Magic, Version, Kind, Count, Range}
 use Rattle.ak_field.specs.Reading.{◌>>=◌, bytes_at, byte_at, wide_at, checked}
-use Rattle.ak_field.specs.Ranges.{is_from, is_process, IsProcess, is_entity_byte, IsEntity, IsNumber, IsShard}
+use Rattle.ak_field.specs.Ranges.{is_from, is_process, IsProcess, is_entity_byte, IsEntity, IsShard}
 use Rattle.ak_field.specs.Spelling.{byte, two_bytes, eight_bytes, magic, format, header, process, ballot, shard, flag, entity}
-use Rattle.ak_field.specs.Fields.{length_at, number_at, shard_at, flag_at, process_of, process_bytes_at, process_at, unique_at, receiver_at, ballot_at, entity_at, is_magic, header_at}
+use Rattle.ak_field.specs.Fields.{length_at, number_at, shard_at, flag_at, process_of, process_bytes_at, process_at, unique_at, ballot_at, entity_at, is_magic, header_at}
 use Rattle.ak_field.specs.Laws.{IsBytes, IsField}
 use Rattle.ak_field.proofs.Combined.{later_bytes, first_bytes, checked_field, made_field, first_field, valid_field}
 use Rattle.ak_field.proofs.Small.{bytes_field, byte_field, wide16, wide64, wide_field}

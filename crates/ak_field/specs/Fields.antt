@@ -1,6 +1,6 @@
 -- Each field as small fields, with their checks: a length is a field of its own, and so is each number; the host, the port and
 -- the uid of a process are one together, and so are the bytes of an entity's name (this project's choice).
-use Rattle.std.specs.Prelude.{ℕ, ◌+◌, ◌-◌, ◌^◌, ◌==◌, ◌&&◌, Bool, false, List, [], ◌∷◌, take, drop, Result, Ok, Err, nat_le, if◌then◌else◌}
+use Rattle.std.specs.Prelude.{ℕ, ◌+◌, ◌-◌, ◌^◌, ◌==◌, ◌&&◌, Bool, false, List, [], ◌∷◌, take, drop, Result, Ok, nat_le, if◌then◌else◌}
 use Rattle.std.specs.List.{list_all}
 use Rattle.std.specs.Int.{w16, w64, from_be_bytes}
 use Rattle.ak_address.specs.Unique.{UniqueModel}
@@ -10,7 +10,7 @@ use Rattle.ak_field.specs.declared.fault.WireFault.{WireFault}
 use Rattle.ak_field.specs.declared.fault.WireFault.TheVariants.{Magic, Version, Kind, Count, Range}
 use Rattle.ak_field.specs.Reading.{◌>>=◌, bytes_at, byte_at, wide_at, checked}
 use Rattle.ak_field.specs.Ranges.{is_from, is_process, is_entity_byte}
-use Rattle.ak_field.specs.Spelling.{magic, format}
+use Rattle.ak_field.specs.Spelling.{format}
 
 -- a length of one byte
 unfoldable pub length_at : ℕ → ℕ → List ℕ → Result (ℕ × List ℕ) WireFault

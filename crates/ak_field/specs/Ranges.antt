@@ -1,5 +1,5 @@
 -- The ranges of fields (this project's choice).
-use Rattle.std.specs.Prelude.{◌≡◌, ℕ, ◌<◌, ◌≤◌, ◌^◌, ◌-◌, Bool, ◌&&◌, nat_le, List, length, IsTrue}
+use Rattle.std.specs.Prelude.{ℕ, ◌≤◌, Bool, ◌&&◌, nat_le, List, length, IsTrue}
 use Rattle.std.specs.List.{list_all}
 use Rattle.ak_address.specs.Unique.{UniqueModel, IsAddress, is_host_byte}
 use Rattle.ak_clock.specs.declared.version.TheConstants.{BOUND}

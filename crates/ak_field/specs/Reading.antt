@@ -1,6 +1,6 @@
 -- A datagram is a list of small fields, which are read from left to right: each has a width and a check. A field whose bytes are
 -- not all there is short; then comes its check (that a datagram is read so is this project's choice).
-use Rattle.std.specs.Prelude.{◌≡◌, ℕ, suc, zero, Bool, List, [], ◌∷◌, length, take, drop, Option, None, Some, Result, Ok, Err, nat_lt, if◌then◌else◌}
+use Rattle.std.specs.Prelude.{◌≡◌, ℕ, suc, zero, Bool, List, [], ◌∷◌, ◌++◌, ◌-◌, length, slice_get, take, drop, Option, None, Some, Result, Ok, Err, nat_lt, if◌then◌else◌}
 use Rattle.std.specs.Int.{Width, byte_len, from_be_bytes}
 use Rattle.ak_field.specs.declared.fault.WireFault.{WireFault}
 use Rattle.ak_field.specs.declared.fault.WireFault.TheVariants.{Short, Magic, Version, Kind, Count, Order, Range, Trailing, NoMemory}
@@ -41,6 +41,10 @@ items_at item last (suc many) bytes = do
   others ← items_at item (Some first.0) many first.1
   Ok (first.0 ∷ others.0, others.1)
 
+-- the last item, where there is one
+abbrev pub last_of : {X : Type 0} → List X → Option X
+last_of xs = slice_get xs (length xs - 1)
+
 -- a call's fault is the first one, unless memory ran out
 abbrev pub Fails : {Y : Type 0} → WireFault → Result Y WireFault → Type 0
 Fails Short read = read ≡ Err Short
@@ -68,6 +72,11 @@ GivesExactlyAs view (Err fault) left read = read ≡ Err fault
 
 abbrev pub GivesExactly : {X : Type 0} → Result X WireFault → List ℕ → Result (X × List ℕ) WireFault → Type 0
 GivesExactly result left read = GivesExactlyAs (λ value. value) result left read
+
+-- a call that reads one more item adds it to a list, unless memory ran out
+abbrev pub Adds : {X Y : Type 0} → Result Y WireFault → List X → List X → List ℕ → Result (X × List ℕ) WireFault → Type 0
+Adds {X} (Ok _) old new left read = (x : X) × (read ≡ Ok (x, left)) × (new ≡ old ++ x ∷ [])
+Adds (Err fault) old new left read = Fails fault read
 
 -- the number of a fault; that memory ran out is none of the bytes' faults
 abbrev pub fault_number : WireFault → Option ℕ

@@ -2,7 +2,11 @@
 use Rattle.std.specs.Prelude.{ℕ, Bool, List, [], ◌∷◌, ◌++◌, length, if◌then◌else◌}
 use Rattle.std.specs.Int.{w16, w64, to_be_bytes}
 use Rattle.ak_address.specs.Unique.{UniqueModel}
+use Rattle.std.specs.List.{flat_map}
+use Rattle.std.specs.FinMap as map
 use Rattle.ak_promise.specs.Ballot.{BallotModel}
+use Rattle.ak_clock.specs.Version.{Counts}
+use Rattle.ak_shard_id.specs.declared.report.Report.{Report}
 
 -- numbers of one, two and eight bytes, the greatest byte first
 abbrev pub byte : ℕ → List ℕ
@@ -40,3 +44,18 @@ flag holds = byte (if holds then 1 else 0)
 -- the length of an entity's name, and the name
 abbrev pub entity : List ℕ → List ℕ
 entity name = byte (length name) ++ name
+
+-- a process and its count
+abbrev pub counted : UniqueModel × ℕ → List ℕ
+counted pair = process pair.0 ++ eight_bytes pair.1
+
+-- how many processes have a count, and each with its count
+abbrev pub version : Counts → List ℕ
+version v = byte (map.len v) ++ flat_map counted (map.entries v)
+
+abbrev pub report : Report → List ℕ
+report r = shard r.shard ++ (eight_bytes r.number ++ flag r.hosted)
+
+-- how many reports there are, and each of them
+abbrev pub reports : List Report → List ℕ
+reports rs = two_bytes (length rs) ++ flat_map report rs

@@ -2,7 +2,7 @@ ghost use Rattle.std.specs.Prelude.{◌≡◌};
 ghost use Rattle.ak_field.specs.Reading.{fault_number};
 ghost use Rattle.ak_field.specs.declared.fault.WireFault.TheVariants.{NoMemory};
 
-use std::alloc::AllocError;
+use std::alloc::{AllocError, AllocFailed};
 use thiserror::Error;
 
 /// Why bytes were not read as a datagram: the first fault from the left. It shows as its code.
@@ -60,6 +60,14 @@ impl From<AllocError> for WireFault {
     ghost from_gives = { λ _ fault. fault ≡ NoMemory };
 
     fn from(_error: AllocError) -> WireFault {
+        WireFault::NoMemory
+    }
+}
+
+impl<T: Drop> From<AllocFailed<T>> for WireFault {
+    ghost from_gives = { λ _ fault. fault ≡ NoMemory };
+
+    fn from(_error: AllocFailed<T>) -> WireFault {
         WireFault::NoMemory
     }
 }

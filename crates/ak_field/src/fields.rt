@@ -64,7 +64,7 @@ impl<'a> Fields<'a> {
     }
 
     #[tactic(auto, unfolding(crate::specs::Reading::wide_at, crate::specs::Reading::bytes_at))]
-    fn two_bytes(&mut self) -> Result<u16, WireFault>
+    pub(crate) fn two_bytes(&mut self) -> Result<u16, WireFault>
         ensures { GivesExactly result self.new (wide_at w16 self.old) }
     {
         let bytes = self.take(2)?;

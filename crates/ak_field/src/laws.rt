@@ -3,8 +3,9 @@ ghost use Rattle.ak_address.specs.Unique.{IsUnique};
 ghost use Rattle.ak_promise.specs.Ballot.{IsBallot};
 ghost use Rattle.ak_field.specs.Reading.{byte_at};
 ghost use Rattle.ak_field.specs.Ranges.{IsProcess, IsEntity, IsShard};
-ghost use Rattle.ak_field.specs.Spelling.{byte, eight_bytes, header, process, ballot, shard, flag, entity};
+ghost use Rattle.ak_field.specs.Spelling.{byte, eight_bytes, header, process, ballot, shard, flag, entity, version, reports};
 ghost use Rattle.ak_field.specs.Fields.{header_at, length_at, number_at, shard_at, flag_at, process_at, unique_at, ballot_at, entity_at};
+ghost use Rattle.ak_field.specs.Lists.{version_at, reports_at, IsShort, AreReports};
 ghost use Rattle.ak_field.specs.Laws.{IsField, IsPrefixFree};
 
 /// What is spelled of a field is read again, and the bytes after it are left; and what is read was spelled so, and is in its
@@ -19,6 +20,8 @@ pub fn fields_are_their_spellings()
     ensures uniques { IsField unique_at process IsUnique }
     ensures ballots { IsField ballot_at ballot IsBallot }
     ensures entities { IsField entity_at entity IsEntity }
+    ensures versions { IsField version_at version IsShort }
+    ensures reports { IsField reports_at reports AreReports }
 {}
 
 /// No spelling of a field begins that of another value, and a value has one spelling.
@@ -30,4 +33,6 @@ pub fn no_spelling_begins_another()
     ensures receivers { IsPrefixFree process (IsProcess 0 (2 ^ 64 - 1)) }
     ensures ballots { IsPrefixFree ballot IsBallot }
     ensures entities { IsPrefixFree entity IsEntity }
+    ensures versions { IsPrefixFree version IsShort }
+    ensures reports { IsPrefixFree reports AreReports }
 {}

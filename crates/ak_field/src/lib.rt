@@ -7,8 +7,12 @@ mod fault;
 mod fields;
 mod header;
 mod laws;
+mod parts;
 mod process;
+mod reports;
+mod version;
 mod write;
+mod write_lists;
 
 pub use entity::is_entity;
 pub use fault::WireFault;
@@ -19,3 +23,4 @@ pub use write::{
     ballot_len, entity_len, process_len, write_ballot, write_byte, write_entity, write_flag,
     write_header, write_number, write_receiver, write_shard, write_unique,
 };
+pub use write_lists::{write_parts, write_reports, write_version};

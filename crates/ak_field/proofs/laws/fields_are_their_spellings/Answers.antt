@@ -1,4 +1,5 @@
 use Rattle.ak_field.proofs.Whole.{header_field, length_field, number_field, shard_field, flag_field, process_field, unique_field, ballot_field, entity_field}
+use Rattle.ak_field.proofs.ListFields.{version_field, reports_field}
 use Rattle.ak_field.proofs.laws.fields_are_their_spellings.Goals as goal
 
 pub returns : goal.returns
@@ -12,4 +13,6 @@ returns c = record {
   uniques = unique_field;
   ballots = ballot_field;
   entities = entity_field;
+  versions = version_field;
+  reports = reports_field;
 }

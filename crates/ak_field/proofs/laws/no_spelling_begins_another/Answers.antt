@@ -1,10 +1,12 @@
-use Rattle.std.proofs.Common.{ℕ, ◌-◌, ◌<◌, ◌≤◌, ◌^◌, arith}
+use Rattle.std.proofs.Common.{◌-◌, ◌<◌, ◌^◌, arith}
 use Rattle.std.specs.Int.{w64}
 use Rattle.ak_promise.specs.Ballot.{IsBallot}
 use Rattle.ak_field.specs.Reading.{wide_at}
 use Rattle.ak_field.specs.Ranges.{IsProcess, IsEntity, IsShard}
-use Rattle.ak_field.specs.Spelling.{eight_bytes, header, process, ballot, shard, flag, entity}
+use Rattle.ak_field.specs.Spelling.{eight_bytes, header, process, ballot, shard, flag, entity, version, reports}
 use Rattle.ak_field.specs.Fields.{header_at, shard_at, flag_at, process_at, ballot_at, entity_at}
+use Rattle.ak_field.specs.Lists.{version_at, reports_at, IsShort, AreReports}
+use Rattle.ak_field.proofs.ListFields.{version_field, reports_field}
 use Rattle.ak_field.proofs.Combined.{prefix_free}
 use Rattle.ak_field.proofs.Small.{wide_field, wide64}
 use Rattle.ak_field.proofs.Whole.{Ranges, header_field, shard_field, flag_field, process_field, ballot_field, entity_field}
@@ -19,4 +21,6 @@ returns c = record {
   receivers = prefix_free (process_at 0 (2 ^ 64 - 1)) process (IsProcess 0 (2 ^ 64 - 1)) (process_field 0 (2 ^ 64 - 1) (omega arith));
   ballots = prefix_free ballot_at ballot IsBallot ballot_field;
   entities = prefix_free entity_at entity IsEntity entity_field;
+  versions = prefix_free version_at version IsShort version_field;
+  reports = prefix_free reports_at reports AreReports reports_field;
 }
