@@ -99,6 +99,13 @@ valid_field read spelled One Other field down up = record {
   was = λ bytes x rest fits e. let w = field.was bytes x rest fits e in (w.0, up x w.1);
 }
 
+-- ---- the same field, its spelling said in other words
+pub respelled : {X : Type 0} (read : List ℕ → Result (X × List ℕ) WireFault) (one other : X → List ℕ) (Valid : X → Type 0) → IsField read one Valid → ((x : X) → Valid x → one x ≡ other x) → IsField read other Valid
+respelled read one other Valid field same = record {
+  again = λ x rest valid. ap (λ (l : List ℕ). read (l ++ rest)) (sym (same x valid)) ∙ field.again x rest valid;
+  was = λ bytes x rest fits e. let w = field.was bytes x rest fits e in (w.0 ∙ ap (λ (l : List ℕ). l ++ rest) (same x w.1), w.1);
+}
+
 -- ---- no spelling begins another
 pub prefix_free : {X : Type 0} (read : List ℕ → Result (X × List ℕ) WireFault) (spelled : X → List ℕ) (Valid : X → Type 0) → IsField read spelled Valid → IsPrefixFree spelled Valid
 prefix_free {X} read spelled Valid field x y more other valid too same =

@@ -5,4 +5,6 @@ pub mod Items
 pub mod Versions
 pub mod ListFields
 pub mod Written
+pub mod PartTests
+pub mod PartFields
 pub mod Whole

@@ -6,6 +6,7 @@ ghost use Rattle.ak_field.specs.Ranges.{IsProcess, IsEntity, IsShard};
 ghost use Rattle.ak_field.specs.Spelling.{byte, eight_bytes, header, process, ballot, shard, flag, entity, version, reports};
 ghost use Rattle.ak_field.specs.Fields.{header_at, length_at, number_at, shard_at, flag_at, process_at, unique_at, ballot_at, entity_at};
 ghost use Rattle.ak_field.specs.Lists.{version_at, reports_at, IsShort, AreReports};
+ghost use Rattle.ak_field.specs.Parts.{parts_at, parts, AreSpelled};
 ghost use Rattle.ak_field.specs.Laws.{IsField, IsPrefixFree};
 
 /// What is spelled of a field is read again, and the bytes after it are left; and what is read was spelled so, and is in its
@@ -22,6 +23,7 @@ pub fn fields_are_their_spellings()
     ensures entities { IsField entity_at entity IsEntity }
     ensures versions { IsField version_at version IsShort }
     ensures reports { IsField reports_at reports AreReports }
+    ensures parts { IsField parts_at parts AreSpelled }
 {}
 
 /// No spelling of a field begins that of another value, and a value has one spelling.
@@ -35,4 +37,5 @@ pub fn no_spelling_begins_another()
     ensures entities { IsPrefixFree entity IsEntity }
     ensures versions { IsPrefixFree version IsShort }
     ensures reports { IsPrefixFree reports AreReports }
+    ensures parts { IsPrefixFree parts AreSpelled }
 {}

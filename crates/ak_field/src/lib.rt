@@ -10,6 +10,8 @@ mod laws;
 mod parts;
 mod process;
 mod reports;
+#[cfg(test)]
+mod tests;
 mod version;
 mod write;
 mod write_lists;

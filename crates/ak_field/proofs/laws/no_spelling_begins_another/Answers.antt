@@ -7,6 +7,8 @@ use Rattle.ak_field.specs.Spelling.{eight_bytes, header, process, ballot, shard,
 use Rattle.ak_field.specs.Fields.{header_at, shard_at, flag_at, process_at, ballot_at, entity_at}
 use Rattle.ak_field.specs.Lists.{version_at, reports_at, IsShort, AreReports}
 use Rattle.ak_field.proofs.ListFields.{version_field, reports_field}
+use Rattle.ak_field.specs.Parts.{parts_at, parts, AreSpelled}
+use Rattle.ak_field.proofs.PartFields.{parts_field}
 use Rattle.ak_field.proofs.Combined.{prefix_free}
 use Rattle.ak_field.proofs.Small.{wide_field, wide64}
 use Rattle.ak_field.proofs.Whole.{Ranges, header_field, shard_field, flag_field, process_field, ballot_field, entity_field}
@@ -23,4 +25,5 @@ returns c = record {
   entities = prefix_free entity_at entity IsEntity entity_field;
   versions = prefix_free version_at version IsShort version_field;
   reports = prefix_free reports_at reports AreReports reports_field;
+  parts = prefix_free parts_at parts AreSpelled parts_field;
 }
