@@ -7,4 +7,5 @@ pub mod ListFields
 pub mod Written
 pub mod PartTests
 pub mod PartFields
+pub mod ValidLists
 pub mod Whole

@@ -4,4 +4,5 @@ pub mod Ranges
 pub mod Fields
 pub mod Lists
 pub mod Parts
+pub mod Walk
 pub mod Laws

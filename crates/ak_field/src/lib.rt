@@ -12,6 +12,7 @@ mod process;
 mod reports;
 #[cfg(test)]
 mod tests;
+mod valid;
 mod version;
 mod write;
 mod write_lists;
@@ -25,4 +26,5 @@ pub use write::{
     ballot_len, entity_len, process_len, write_ballot, write_byte, write_entity, write_flag,
     write_header, write_number, write_receiver, write_shard, write_unique,
 };
+pub use valid::{are_reports, is_short};
 pub use write_lists::{write_parts, write_reports, write_version};
