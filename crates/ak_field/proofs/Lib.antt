@@ -8,4 +8,5 @@ pub mod Written
 pub mod PartTests
 pub mod PartFields
 pub mod ValidLists
+pub mod Measured
 pub mod Whole

@@ -1,5 +1,5 @@
 -- What the tests of versions and reports mean.
-use Rattle.std.proofs.Common.{◌≡◌, ◌↔◌, ◌⊎◌, inl, inr, ℕ, zero, suc, ◌+◌, ◌<◌, ◌≤◌, Bool, true, false, ◌&&◌, nat_le, nat_lt, IsTrue, List, [], ◌∷◌, length, slice_get, Option, Some, None, refl, sym, ap, subst, ◌∙◌, arith}
+use Rattle.std.proofs.Common.{◌≡◌, ◌↔◌, inl, inr, ℕ, zero, suc, ◌+◌, ◌<◌, ◌≤◌, Bool, true, ◌&&◌, nat_le, IsTrue, List, [], ◌∷◌, length, slice_get, Option, Some, None, refl, sym, ap, subst, ◌∙◌, arith}
 use Rattle.std.specs.FinMap as map
 use Rattle.std.specs.List.{AllByRecursion}
 use Rattle.std.proofs.lemmas.Bool.Decides.{nat_tests}
@@ -12,6 +12,9 @@ use Rattle.ak_shard_id.specs.declared.report.Report.{Report}
 use Rattle.ak_gossip.proofs.PartsOrder.{not_there, both_true}
 use Rattle.ak_field.specs.Ranges.{is_from, IsNumber}
 use Rattle.ak_field.specs.Lists.{is_later, AllAfter, IsShort, IsReport, AreReports}
+use Rattle.ak_gossip.specs.declared.part.Part.{Part}
+use Rattle.ak_gossip.specs.Parts.{AreParts}
+use Rattle.ak_field.specs.Parts.{AreSpelled}
 use Rattle.ak_field.specs.Walk.{report_passes, reports_pass}
 use Rattle.ak_field.proofs.Whole.{both, in_range, range_of}
 
@@ -71,3 +74,19 @@ of_reports last (r ∷ rs) each = both_true _ _ (of_report last r each.0) (of_re
 
 pub are_reports_when : (rs : List Report) (b : Bool) → length rs ≤ 1000 → b ≡ reports_pass None rs → IsTrue b ↔ AreReports rs
 are_reports_when rs b few is = (λ h. record { few = few; each = reports_of None rs (sym is ∙ h) }, λ are. is ∙ of_reports None rs are.each)
+
+-- ---- parts
+abbrev pub HaveProcesses : List Part → Type 0
+HaveProcesses list = (i : ℕ) (p : Part) → slice_get list i ≡ Some p → IsUnique p.unique
+
+all_unique : (list : List Part) → HaveProcesses list → AllByRecursion (λ (p : Part). IsUnique p.unique) list
+all_unique [] all = tt
+all_unique (x ∷ list) all = (all 0 x refl, all_unique list (λ i p at. all (suc i) p at))
+
+unique_all : (list : List Part) → AllByRecursion (λ (p : Part). IsUnique p.unique) list → HaveProcesses list
+unique_all [] each i p at = absurd (not_there p at)
+unique_all (x ∷ list) each zero p at = subst (λ (q : Part). IsUnique q.unique) (same_Some x p at) each.0
+unique_all (x ∷ list) each (suc i) p at = unique_all list each.1 i p at
+
+pub are_parts_when : (list : List Part) (b : Bool) → AreParts list → (IsTrue b ↔ HaveProcesses list) → IsTrue b ↔ AreSpelled list
+are_parts_when list b are is = (λ h. record { parts = are; uniques = all_unique list (is.0 h) }, λ s. is.1 (unique_all list s.uniques))

@@ -7,6 +7,7 @@ mod fault;
 mod fields;
 mod header;
 mod laws;
+mod measure;
 mod parts;
 mod process;
 mod reports;
@@ -22,9 +23,10 @@ pub use fault::WireFault;
 pub use fields::Fields;
 pub use header::check_header;
 pub use laws::{fields_are_their_spellings, no_spelling_begins_another};
+pub use measure::{parts_len, reports_len, version_len};
+pub use valid::{are_parts, are_reports, is_short};
 pub use write::{
     ballot_len, entity_len, process_len, write_ballot, write_byte, write_entity, write_flag,
     write_header, write_number, write_receiver, write_shard, write_unique,
 };
-pub use valid::{are_reports, is_short};
 pub use write_lists::{write_parts, write_reports, write_version};

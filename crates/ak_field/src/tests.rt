@@ -151,7 +151,9 @@ fn a_version_is_read_and_written(rt: HostRuntime) -> Result<(), Fail> {
     let mut out = Vec::new(alloc);
     if version.len() <= 128 {
         write_version(&version, &mut out)?;
+        assert_eq!(rt; version_len(&version), VERSION.len());
     }
+    assert!(rt; is_short(&version));
     assert_eq!(rt; out.as_slice(), VERSION.as_slice());
     for end in 0..VERSION.len() {
         assert_eq!(rt; version_fault(alloc, &VERSION[..end]), Some(1));
@@ -175,6 +177,14 @@ fn reports_are_read_and_written(rt: HostRuntime) -> Result<(), Fail> {
         .ok()
         .ok_or("they are read")?;
     assert_eq!(rt; reports.len(), 2);
+    let mut out = Vec::new(alloc);
+    if are_reports(&reports) {
+        write_reports(&reports, &mut out)?;
+    }
+    assert_eq!(rt; out.as_slice(), bytes.as_slice());
+    if reports.len() <= 1000 {
+        assert_eq!(rt; reports_len(&reports), bytes.len());
+    }
     for end in 0..bytes.len() {
         let read = Fields::new(&bytes[..end]).reports(alloc);
         assert!(rt; matches!(read, Err(WireFault::Short)));
@@ -233,7 +243,9 @@ fn parts_are_read_and_written(rt: HostRuntime) -> Result<(), Fail> {
     let mut out = Vec::new(alloc);
     if parts_valid(parts.as_slice()) {
         write_parts(parts.as_slice(), &mut out)?;
+        assert_eq!(rt; parts_len(parts.as_slice()), PARTS.len());
     }
+    assert!(rt; are_parts(parts.as_slice()));
     assert_eq!(rt; out.as_slice(), PARTS.as_slice());
     Ok(())
 }

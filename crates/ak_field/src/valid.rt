@@ -1,12 +1,15 @@
 ghost use Rattle.std.specs.Prelude.{◌≡◌, ◌↔◌, ℕ, None, Some, IsTrue, option_copied, slice_get};
 ghost use Rattle.std.specs.FinMap as map;
 ghost use Rattle.ak_address.specs.Unique.{UniqueModel, IsUnique};
+ghost use Rattle.ak_gossip.specs.declared.part.Part.{Part};
 ghost use Rattle.ak_field.specs.Ranges.{IsNumber};
 ghost use Rattle.ak_field.specs.Lists.{IsShort, AreReports};
+ghost use Rattle.ak_field.specs.Parts.{AreSpelled};
 ghost use Rattle.ak_field.specs.Walk.{report_passes, reports_pass};
 
 use ak_address::Unique;
 use ak_clock::{BOUND, Version};
+use ak_gossip::{Part, parts_valid};
 use ak_shard_id::Report;
 
 const MOST_PROCESSES: usize = 128;
@@ -43,6 +46,34 @@ fn is_counted(who: &Unique, count: u64) -> bool
     ensures { IsTrue result ↔ (IsUnique who.now × IsNumber count) }
 {
     who.uid >= 1 && count >= 1 && count <= BOUND
+}
+
+/// Whether parts have a spelling: they are those of a gossip, as `parts_valid` of ak_gossip says. Takes no memory.
+pub fn are_parts(list: &[Part]) -> bool
+    ensures { IsTrue result ↔ AreSpelled list.now }
+{
+    if !parts_valid(list) {
+        return false;
+    }
+    have_processes(list)
+}
+
+// Whether the process of each part is in its ranges.
+fn have_processes(list: &[Part]) -> bool
+    ensures { IsTrue result ↔ ((i : ℕ) (p : Part) → slice_get list.now i ≡ Some p → IsUnique p.unique) }
+{
+    'list: for one in list {
+        if !is_process(&one.unique) {
+            return false;
+        }
+    }
+    true
+}
+
+fn is_process(who: &Unique) -> bool
+    ensures { IsTrue result ↔ IsUnique who.now }
+{
+    who.uid >= 1
 }
 
 /// Whether reports have a spelling: at most 1000, their shards ascending up to 999, their numbers from 1 to

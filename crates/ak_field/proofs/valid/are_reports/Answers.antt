@@ -1,4 +1,4 @@
-use Rattle.std.proofs.Common.{◌≤◌, arith}
+use Rattle.std.proofs.Common.{arith}
 use Rattle.ak_field.proofs.ValidLists.{are_reports_when}
 use Rattle.ak_field.proofs.valid.are_reports.Goals as goal
 

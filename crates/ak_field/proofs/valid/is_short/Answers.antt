@@ -1,4 +1,4 @@
-use Rattle.std.proofs.Common.{◌≤◌, arith}
+use Rattle.std.proofs.Common.{arith}
 use Rattle.ak_field.proofs.ValidLists.{is_short_when}
 use Rattle.ak_field.proofs.valid.is_short.Goals as goal
 
