@@ -1,0 +1,12 @@
+pub mod Steps
+pub mod Combined
+pub mod Small
+pub mod Items
+pub mod Versions
+pub mod ListFields
+pub mod Written
+pub mod PartTests
+pub mod PartFields
+pub mod ValidLists
+pub mod Measured
+pub mod Whole

@@ -1,0 +1,6 @@
+use Rattle.ak_field.specs.Spelling.{report}
+use Rattle.ak_field.proofs.Written.{Written}
+use Rattle.ak_field.proofs.write_lists.write_each_report.Given as goal
+
+abbrev pub invariant-list : goal.invariant-list
+invariant-list l = Written report l.list l.fn.out.items l.one-index l.out.items

@@ -1,0 +1,40 @@
+ghost use Rattle.std.specs.Prelude.{◌≡◌, ◌↔◌, IsTrue};
+ghost use Rattle.std.specs.List.{list_all};
+ghost use Rattle.ak_field.specs.Reading.{Gives};
+ghost use Rattle.ak_field.specs.Ranges.{IsEntity, is_entity_byte};
+ghost use Rattle.ak_field.specs.Fields.{entity_at};
+
+use crate::fault::WireFault;
+use crate::fields::Fields;
+use ak_address::Text;
+use std::alloc::Global;
+
+const MOST_ENTITY_BYTES: u8 = 64;
+
+impl<'a> Fields<'a> {
+    /// What an entity is called: a length from 1 to 64, and then that many bytes from `!` to `~`, which are one field.
+    #[tactic(auto, using(crate::proofs::Steps::fails_exactly, crate::proofs::Steps::fails_exactly_before), unfolding(crate::specs::Fields::entity_at))]
+    pub fn entity(&mut self, alloc: Global) -> Result<Text, WireFault>
+        ensures { Gives result self.new (entity_at self.old) }
+    {
+        let length = self.length(1, MOST_ENTITY_BYTES)?;
+        let name = self.take(usize::from(length))?;
+        if !are_entity_bytes(name) {
+            return Err(WireFault::Range);
+        }
+        Ok(Text::from_bytes(alloc, name)?)
+    }
+}
+
+/// Whether an entity can be called so: by 1 to 64 bytes from `!` to `~`. Takes no memory.
+pub fn is_entity(name: &[u8]) -> bool
+    ensures { IsTrue result ↔ IsEntity name.now }
+{
+    !name.is_empty() && name.len() <= usize::from(MOST_ENTITY_BYTES) && are_entity_bytes(name)
+}
+
+fn are_entity_bytes(bytes: &[u8]) -> bool
+    ensures { result ≡ list_all is_entity_byte bytes.now }
+{
+    bytes.iter().all(|b| matches!(*b, b'!'..=b'~'))
+}
