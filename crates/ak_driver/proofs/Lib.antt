@@ -1,5 +1,6 @@
 pub mod Completeness
 pub mod CutLemmas
+pub mod FinishLemmas
 pub mod InputLemmas
 pub mod OneReplay
 pub mod PromiseLemmas
