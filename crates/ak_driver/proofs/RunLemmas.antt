@@ -1,5 +1,5 @@
 -- What is so of the words that were collected is so of the words of known arguments.
-use Rattle.std.proofs.Common.{◌≡◌, ℕ, List, [], ◌∷◌, Option, None, Some, subst, sym, inl, inr}
+use Rattle.std.proofs.Common.{◌≡◌, ℕ, List, Option, None, Some, subst, sym, inl, inr}
 use Rattle.std.specs.Prelude.{IfSome}
 use Rattle.ak_outside.specs.declared.status.Status.{Status}
 use Rattle.ak_outside.specs.declared.status.Status.TheVariants.{Usage, Memory}

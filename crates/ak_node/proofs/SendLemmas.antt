@@ -1,15 +1,11 @@
 -- The same message to several, along a list, and the margins that end.
-use Rattle.std.proofs.Common.{◌≡◌, ℕ, ◌+◌, ◌≤◌, List, [], ◌∷◌, ◌++◌, map, length, drop, slice_get, Option, Some, None, option_to_list, refl, sym, ap, ◌∙◌, append-nil, append_assoc}
+use Rattle.std.proofs.Common.{◌≡◌, ℕ, ◌+◌, ◌≤◌, List, [], ◌∷◌, ◌++◌, map, length, drop, slice_get, Some, None, option_to_list, sym, ap, ◌∙◌, append-nil, append_assoc}
 use Rattle.ak_address.specs.Unique.{UniqueModel}
 use Rattle.ak_member.specs.declared.standing.Standing.{Standing}
-use Rattle.ak_member.proofs.Folds.{keeps_all, keeps_mapped}
-use Rattle.ak_member.proofs.MemberLemmas.{KeepsPairs, kept_pair, kept_from, kept_at_end}
+use Rattle.ak_member.proofs.Folds.{keeps_mapped}
+use Rattle.ak_member.proofs.MemberLemmas.{KeepsPairs, kept_pair, kept_at_end}
 use Rattle.ak_member.proofs.OldestLaws.{counted_among, keeps_counted}
 use Rattle.ak_wire.specs.declared.action.Action.{Action}
-use Rattle.ak_wire.specs.declared.action.Action.TheVariants.{MarginEnd}
-use Rattle.ak_wire.specs.declared.envelope.Message.{Message}
-use Rattle.ak_node.specs.declared.node.State.{State}
-use Rattle.ak_node.specs.Node.{to_process, to_each}
 
 abbrev pub processes_of : List (UniqueModel × ℕ) → List UniqueModel
 processes_of = map (λ (pair : UniqueModel × ℕ). pair.0)

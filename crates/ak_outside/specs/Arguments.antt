@@ -1,5 +1,5 @@
 -- What an answer says of the arguments of a program. This project's choice.
-use Rattle.std.specs.Prelude.{◌≡◌, ℕ, ◌<◌, List, length, take, Option, Some, None, Result, Ok, Err, slice_get}
+use Rattle.std.specs.Prelude.{◌≡◌, ℕ, ◌<◌, List, length, take, Some, None, Result, Ok, Err, slice_get}
 use Rattle.std.specs.declared.env.FillError.{FillError}
 use Rattle.std.specs.declared.env.FillError.TheVariants.{NotPresent, TooLong}
 

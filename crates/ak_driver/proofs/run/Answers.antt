@@ -1,6 +1,4 @@
-use Rattle.std.proofs.Common.{◌≡◌, ℕ, List, subst, sym, ap, ◌∙◌, rules}
-use Rattle.std.specs.Prelude.{IfSome}
-use Rattle.ak_driver.specs.WordsContracts.{words_of}
+use Rattle.std.proofs.Common.{rules}
 use Rattle.ak_driver.proofs.PromiseLemmas.{no_memory}
 use Rattle.ak_driver.proofs.RunLemmas.{where_asked, where_not_asked, always, refused, not_held}
 use Rattle.ak_driver.proofs.run.Goals as goal

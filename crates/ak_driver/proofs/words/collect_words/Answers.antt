@@ -1,4 +1,4 @@
-use Rattle.std.proofs.Common.{◌≡◌, ℕ, List, IfSome, subst, sym, ap, ◌∙◌, rules}
+use Rattle.std.proofs.Common.{subst, sym, rules}
 use Rattle.ak_driver.proofs.WordsLemmas.{SoFar, one_more, all_words}
 use Rattle.ak_driver.proofs.words.collect_words.Goals as goal
 

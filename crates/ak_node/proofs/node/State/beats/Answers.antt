@@ -1,4 +1,4 @@
-use Rattle.std.proofs.Common.{◌≡◌, ◌++◌, [], ◌∷◌, Some, None, option_copied, option_to_list, sym, ap, ◌∙◌, arith}
+use Rattle.std.proofs.Common.{◌++◌, [], ◌∷◌, option_to_list, ap, ◌∙◌, arith}
 use Rattle.ak_address.specs.Changed.{keys_of}
 use Rattle.ak_address.specs.Counters.{Counters}
 use Rattle.ak_address.specs.Unique.{UniqueModel}

@@ -1,7 +1,6 @@
-use Rattle.std.proofs.Common.{◌≡◌, ◌++◌, [], ◌∷◌, map, option_to_list, ap, ◌∙◌, arith}
+use Rattle.std.proofs.Common.{◌++◌, [], ◌∷◌, map, option_to_list, ap, ◌∙◌, arith}
 use Rattle.ak_member.proofs.Folds.{keeps_all}
 use Rattle.ak_settled.specs.SettledView.{SettledModel}
-use Rattle.ak_wire.specs.declared.action.Action.{Action}
 use Rattle.ak_wire.specs.declared.action.Action.TheVariants.{MarginEnd}
 use Rattle.ak_node.proofs.SendLemmas.{done_next, done_none, done_all}
 use Rattle.ak_node.proofs.node.State.ends.Goals as goal
