@@ -58,26 +58,26 @@ const FOUNDED: [Row; 8] = [
 // address reaches it, though the one that has stopped stands before it.
 const LEAVES: [Row; 21] = [
     Row("deliver 3", Some(0), UP, false),
-    Row("deliver 4", Some(1), UP, false),
-    Row("deliver 5", Some(0), UP, false),
+    Row("deliver 5", Some(1), UP, false),
+    Row("deliver 6", Some(0), UP, false),
     Row("leave b:1#1 b:1#1", Some(1), UP, false),
-    Row("deliver 4", Some(1), UP, false),
-    Row("deliver 6", Some(0), LEAVING, false),
-    Row("deliver 7", Some(1), LEAVING, false),
+    Row("deliver 5", Some(1), UP, false),
+    Row("deliver 7", Some(0), LEAVING, false),
+    Row("deliver 8", Some(1), LEAVING, false),
     Row("tick a:1#1 0", Some(0), EXITING, false),
-    Row("deliver 6", Some(0), EXITING, false),
-    Row("deliver 8", Some(1), EXITING, false),
+    Row("deliver 7", Some(0), EXITING, false),
+    Row("deliver 10", Some(1), EXITING, false),
     Row("tick b:1#1 0", Some(1), EXITING, true),
-    Row("deliver 10", Some(0), EXITING, true),
+    Row("deliver 13", Some(0), EXITING, true),
     Row("tick a:1#1 0", Some(0), REMOVED, true),
-    Row("deliver 8", None, REMOVED, true),
+    Row("deliver 10", None, REMOVED, true),
     Row("start b:1#2", Some(2), REMOVED, true),
     Row("join b:1#2 a:1", Some(2), REMOVED, true),
-    Row("deliver 11", Some(0), REMOVED, true),
-    Row("deliver 12", Some(2), REMOVED, true),
+    Row("deliver 15", Some(0), REMOVED, true),
+    Row("deliver 16", Some(2), REMOVED, true),
     Row("start c:1#1", Some(3), REMOVED, true),
     Row("join c:1#1 b:1", Some(3), REMOVED, true),
-    Row("deliver 14", Some(2), REMOVED, true),
+    Row("deliver 18", Some(2), REMOVED, true),
 ];
 
 // b stops at once. Its successor asks to join, and so a learns that b has stopped: it goes Down, and the successor waits.
@@ -85,8 +85,8 @@ const REPLACED: [Row; 6] = [
     Row("stop b:1#1", Some(1), UP, true),
     Row("start b:1#2", Some(2), UP, true),
     Row("join b:1#2 a:1", Some(2), UP, true),
-    Row("deliver 4", Some(0), DOWN, true),
-    Row("deliver 4", Some(0), DOWN, true),
+    Row("deliver 5", Some(0), DOWN, true),
+    Row("deliver 5", Some(0), DOWN, true),
     Row("deliver 2", None, DOWN, true),
 ];
 
@@ -94,7 +94,7 @@ const REPLACED: [Row; 6] = [
 const DOWNED: [Row; 3] = [
     Row("down a:1#1 b:1#1", Some(0), DOWN, false),
     Row("deliver 3", Some(0), DOWN, false),
-    Row("deliver 4", Some(1), DOWN, true),
+    Row("deliver 5", Some(1), DOWN, true),
 ];
 
 // What the founder knows of the process.
