@@ -2,6 +2,7 @@ pub mod Causes
 pub mod MayMake
 pub mod MayRise
 pub mod MembershipLemmas
+pub mod MovedLaws
 pub mod RuleLemmas
 pub mod SightLaws
 pub mod Walk

@@ -32,7 +32,7 @@ reach_itself : (b : Bool) → is_same_reach b b ≡ true
 reach_itself true = refl
 reach_itself false = refl
 
-sight_itself : (o : Option (Status × Bool)) → is_same_sight o o ≡ true
+pub sight_itself : (o : Option (Status × Bool)) → is_same_sight o o ≡ true
 sight_itself None = refl
 sight_itself (Some (status, lost)) = (λ i. eq-eqb (rank status) (rank status) refl i && reach_itself lost i)
 

@@ -3,6 +3,7 @@
 #![tactic(auto)]
 
 mod change;
+mod laws;
 mod lost;
 mod members;
 mod membership;
@@ -10,5 +11,6 @@ mod sight;
 mod state;
 
 pub use change::{Change, Closing, MemberFault, Reply};
+pub use laws::{rows_name_who_is_silent, views_that_stand_still_show_the_same};
 pub use membership::Membership;
 pub use state::MembershipState;
