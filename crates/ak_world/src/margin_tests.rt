@@ -1,9 +1,8 @@
 ghost use Rattle.std.specs.Prelude.{◌+◌, ◌<◌, ◌≤◌, length, IfOk};
 
-use crate::fold_tests::settings_of;
+use crate::fold_tests::{apply_line, settings_of};
 use crate::margin::Margin;
 use crate::world::World;
-use ak_schedule::read_line;
 use std::alloc::Global;
 use std::test::Fail;
 
@@ -55,10 +54,7 @@ fn margin_after(alloc: Global, world: &mut World, lines: &[&str]) -> Result<Marg
     ensures { IfOk result (λ margin. length world.new.events ≤ length world.old.events + length lines.now) }
 {
     'lines: for line in lines {
-        let event = read_line(alloc, line.as_bytes())?;
-        if world.apply(alloc, &event).is_err() {
-            return Err("an event was refused")?;
-        }
+        apply_line(alloc, world, *line)?;
     }
     Ok(world.margin())
 }
