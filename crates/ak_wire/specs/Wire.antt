@@ -1,5 +1,9 @@
 -- What nodes say to each other, by its names, and what of it a node's actions send.
+use Rattle.std.specs.Coded.{Coded, coded_ℕ}
+use Rattle.std.specs.FinMap as finmap
 use Rattle.std.specs.Prelude.{ℕ, Bool, true, false, List, [], ◌∷◌, Option, None, Some, codes}
+use Rattle.ak_address.specs.Unique.{coded_unique}
+use Rattle.ak_clock.specs.Version.{Counts}
 use Rattle.ak_gossip.specs.Gossip.{GossipState}
 use Rattle.ak_member.specs.declared.effect.Effect.{Effect}
 use Rattle.ak_wire.specs.declared.envelope.Envelope.{Envelope}
@@ -7,6 +11,10 @@ use Rattle.ak_wire.specs.declared.envelope.Message.{Message}
 use Rattle.ak_wire.specs.declared.envelope.Message as message
 use Rattle.ak_wire.specs.declared.action.Action.{Action}
 use Rattle.ak_wire.specs.declared.action.Action.TheVariants.{Send, Update, View, Settled, MarginEnd, Refused, Dead, Stopped}
+
+-- counts are stored as the map that they are
+abbrev pub coded_counts : Coded Counts
+coded_counts = finmap.code coded_unique coded_ℕ
 
 -- the name of a message's kind
 abbrev pub kind_text : Message → List ℕ
@@ -16,24 +24,36 @@ kind_text (message.TheVariants.Gossip g) = codes "gossip"
 kind_text message.TheVariants.Heartbeat = codes "heartbeat"
 kind_text message.TheVariants.HeartbeatReply = codes "heartbeat-reply"
 kind_text message.TheVariants.ExitingConfirmed = codes "exiting-confirmed"
+kind_text (message.TheVariants.Ask b) = codes "ask"
+kind_text (message.TheVariants.Granted b v rs) = codes "granted"
+kind_text (message.TheVariants.Busy b c) = codes "busy"
+kind_text (message.TheVariants.Old b c) = codes "old"
+kind_text (message.TheVariants.HandOverToMe b) = codes "hand-over-to-me"
+kind_text (message.TheVariants.HandOverDone b v) = codes "hand-over-done"
+kind_text (message.TheVariants.Release b v) = codes "release"
+kind_text (message.TheVariants.GetHome b s) = codes "get-home"
+kind_text (message.TheVariants.Home b s u) = codes "home"
+kind_text (message.TheVariants.HostShard b s n) = codes "host-shard"
+kind_text (message.TheVariants.ShardStarted b s n) = codes "shard-started"
+kind_text (message.TheVariants.BeginHandOff b s n) = codes "begin-hand-off"
+kind_text (message.TheVariants.BeginHandOffAck b s n) = codes "begin-hand-off-ack"
+kind_text (message.TheVariants.HandOff b s n) = codes "hand-off"
+kind_text (message.TheVariants.ShardStopped b s n) = codes "shard-stopped"
+kind_text (message.TheVariants.Forward e p) = codes "forward"
+kind_text (message.TheVariants.Leave u) = codes "leave"
+kind_text (message.TheVariants.Down u) = codes "down"
+kind_text (message.TheVariants.Offer e p) = codes "offer"
 
 -- the gossip that a message carries
 abbrev pub gossip_of : Message → Option GossipState
-gossip_of message.TheVariants.Join = None
 gossip_of (message.TheVariants.Welcome g) = Some g
 gossip_of (message.TheVariants.Gossip g) = Some g
-gossip_of message.TheVariants.Heartbeat = None
-gossip_of message.TheVariants.HeartbeatReply = None
-gossip_of message.TheVariants.ExitingConfirmed = None
+gossip_of other = None
 
 -- a message says that its sender stops
 abbrev pub says_it_stops : Message → Bool
-says_it_stops message.TheVariants.Join = false
-says_it_stops (message.TheVariants.Welcome g) = false
-says_it_stops (message.TheVariants.Gossip g) = false
-says_it_stops message.TheVariants.Heartbeat = false
-says_it_stops message.TheVariants.HeartbeatReply = false
 says_it_stops message.TheVariants.ExitingConfirmed = true
+says_it_stops other = false
 
 -- the packet that an action sends
 abbrev pub envelope_of : Action → Option Envelope

@@ -43,10 +43,12 @@ impl Model for Actions {
     ghost use Rattle.ak_address.specs.Unique.{coded_address, coded_unique};
     ghost use Rattle.ak_gossip.specs.Gossip.{coded_gossip};
     ghost use Rattle.ak_member.specs.View.{coded_uniques};
+    ghost use Rattle.ak_promise.specs.Ballot.{coded_ballot};
+    ghost use Rattle.ak_wire.specs.Wire.{coded_counts};
 
     ghost Value = { List Action };
 
-    ghost coded = { Prim.hlevel (codes, coded_address, coded_unique, coded_uniques, coded_gossip) };
+    ghost coded = { Prim.hlevel (codes, coded_address, coded_unique, coded_uniques, coded_gossip, coded_ballot, coded_counts) };
 
     ghost view = { λ a. a.list.items };
 }

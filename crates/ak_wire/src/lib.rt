@@ -3,6 +3,8 @@
 
 mod action;
 mod envelope;
+mod reports;
 
 pub use action::{Action, Actions};
 pub use envelope::{Envelope, Message};
+pub use reports::Reports;
