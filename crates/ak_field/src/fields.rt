@@ -2,6 +2,7 @@ ghost use Rattle.std.specs.Prelude.{◌≡◌, ◌≤◌, ◌<◌, ◌^◌, IfOk
 ghost use Rattle.std.specs.Int.{w16, w64};
 ghost use Rattle.ak_field.specs.Reading.{GivesExactly, GivesExactlyAs, bytes_at, byte_at, wide_at};
 ghost use Rattle.ak_field.specs.Fields.{length_at, number_at, shard_at, flag_at};
+ghost use Rattle.ak_field.specs.Laws.{IsBytes};
 
 use crate::fault::WireFault;
 use std::marker::Model;
@@ -34,6 +35,13 @@ impl<'a> Fields<'a> {
         ensures { result ≡ length self.now }
     {
         self.rest.len()
+    }
+
+    /// Tells a proof that each byte is one. It does nothing.
+    pub fn invariant(&self)
+        ensures { IsBytes self.now }
+    {
+        are_bytes(self.rest);
     }
 
     // The next bytes, so many.
@@ -132,4 +140,10 @@ impl<'a> Fields<'a> {
             _ => Err(WireFault::Range),
         }
     }
+}
+
+fn are_bytes(bytes: &[u8])
+    ensures { IsBytes bytes.now }
+{
+    let _len = bytes.len();
 }

@@ -14,7 +14,8 @@ use ak_shard_id::Report;
 /// How many bytes spell a version of at most 128 processes. Takes no memory.
 pub fn version_len(counts: &Version) -> usize
     requires { map.len counts.now ≤ 128 }
-    ensures { result ≡ length (version counts.now) }
+    ensures is { result ≡ length (version counts.now) }
+    ensures few { result ≤ 10625 }
 {
     counts_len(counts) + 1
 }
@@ -36,7 +37,8 @@ fn counts_len(counts: &Version) -> usize
 /// How many bytes spell at most 1000 reports. Takes no memory.
 pub fn reports_len(list: &[Report]) -> usize
     requires { length list.now ≤ 1000 }
-    ensures { result ≡ length (reports list.now) }
+    ensures is { result ≡ length (reports list.now) }
+    ensures few { result ≤ 11002 }
 {
     2 + 11 * list.len()
 }
@@ -44,7 +46,8 @@ pub fn reports_len(list: &[Report]) -> usize
 /// How many bytes spell the parts of a gossip. Takes no memory.
 pub fn parts_len(list: &[Part]) -> usize
     requires { AreParts list.now }
-    ensures { result ≡ length (spelled.parts list.now) }
+    ensures is { result ≡ length (spelled.parts list.now) }
+    ensures few { result ≤ 29441 }
 {
     each_part_len(list) + 1
 }

@@ -105,7 +105,8 @@ pub fn process_len(address: &Address) -> usize
 
 /// How many bytes spell the ballot. Takes no memory.
 pub fn ballot_len(asked: &Ballot) -> usize
-    ensures { result ≡ length (ballot asked.now) }
+    ensures is { result ≡ length (ballot asked.now) }
+    ensures few { result ≤ 83 }
 {
     process_len(&asked.unique.address) + 8
 }
@@ -113,7 +114,8 @@ pub fn ballot_len(asked: &Ballot) -> usize
 /// How many bytes spell what an entity is called. Takes no memory.
 pub fn entity_len(name: &Text) -> usize
     requires { IsEntity name.now }
-    ensures { result ≡ length (entity name.now) }
+    ensures is { result ≡ length (entity name.now) }
+    ensures few { result ≤ 65 }
 {
     name.bytes().len() + 1
 }

@@ -1,1 +1,6 @@
 pub mod Sending
+pub mod Steps
+pub mod GossipFields
+pub mod BodyFields
+pub mod DatagramFields
+pub mod Lengths

@@ -1,1 +1,3 @@
 pub mod Wire
+pub mod Datagram
+pub mod ReadingDatagram

@@ -1,10 +1,19 @@
-//! What the nodes of a cluster say to each other, and what a node does in a step.
+//! What the nodes of a cluster say to each other, as values and as bytes, and what a node does in a step.
 #![tactic(auto)]
 
 mod action;
+mod bodies;
+mod checking;
 mod envelope;
+mod measuring;
+mod reading;
 mod reports;
+mod writing;
 
 pub use action::{Action, Actions};
+pub use ak_field::{WireFault, check_header};
+pub use checking::valid;
 pub use envelope::{Envelope, Message};
+pub use reading::decode;
 pub use reports::Reports;
+pub use writing::encode;
