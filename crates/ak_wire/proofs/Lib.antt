@@ -4,3 +4,5 @@ pub mod GossipFields
 pub mod BodyFields
 pub mod DatagramFields
 pub mod Lengths
+pub mod Numbered
+pub mod Decided

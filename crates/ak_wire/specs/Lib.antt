@@ -1,3 +1,4 @@
 pub mod Wire
 pub mod Datagram
 pub mod ReadingDatagram
+pub mod Laws

@@ -4,7 +4,10 @@
 mod action;
 mod bodies;
 mod checking;
+#[cfg(test)]
+mod datagram_tests;
 mod envelope;
+mod laws;
 mod measuring;
 mod reading;
 mod reports;
@@ -14,6 +17,9 @@ pub use action::{Action, Actions};
 pub use ak_field::{WireFault, check_header};
 pub use checking::valid;
 pub use envelope::{Envelope, Message};
+pub use laws::{
+    bytes_are_a_datagram_or_at_fault, datagrams_are_their_spellings, no_datagram_begins_another,
+};
 pub use reading::decode;
 pub use reports::Reports;
 pub use writing::encode;
