@@ -6,3 +6,4 @@ pub mod DatagramFields
 pub mod Lengths
 pub mod Numbered
 pub mod Decided
+pub mod Packets

@@ -1,4 +1,5 @@
-pub mod Wire
 pub mod Datagram
-pub mod ReadingDatagram
 pub mod Laws
+pub mod Packet
+pub mod ReadingDatagram
+pub mod Wire

@@ -9,6 +9,7 @@ mod datagram_tests;
 mod envelope;
 mod laws;
 mod measuring;
+mod packet;
 mod reading;
 mod reports;
 mod writing;
@@ -20,6 +21,7 @@ pub use envelope::{Envelope, Message};
 pub use laws::{
     bytes_are_a_datagram_or_at_fault, datagrams_are_their_spellings, no_datagram_begins_another,
 };
+pub use packet::Packet;
 pub use reading::decode;
 pub use reports::Reports;
 pub use writing::encode;
