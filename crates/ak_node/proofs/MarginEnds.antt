@@ -29,7 +29,7 @@ use Rattle.ak_wire.specs.declared.envelope.Message.TheVariants as message
 use Rattle.ak_node.specs.declared.node.State.{State}
 use Rattle.ak_node.specs.declared.node.NodeEvent.{NodeEvent}
 use Rattle.ak_node.specs.declared.node.NodeEvent.TheVariants as event
-use Rattle.ak_node.specs.Node.{Outcome, known, me_of, is_member, is_gone, nothing, and_then, to_each, update_by, does, does_for, answer, unless_refused, asks_at, counted_members, exits, gossips_to, goes_on, ends, beats, on_message, rule, if_so, due, closes, is_dead, running_step, step}
+use Rattle.ak_node.specs.Node.{Outcome, known, me_of, is_member, is_gone, nothing, and_then, to_each, update_by, does, does_for, answer, unless_refused, leave, down, asks_at, counted_members, exits, gossips_to, goes_on, ends, beats, on_message, rule, if_so, due, closes, is_dead, running_step, step}
 use Rattle.ak_node.proofs.StepChanges.{step_is}
 
 -- ---- no action of these ends a margin
@@ -91,6 +91,12 @@ none_answered reply.Gossip to n = none_first _ [] refl none_of
 none_for : (from : UniqueModel) (n : State) (o : membership.Outcome) → EndsNone (does_for from n o).1
 none_for from n o = none_both _ _ (none_updated o.1.number o.1.effects) (none_answered o.1.reply from (does n o).0)
 
+none_left : (who : UniqueModel) (n : State) → EndsNone (leave who n).1
+none_left who n = none_refused (does n) n (membership.leave who n.membership) (λ o. none_updated o.1.number o.1.effects)
+
+none_downed : (who : UniqueModel) (n : State) → EndsNone (down who n).1
+none_downed who n = none_refused (does n) n (membership.down who n.membership) (λ o. none_updated o.1.number o.1.effects)
+
 none_heard : (from : UniqueModel) (m : Message) (n : State) → EndsNone (on_message from m n).1
 none_heard from message.Join n = none_refused (does_for from n) n (membership.on_join from n.membership) (none_for from n)
 none_heard from (message.Welcome g) n = none_refused (does_for from n) n (membership.on_gossip g n.membership) (none_for from n)
@@ -98,6 +104,9 @@ none_heard from (message.Gossip g) n = none_refused (does_for from n) n (members
 none_heard from message.Heartbeat n = none_if (is_member n) _ (nothing n) (none_first _ [] refl none_of) none_of
 none_heard from message.HeartbeatReply n = none_if (is_member n) _ (nothing n) none_of none_of
 none_heard from message.ExitingConfirmed n = none_if (is_member n) _ (nothing n) none_of none_of
+none_heard from (message.Leave who) n = none_left who n
+none_heard from (message.Down who) n = none_downed who n
+none_heard from other n = none_of
 
 none_so : (b : Bool) (a : Action) → is_end a ≡ false → EndsNone (if_so b a)
 none_so true a is = none_first a [] is none_of
@@ -185,8 +194,8 @@ module _ (n : State) where
   ruling (event.Join target) = none_ends _ (none_if (is_member n) (nothing n) _ none_of (none_first _ [] refl none_of))
   ruling (event.Tick word) = ticking word
   ruling (event.Packet p) = none_ends _ (none_heard p.from p.message n)
-  ruling (event.Leave who) = none_ends _ (none_refused (does n) n (membership.leave who n.membership) (λ o. none_updated o.1.number o.1.effects))
-  ruling (event.Down who) = none_ends _ (none_refused (does n) n (membership.down who n.membership) (λ o. none_updated o.1.number o.1.effects))
+  ruling (event.Leave who) = none_ends _ (none_left who n)
+  ruling (event.Down who) = none_ends _ (none_downed who n)
   ruling event.Stop = none_ends [] none_of
 
   running : (e : NodeEvent) → Ending n (running_step e n).1

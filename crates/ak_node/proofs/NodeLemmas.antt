@@ -24,7 +24,7 @@ use Rattle.ak_membership.specs.Membership.{is_member_with}
 use Rattle.ak_membership.specs.Tick as ticks
 use Rattle.ak_membership.specs.Tick.{has_settled}
 use Rattle.ak_membership.specs.Closing.{stops, is_noted, notes}
-use Rattle.ak_membership.specs.Knowledge.{Given, Learns, WaitsOn, Knowledge, Keeps, Updates, Accepts, made_by}
+use Rattle.ak_membership.specs.Knowledge.{Given, nothing_given, Learns, WaitsOn, Knowledge, Keeps, Updates, Accepts, made_by}
 use Rattle.ak_membership.proofs.MembershipLemmas.{learnt_itself, waits_counting}
 use Rattle.ak_membership.proofs.Walk.{found_learns, leave_learns, down_learns, tick_learns, join_learns, gossip_learns}
 use Rattle.ak_wire.specs.declared.envelope.Message.{Message}
@@ -34,7 +34,7 @@ use Rattle.ak_wire.specs.Wire.{updates_of}
 use Rattle.ak_node.specs.declared.node.State.{State}
 use Rattle.ak_node.specs.declared.node.NodeEvent.{NodeEvent}
 use Rattle.ak_node.specs.declared.node.NodeEvent.TheVariants as event
-use Rattle.ak_node.specs.Node.{Outcome, known, me_of, is_member, is_gone, nothing, and_then, does, does_for, unless_refused, asks_at, exits, gossips_to, goes_on, ticked, on_message, rule, closes, is_dead, running_step, step}
+use Rattle.ak_node.specs.Node.{Outcome, known, me_of, is_member, is_gone, nothing, and_then, does, does_for, unless_refused, leave, down, asks_at, exits, gossips_to, goes_on, ticked, on_message, rule, closes, is_dead, running_step, step}
 use Rattle.ak_node.specs.NodeContracts.{IsNode, Serves, ServesWhileItRuns}
 use Rattle.ak_node.specs.Change.{given_by, NotesNow, Notes}
 use Rattle.ak_node.proofs.StepChanges.{rule_changes, running_changes, step_is, step_changes, ran_before}
@@ -106,6 +106,12 @@ module _ (n : State) where
   goes_settled word m same =
       same_if (is_gone m) (nothing m) _ same (same_if (is_member_with is_exiting (known m).view.standings (me_of m)) (exits m) (gossips_to (ticks.gossip_peer word m.membership) m) same (gossips_settled (ticks.gossip_peer word m.membership) m same))
 
+  leave_settled : (who : UniqueModel) → SameSettled n (leave who n).0
+  leave_settled who = unless_settled nothing_given (does n) (membership.leave who n.membership) (λ o. refl) (leave_learns nothing_given n.membership who)
+
+  down_settled : (who : UniqueModel) → SameSettled n (down who n).0
+  down_settled who = unless_settled nothing_given (does n) (membership.down who n.membership) (λ o. refl) (down_learns nothing_given n.membership who)
+
   abbrev given_gossip : GossipState → Given
   given_gossip g = record { founds = false; asks = None; brings = Some g }
 
@@ -123,6 +129,9 @@ module _ (n : State) where
       by_member : (b : Bool) → SameSettled n (nothing (record n { membership = if b then record n.membership { confirmed = with_one n.membership.confirmed from } else n.membership })).0
       by_member true = inl refl
       by_member false = inl refl
+  told_settled from (message.Leave who) = leave_settled who
+  told_settled from (message.Down who) = down_settled who
+  told_settled from other = inl refl
 
   rule_settled : (e : NodeEvent) → SameSettled n (rule e n).0
   rule_settled event.Found = (found_learns (given_by event.Found) n.membership refl).waits_on
@@ -133,8 +142,8 @@ module _ (n : State) where
       by_member false = inl refl
   rule_settled (event.Tick word) = same_if (is_member n) _ (asks_at n.membership.target n) (goes_settled word (ticked n (ticks.tick n.membership)).0 (tick_learns (given_by (event.Tick word)) n.membership).waits_on) (asks_settled n.membership.target)
   rule_settled (event.Packet p) = told_settled p.from p.message
-  rule_settled (event.Leave who) = unless_settled (given_by (event.Leave who)) (does n) (membership.leave who n.membership) (λ o. refl) (leave_learns (given_by (event.Leave who)) n.membership who)
-  rule_settled (event.Down who) = unless_settled (given_by (event.Down who)) (does n) (membership.down who n.membership) (λ o. refl) (down_learns (given_by (event.Down who)) n.membership who)
+  rule_settled (event.Leave who) = leave_settled who
+  rule_settled (event.Down who) = down_settled who
   rule_settled event.Stop = inl refl
 
 -- the closing notes what is known then, or nothing

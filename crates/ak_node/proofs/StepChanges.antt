@@ -25,7 +25,7 @@ use Rattle.ak_wire.proofs.Sending.{sent-append, updates-append}
 use Rattle.ak_node.specs.declared.node.State.{State}
 use Rattle.ak_node.specs.declared.node.NodeEvent.{NodeEvent}
 use Rattle.ak_node.specs.declared.node.NodeEvent.TheVariants as event
-use Rattle.ak_node.specs.Node.{known, me_of, is_member, is_gone, nothing, to_address, does, does_for, join, stop, asks_at, counted_members, exits, gossips_to, goes_on, ends, beats, ticked, update_by, tick, on_gossip, on_confirmed, on_message, rule, if_so, closes, is_dead, running_step, step}
+use Rattle.ak_node.specs.Node.{known, me_of, is_member, is_gone, nothing, to_address, does, does_for, join, leave, down, stop, asks_at, counted_members, exits, gossips_to, goes_on, ends, beats, ticked, update_by, tick, on_gossip, on_confirmed, on_message, rule, if_so, closes, is_dead, running_step, step}
 use Rattle.ak_membership.specs.Tick as ticks
 use Rattle.ak_membership.specs.Tick.{gossip_peer}
 use Rattle.ak_node.specs.Change.{Changes, Quiet, IsConfirmed, given_by, asker_in}
@@ -104,6 +104,13 @@ module _ (e : NodeEvent) (n : State) where
       (λ is. changes_then e n (goes_on word) (ticked n (ticks.tick n.membership)) (ticked_changes (ticks.tick n.membership) (tick_learns (given_by e) n.membership)) (goes_quiet word (ticked n (ticks.tick n.membership)).0))
       (λ is. quietly e n (asks_at n.membership.target n) (asks_quiet n.membership.target n))
 
+  -- also where a packet asks for it
+  leaving : (who : UniqueModel) → Changes e n (leave who n)
+  leaving who = unless_refused_changes e n (does n) (membership.leave who n.membership) (does_changes e n) (leave_learns (given_by e) n.membership who)
+
+  downing : (who : UniqueModel) → Changes e n (down who n)
+  downing who = unless_refused_changes e n (does n) (membership.down who n.membership) (does_changes e n) (down_learns (given_by e) n.membership who)
+
   -- ---- packets
   confirming : (p : Envelope) → e ≡ event.Packet p → says_it_stops p.message ≡ true → Changes e n (on_confirmed p.from n)
   confirming p is_packet says = changes_if e n (is_member n) (λ is. by_member (standing.is_member (known n).view.standings p.from)) (λ is. quietly e n (nothing n) (still n))
@@ -148,14 +155,17 @@ module _ (e : NodeEvent) (n : State) where
       (λ _. quietly e n _ (silent n (record n { membership = membership.on_heard p.from n.membership }) [] (record { same = refl; me = refl; settings = refl; steps = refl; ran = λ r. r; ticks = refl; confirmed = refl; founder = refl }) refl refl))
       (λ _. quietly e n (nothing n) (still n))
   being_told p is message.ExitingConfirmed what = confirming p is (ap says_it_stops what)
+  being_told p is (message.Leave who) what = leaving who
+  being_told p is (message.Down who) what = downing who
+  being_told p is other what = quietly e n (nothing n) (still n)
 
 pub rule_changes : (e : NodeEvent) (n : State) → Changes e n (rule e n)
 rule_changes event.Found n = does_changes event.Found n (membership.found n.membership) (found_learns (given_by event.Found) n.membership refl)
 rule_changes (event.Join target) n = joining (event.Join target) n target
 rule_changes (event.Tick word) n = ticking (event.Tick word) n word
 rule_changes (event.Packet p) n = being_told (event.Packet p) n p refl p.message refl
-rule_changes (event.Leave who) n = unless_refused_changes (event.Leave who) n (does n) (membership.leave who n.membership) (does_changes (event.Leave who) n) (leave_learns (given_by (event.Leave who)) n.membership who)
-rule_changes (event.Down who) n = unless_refused_changes (event.Down who) n (does n) (membership.down who n.membership) (does_changes (event.Down who) n) (down_learns (given_by (event.Down who)) n.membership who)
+rule_changes (event.Leave who) n = leaving (event.Leave who) n who
+rule_changes (event.Down who) n = downing (event.Down who) n who
 rule_changes event.Stop n = quietly event.Stop n (stop n) (silent n (stop n).0 [] (record { same = refl; me = refl; settings = refl; steps = refl; ran = λ r. absurd (true≢false (sym r)); ticks = refl; confirmed = refl; founder = refl }) refl refl)
 
 -- ---- the closing

@@ -22,11 +22,7 @@ use Rattle.ak_node.specs.Node.{Outcome, known, me_of, is_gone}
 -- who asks to join by a message
 abbrev pub asker_in : UniqueModel → Message → Option UniqueModel
 asker_in from message.TheVariants.Join = Some from
-asker_in from (message.TheVariants.Welcome g) = None
-asker_in from (message.TheVariants.Gossip g) = None
-asker_in from message.TheVariants.Heartbeat = None
-asker_in from message.TheVariants.HeartbeatReply = None
-asker_in from message.TheVariants.ExitingConfirmed = None
+asker_in from other = None
 
 -- what an event gives to a node's membership
 abbrev pub given_by : NodeEvent → Given

@@ -192,6 +192,7 @@ on_heard from n = if is_member n then nothing (record n { membership = membershi
 abbrev pub on_confirmed : UniqueModel → State → Outcome
 on_confirmed from n = if is_member n then nothing (record n { membership = membership.on_confirmed from n.membership }) else nothing n
 
+-- a leave and a down by message are those of the local events, from whomever they come; a node ignores every other message
 abbrev pub on_message : UniqueModel → Message → State → Outcome
 on_message from message.TheVariants.Join n = on_join from n
 on_message from (message.TheVariants.Welcome g) n = on_gossip from g n
@@ -199,6 +200,9 @@ on_message from (message.TheVariants.Gossip g) n = on_gossip from g n
 on_message from message.TheVariants.Heartbeat n = on_heartbeat from n
 on_message from message.TheVariants.HeartbeatReply n = on_heard from n
 on_message from message.TheVariants.ExitingConfirmed n = on_confirmed from n
+on_message from (message.TheVariants.Leave who) n = leave who n
+on_message from (message.TheVariants.Down who) n = down who n
+on_message from other n = nothing n
 
 abbrev pub rule : NodeEvent → State → Outcome
 rule event.TheVariants.Found n = found n

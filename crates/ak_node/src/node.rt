@@ -407,6 +407,9 @@ impl State {
             Message::Heartbeat => self.on_heartbeat(alloc, &envelope.from),
             Message::HeartbeatReply => Ok(self.on_heard(alloc, &envelope.from)),
             Message::ExitingConfirmed => self.on_confirmed(alloc, &envelope.from),
+            Message::Leave(who) => self.leave(alloc, who),
+            Message::Down(who) => self.down(alloc, who),
+            _ => Ok(Actions::empty(alloc)),
         }
     }
 

@@ -1,6 +1,7 @@
 use crate::node::{Node, NodeEvent};
-use ak_address::{Address, Unique, parse_unique};
+use ak_address::{Address, Text, Unique, parse_unique};
 use ak_gossip::{Gossip, Indices, Part, Parts, parts_valid};
+use ak_member::{Effect, Effects, Status};
 use ak_schedule::{Draft, Settings};
 use ak_wire::{Action, Actions, Envelope, Message};
 use std::alloc::{AllocError, Global};
@@ -287,5 +288,120 @@ fn two_told_of_crowd(alloc: Global, others: u32) -> Result<Actions, Fail> {
 fn at_most_128_are_known(rt: HostRuntime) -> Result<(), Fail> {
     assert!(rt; is_refusal(&two_told_of_crowd(rt.alloc(), 127)?, 6));
     assert!(rt; is_answer_with_view(&two_told_of_crowd(rt.alloc(), 126)?));
+    Ok(())
+}
+
+// A gossip of a and b, both Up, of which one update of b is counted; neither has seen it.
+fn gossip_of_two_up(alloc: Global) -> Result<Gossip, Fail> {
+    let mut parts = Parts::empty(alloc);
+    push_up(alloc, process(alloc, b'a')?, 0, 1, &mut parts)?;
+    push_up(alloc, process(alloc, b'b')?, 1, 2, &mut parts)?;
+    gossip_of(alloc, &parts)
+}
+
+// An Up member with this number that has not seen the gossip, of which so many updates are counted.
+fn push_up(
+    alloc: Global,
+    unique: Unique,
+    count: u64,
+    up_number: u64,
+    parts: &mut Parts,
+) -> Result<(), AllocError> {
+    parts.push(Part {
+        unique,
+        count,
+        state: 2,
+        up_number,
+        seen: false,
+        row_number: 0,
+        subjects: Indices::new(Vec::new(alloc)),
+    })
+}
+
+// The node a, which knows itself and b, both Up.
+fn of_two_up(alloc: Global) -> Result<Node, Fail> {
+    let mut node = start(alloc, b'a')?;
+    let gossip = gossip_of_two_up(alloc)?;
+    let actions = given(alloc, &mut node, b'b', Message::Gossip(gossip))?;
+    if is_answer_with_view(&actions) {
+        return Ok(node);
+    }
+    Err("it does not take the gossip in")?
+}
+
+// What the node does where a packet of z, who is no member and at no listed address, asks that the process of this letter leaves.
+fn asked_to_leave(alloc: Global, node: &mut Node, who: u8) -> Result<Actions, Fail> {
+    let who = process(alloc, who)?;
+    given(alloc, node, b'z', Message::Leave(who))
+}
+
+// What it does where a packet of z asks to down the process of this letter.
+fn asked_to_down(alloc: Global, node: &mut Node, who: u8) -> Result<Actions, Fail> {
+    let who = process(alloc, who)?;
+    given(alloc, node, b'z', Message::Down(who))
+}
+
+// The effects are that this process rises to this status, with no number.
+fn is_rise(effects: &Effects, who: &Unique, to: Status) -> bool {
+    match effects.as_slice() {
+        [Effect::Rise(other, status, up_number)] => {
+            other.compare(who).is_eq() && *status == to && *up_number == 0
+        }
+        _ => false,
+    }
+}
+
+// The whole of what is done is one update with this number, in which this process rises to this status.
+fn is_raise(actions: &Actions, number: u64, who: &Unique, to: Status) -> bool {
+    match actions.as_slice() {
+        [Action::Update(own, effects), Action::View] => *own == number && is_rise(effects, who, to),
+        _ => false,
+    }
+}
+
+// A member raises an Up member to Leaving, and a Leaving one to Down, as packets ask it, from whomever they come.
+#[test]
+fn packets_ask_to_leave_and_to_down(rt: HostRuntime) -> Result<(), Fail> {
+    let other = process(rt.alloc(), b'b')?;
+    let mut node = of_two_up(rt.alloc())?;
+    let left = asked_to_leave(rt.alloc(), &mut node, b'b')?;
+    assert!(rt; is_raise(&left, 1, &other, Status::Leaving));
+    let downed = asked_to_down(rt.alloc(), &mut node, b'b')?;
+    assert!(rt; is_raise(&downed, 2, &other, Status::Down));
+    Ok(())
+}
+
+// A founder, which is Joining, refuses that it leaves itself, and that a process that it does not know leaves or is downed.
+#[test]
+fn members_refuse_as_at_local_events(rt: HostRuntime) -> Result<(), Fail> {
+    let mut node = founder(rt.alloc())?;
+    assert!(rt; is_refusal(&asked_to_leave(rt.alloc(), &mut node, b'a')?, 1));
+    assert!(rt; is_refusal(&asked_to_leave(rt.alloc(), &mut node, b'b')?, 2));
+    assert!(rt; is_refusal(&asked_to_down(rt.alloc(), &mut node, b'b')?, 2));
+    Ok(())
+}
+
+// A node that is no member refuses both, also of itself.
+#[test]
+fn others_refuse_to_leave_and_to_down(rt: HostRuntime) -> Result<(), Fail> {
+    let mut node = start(rt.alloc(), b'a')?;
+    assert!(rt; is_refusal(&asked_to_leave(rt.alloc(), &mut node, b'a')?, 3));
+    assert!(rt; is_refusal(&asked_to_down(rt.alloc(), &mut node, b'a')?, 3));
+    Ok(())
+}
+
+// It knows one process, of which it counts one update, and has not stopped.
+fn knows_one(node: &Node) -> bool {
+    let gossip = node.gossip();
+    gossip.uniques() == 1 && gossip.version().len() == 1 && !node.stopped()
+}
+
+// A message whose rule is not built is ignored by a member: no action, and it knows what it knew.
+#[test]
+fn messages_without_a_rule_are_ignored(rt: HostRuntime) -> Result<(), Fail> {
+    let mut node = founder(rt.alloc())?;
+    let entity = Text::from_bytes(rt.alloc(), b"e")?;
+    let actions = given(rt.alloc(), &mut node, b'b', Message::Forward(entity, 5))?;
+    assert!(rt; actions.len() == 0 && knows_one(&node));
     Ok(())
 }

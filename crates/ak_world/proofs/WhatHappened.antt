@@ -59,11 +59,7 @@ accepts_from given m k g is lawful = (subst (IsLawful given m) is lawful).0
 
 asker_is : (from who : UniqueModel) (m : Message) → asker_in from m ≡ Some who → from ≡ who
 asker_is from who message.Join is = same_Some from who is
-asker_is from who (message.Welcome g) is = no_one_asks who is
-asker_is from who (message.Gossip g) is = no_one_asks who is
-asker_is from who message.Heartbeat is = no_one_asks who is
-asker_is from who message.HeartbeatReply is = no_one_asks who is
-asker_is from who message.ExitingConfirmed is = no_one_asks who is
+asker_is from who other is = no_one_asks who is
 
 pub asked : (w : WorldState) (e : NodeEvent) → WasSent w e → (who : UniqueModel) → (given_by e).asks ≡ Some who → (p : Envelope) × Contains w.packets p × (p.from ≡ who)
 asked w event.Found sent who is = no_one_asks who is

@@ -513,11 +513,13 @@ impl Model for World {
     ghost use Rattle.ak_gossip.specs.Gossip.{coded_gossip};
     ghost use Rattle.ak_member.specs.View.{coded_uniques};
     ghost use Rattle.ak_membership.specs.contracts.membership.Membership as membership;
+    ghost use Rattle.ak_promise.specs.Ballot.{coded_ballot};
+    ghost use Rattle.ak_wire.specs.Wire.{coded_counts};
     ghost use Rattle.ak_world.specs.WorldContracts.{WorldModel, state_of, IsWorld};
 
     ghost Value = { WorldModel };
 
-    ghost coded = { Prim.hlevel (codes, coded_address, coded_unique, coded_uniques, coded_settings, coded_gossip, membership.the_row.coded) };
+    ghost coded = { Prim.hlevel (codes, coded_address, coded_unique, coded_uniques, coded_settings, coded_gossip, coded_ballot, coded_counts, membership.the_row.coded) };
 
     ghost view = { λ w. record { settings = w.scene.settings; state = state_of w.scene; events = w.accepted.items; spent = w.is_spent } };
 
