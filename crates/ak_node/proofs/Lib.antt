@@ -1,7 +1,9 @@
 pub mod ChangeLemmas
+pub mod CountedPairs
 pub mod GivesUp
 pub mod MarginEnds
 pub mod NodeLemmas
 pub mod SendLemmas
+pub mod SendsValid
 pub mod SilentMembers
 pub mod StepChanges

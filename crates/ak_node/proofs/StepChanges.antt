@@ -51,7 +51,7 @@ gossips_quiet : (to : Option UniqueModel) (n : State) → Quiet n (gossips_to to
 gossips_quiet None n = still n
 gossips_quiet (Some to) n = one_sent n n (record { from = me_of n; to = to.address; uid = to.uid; message = message.Gossip (known n) }) (itself n) refl (some_gossip (known n)) refl
 
-goes_quiet : (word : ℕ) (n : State) → Quiet n (goes_on word n)
+pub goes_quiet : (word : ℕ) (n : State) → Quiet n (goes_on word n)
 goes_quiet word n =
     quiet_if n (is_gone n) (λ is. still n) (λ is.
     quiet_if n (is_member_with is_exiting (known n).view.standings (me_of n)) (λ is. exits_quiet n) (λ is. gossips_quiet (gossip_peer word n.membership) n))
@@ -61,7 +61,7 @@ ended_made : (whos : List UniqueModel) → updates_of (map action.MarginEnd whos
 ended_made [] = refl
 ended_made (who ∷ whos) = ended_made whos
 
-ended_sent : (whos : List UniqueModel) → sent (map action.MarginEnd whos) ≡ []
+pub ended_sent : (whos : List UniqueModel) → sent (map action.MarginEnd whos) ≡ []
 ended_sent [] = refl
 ended_sent (who ∷ whos) = ended_sent whos
 
@@ -179,7 +179,7 @@ due_made false true false = refl
 due_made false false true = refl
 due_made false false false = refl
 
-due_sent : (a b c : Bool) → sent (if_so a action.View ++ if_so b action.Stopped ++ if_so c action.Settled) ≡ []
+pub due_sent : (a b c : Bool) → sent (if_so a action.View ++ if_so b action.Stopped ++ if_so c action.Settled) ≡ []
 due_sent true true true = refl
 due_sent true true false = refl
 due_sent true false true = refl

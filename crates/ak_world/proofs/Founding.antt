@@ -21,7 +21,7 @@ use Rattle.ak_node.specs.Node.{me_of}
 use Rattle.ak_world.specs.Remembered.{Remembered, IsClosed}
 use Rattle.ak_world.proofs.Agreed.{IsAgreed}
 use Rattle.ak_world.proofs.Closed.{based_entry}
-use Rattle.ak_world.proofs.CountedPairs.{counted_have}
+use Rattle.ak_node.proofs.CountedPairs.{counted_have}
 use Rattle.ak_world.proofs.RaisedFor.{Raised, IsFoundation, MayUp}
 use Rattle.ak_world.proofs.Rises.{counted_rose, joining_not_risen}
 

@@ -26,7 +26,7 @@ use Rattle.ak_node.specs.declared.node.State.{State}
 use Rattle.ak_node.specs.Node.{me_of}
 use Rattle.ak_world.specs.Remembered.{Remembered}
 use Rattle.ak_world.proofs.Agreed.{IsAgreed}
-use Rattle.ak_world.proofs.CountedPairs.{counted_have}
+use Rattle.ak_node.proofs.CountedPairs.{counted_have}
 use Rattle.ak_world.proofs.Founding.{either_way, in_history, risen, founding_covered, one_founding}
 use Rattle.ak_world.proofs.Processes.{IsThere}
 use Rattle.ak_world.proofs.RaisedFor.{Raised}

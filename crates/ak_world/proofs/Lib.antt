@@ -5,7 +5,6 @@ pub mod Basis
 pub mod ByStart
 pub mod Closed
 pub mod ClosedRuns
-pub mod CountedPairs
 pub mod FoldLemmas
 pub mod FoldRuns
 pub mod Founding
