@@ -100,6 +100,28 @@ fn refuse(alloc: Global, fault: MemberFault) -> Result<Actions, AllocError>
     one(alloc, Action::Refused(number))
 }
 
+// What stands on the outside of a packet: from whom it is, and to whom. The message comes last, so that no error lets one go.
+#[derive(Drop)]
+struct Cover {
+    from: Unique,
+    to: Address,
+    uid: u64,
+}
+
+impl Cover {
+    fn around(self, message: Message) -> Action
+        ensures { result ≡ Action.Send (record { from = self.from; to = self.to; uid = self.uid; message = message }) }
+    {
+        let Cover { from, to, uid } = self;
+        Action::Send(Envelope {
+            from,
+            to,
+            uid,
+            message,
+        })
+    }
+}
+
 impl State {
     fn me(&self) -> &Unique
         ensures { result.now ≡ rules.me_of self.now }
@@ -107,18 +129,18 @@ impl State {
         self.membership.me()
     }
 
-    fn to_process(&self, alloc: Global, to: &Unique, message: Message) -> Result<Action, AllocError>
-        ensures { IfOk result (λ action. action ≡ rules.to_process self.now to.now message) }
+    // The outside of a packet to one process.
+    fn cover(&self, alloc: Global, to: &Unique) -> Result<Cover, AllocError>
+        ensures { IfOk result (λ cover. cover ≡ record { from = rules.me_of self.now; to = to.now.address; uid = to.now.uid }) }
     {
         let from = self.me().copy(alloc)?;
         let address = to.address.copy(alloc)?;
         let uid = to.uid;
-        Ok(Action::Send(Envelope {
+        Ok(Cover {
             from,
             to: address,
             uid,
-            message,
-        }))
+        })
     }
 
     // Asks for admission through an address.
@@ -161,14 +183,14 @@ impl State {
         match reply {
             Reply::Nothing => Ok(()),
             Reply::Welcome => {
+                let cover = self.cover(alloc, to)?;
                 let gossip = self.membership.gossip().copy(alloc)?;
-                let action = self.to_process(alloc, to, Message::Welcome(gossip))?;
-                actions.push(action)
+                actions.push(cover.around(Message::Welcome(gossip)))
             }
             Reply::Gossip => {
+                let cover = self.cover(alloc, to)?;
                 let gossip = self.membership.gossip().copy(alloc)?;
-                let action = self.to_process(alloc, to, Message::Gossip(gossip))?;
-                actions.push(action)
+                actions.push(cover.around(Message::Gossip(gossip)))
             }
         }
     }
@@ -255,8 +277,8 @@ impl State {
         if !self.membership.is_member() {
             return Ok(Actions::empty(alloc));
         }
-        let reply = self.to_process(alloc, from, Message::HeartbeatReply)?;
-        one(alloc, reply)
+        let cover = self.cover(alloc, from)?;
+        one(alloc, cover.around(Message::HeartbeatReply))
     }
 
     fn on_heard(&mut self, alloc: Global, from: &Unique) -> Actions
@@ -295,8 +317,8 @@ impl State {
         let members = self.membership.gossip().members();
         'pairs: for pair in 0..members.uniques() {
             if let Some((to, _)) = members.counted_at_pair(pair) {
-                let action = self.to_process(alloc, to, Message::ExitingConfirmed)?;
-                actions.push(action)?;
+                let cover = self.cover(alloc, to)?;
+                actions.push(cover.around(Message::ExitingConfirmed))?;
             }
         }
         Ok(())
@@ -308,9 +330,10 @@ impl State {
     {
         match self.membership.gossip_peer(word) {
             Some(to) => {
+                let cover = self.cover(alloc, to)?;
                 let gossip = self.membership.gossip().copy(alloc)?;
                 let message = Message::Gossip(gossip);
-                actions.push(self.to_process(alloc, to, message)?)
+                actions.push(cover.around(message))
             }
             None => Ok(()),
         }
@@ -355,8 +378,8 @@ impl State {
         let watched = self.membership.detector().watched();
         'watched: for index in 0..watched.len() {
             if let Some(to) = watched.at(index) {
-                let action = self.to_process(alloc, to, Message::Heartbeat)?;
-                actions.push(action)?;
+                let cover = self.cover(alloc, to)?;
+                actions.push(cover.around(Message::Heartbeat))?;
             }
         }
         Ok(())
@@ -453,6 +476,16 @@ impl State {
             return Ok(Actions::empty(alloc));
         }
         self.steps += 1;
+        self.running_step(alloc, event)
+    }
+
+    // The event of a node that runs.
+    fn running_step(&mut self, alloc: Global, event: NodeEvent) -> Result<Actions, AllocError>
+        requires ticks { self.old.membership.ticks < 2 ^ 62 }
+        requires watching { IsWatching self.old.membership }
+        ensures does { IfOk result (λ actions. Does (rules.running_step event self.old) self.new actions) }
+        ensures same { IsSameProcess self.old self.new }
+    {
         if is_dead(self.me(), &event) {
             return one(alloc, Action::Dead);
         }
