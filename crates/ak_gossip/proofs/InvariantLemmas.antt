@@ -22,6 +22,7 @@ use Rattle.ak_member.specs.declared.status.Status.TheVariants.{Joining, Up, Leav
 use Rattle.ak_member.specs.Standing.{Standings, rank, greater_status, older_number, merged_standing, merged_standings, known, member_of, is_member}
 use Rattle.ak_member.specs.View.{Row, RowTable, later_row, merged_rows, after_effect, after_effects, after_observed, observed}
 use Rattle.ak_member.proofs.StandingLaws.{rank-greater_status}
+use Rattle.ak_gossip.specs.Known.{KnownState}
 use Rattle.ak_gossip.specs.Gossip.{GossipState, most_uniques, is_known, IsNumber, IsStanding, IsRow, IsGossip, nothing_known, updated, MayUpdate, same, both}
 
 -- ---- standings
@@ -164,6 +165,13 @@ pub parts_kept : (v w : Counts) (s t : Standings) (r q : RowTable) (seen others 
 parts_kept v w s t r q seen others a b c d h =
     subst IsGossip (λ i. record { version = sym a i; view = record { standings = sym b i; rows = sym c i }; seen = sym d i }) h
 
+-- the same, where what is known is one value
+pub known_kept : (known other : KnownState) (seen others : UniqueSet) → known ≡ other → seen ≡ others
+    → IsGossip (record { version = other.version; view = other.view; seen = others })
+    → IsGossip (record { version = known.version; view = known.view; seen = seen })
+known_kept known other seen others a b h =
+    subst IsGossip (λ i. record { version = (sym a i).version; view = (sym a i).view; seen = sym b i }) h
+
 -- ---- nothing known
 none_there : {X : Type 0} (x : X) → None ≡ Some x → ⊥
 none_there x is = true≢false (sym (ap is_some is))
@@ -266,22 +274,13 @@ pub merged_parts_kept : (me : UniqueModel) (own incoming : GossipState) → IsGo
 merged_parts_kept me own incoming p q few v s r seen none a b c e d =
     parts_kept v _ s _ r _ seen _ a b c (d ∙ (λ i. if is_member (b i) me then with_one (e i) me else (e i))) (noted_kept me (both own incoming) (both_kept own incoming p q few))
 
--- the parts of a gossip that takes the place of another, where a node is among those that have seen it
-pub accepted_parts_kept : (me : UniqueModel) (g : GossipState) → IsGossip g
-    → (v : Counts) (s : Standings) (r : RowTable) (seen before : UniqueSet) → v ≡ g.version → s ≡ g.view.standings → r ≡ g.view.rows → before ≡ g.seen
-    → seen ≡ (if is_member g.view.standings me then with_one before me else before)
-    → IsGossip (record { version = v; view = record { standings = s; rows = r }; seen = seen })
-accepted_parts_kept me g p v s r seen before a b c e d =
-    parts_kept v g.version s g.view.standings r g.view.rows seen _ a b c (d ∙ (λ i. if is_member g.view.standings me then with_one (e i) me else (e i))) (noted_kept me g p)
-
--- the same where the other knows the same
-pub same_parts_kept : (me : UniqueModel) (own incoming : GossipState) → IsGossip own → (seen joined before : UniqueSet) → before ≡ own.seen
-    → joined ≡ union before (those incoming.seen (is_member own.view.standings))
-    → seen ≡ (if is_member own.view.standings me then with_one joined me else joined)
-    → IsGossip (record { version = own.version; view = record { standings = own.view.standings; rows = own.view.rows }; seen = seen })
-same_parts_kept me own incoming p seen joined before is are now =
-    accepted_parts_kept me (same own incoming) (same_kept own incoming p) own.version own.view.standings own.view.rows seen joined
-    refl refl refl (are ∙ ap (λ them. union them (those incoming.seen (is_member own.view.standings))) is) now
+-- what takes the place of a gossip, where a node is among those that have seen it
+pub accepted_kept : (me : UniqueModel) (g : GossipState) → IsGossip g
+    → (known : KnownState) (s : Standings) (seen before : UniqueSet) → known ≡ record { version = g.version; view = g.view } → s ≡ g.view.standings → before ≡ g.seen
+    → seen ≡ (if is_member s me then with_one before me else before)
+    → IsGossip (record { version = known.version; view = known.view; seen = seen })
+accepted_kept me g p known s seen before a b c d =
+    known_kept known _ seen _ a (d ∙ (λ i. if is_member (b i) me then with_one (c i) me else (c i))) (noted_kept me g p)
 
 -- ---- an entry
 pub updated_kept : (author : UniqueModel) (effects : List Effect) (g : GossipState) → IsGossip g → MayUpdate author effects g → IsGossip (updated author effects g)

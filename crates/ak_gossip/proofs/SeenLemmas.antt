@@ -12,9 +12,10 @@ use Rattle.ak_address.specs.Uniques.{UniqueSet, has, with_one, those, union, in_
 use Rattle.ak_address.specs.Table.{with_pairs, merged_tables}
 use Rattle.ak_address.proofs.OrderLemmas.{unique_total}
 use Rattle.ak_address.proofs.TableLaws.{key_itself, same_key}
-use Rattle.ak_address.proofs.UniquesLaws.{has-with_one, has-those, has-union, same_uniques, has_at, index_of_has}
+use Rattle.ak_address.proofs.UniquesLaws.{has-with_one, has-those, has-union, same_uniques, with_present, has_at, index_of_has}
+use Rattle.ak_member.specs.Standing.{is_member}
 use Rattle.ak_gossip.specs.GossipContracts.{excess_of}
-use Rattle.ak_gossip.specs.Gossip.{most_uniques}
+use Rattle.ak_gossip.specs.Gossip.{GossipState, most_uniques, seen_by, same}
 
 -- whether a process is among these
 abbrev pub is_among : UniqueModel → List UniqueModel → Bool
@@ -157,3 +158,22 @@ len-merged_tables-most f m n = omega (arith, len-with_pairs f m (map.entries n),
 -- few enough are no excess
 pub few_of : (n : ℕ) → n ≤ most_uniques → None ≡ excess_of n
 few_of n few = sym (ap (λ b. if b then Some n else None) (le-ltb _ _ few))
+
+-- ---- nobody is added
+-- who is there already, or is no member, is not added
+pub there_already : (s : UniqueSet) (k : UniqueModel) (member : Bool) → has s k ≡ true → s ≡ (if member then with_one s k else s)
+there_already s k true there = with_present s k there
+there_already s k false there = refl
+
+pub no_member : (s : UniqueSet) (k : UniqueModel) (member : Bool) → member ≡ false → s ≡ (if member then with_one s k else s)
+no_member s k true none = absurd (true≢false none)
+no_member s k false none = refl
+
+noted_already : (me : UniqueModel) (own : GossipState) (seen : UniqueSet) (member : Bool) → own.seen ≡ seen → own.seen ≡ (if member then with_one own.seen me else own.seen)
+    → own ≡ (if member then record own { seen = with_one seen me } else record own { seen = seen })
+noted_already me own seen true same noted = λ i. record own { seen = (noted ∙ ap (λ s. with_one s me) same) i }
+noted_already me own seen false same noted = λ i. record own { seen = same i }
+
+pub seen_already : (me : UniqueModel) (own incoming : GossipState) → own.seen ≡ union own.seen (those incoming.seen (is_member own.view.standings))
+    → own.seen ≡ (if is_member own.view.standings me then with_one own.seen me else own.seen) → own ≡ seen_by me (same own incoming)
+seen_already me own incoming all noted = noted_already me own (union own.seen (those incoming.seen (is_member own.view.standings))) (is_member own.view.standings me) all noted

@@ -1,4 +1,6 @@
 pub mod Gossip
 pub mod GossipContracts
+pub mod Held
+pub mod Known
 pub mod Parts
 pub mod PartsWalk

@@ -1,4 +1,4 @@
-ghost use Rattle.std.specs.Prelude.{◌≡◌, ◌+◌, ◌≤◌, if◌then◌else◌, IfOk, OnOk, OnErr, IsFalse};
+ghost use Rattle.std.specs.Prelude.{◌≡◌, ◌+◌, ◌≤◌, if◌then◌else◌, IfOk, OnOk, OnErr, IsFalse, IsTrue};
 ghost use Rattle.std.specs.FinMap as map;
 ghost use Rattle.ak_address.specs.Uniques.{has, with_one, those, union};
 ghost use Rattle.ak_clock.specs.Version.{count};
@@ -8,6 +8,7 @@ ghost use Rattle.ak_reach.specs.Reach.{is_as_new};
 ghost use Rattle.ak_gossip.specs.Gossip.{GossipState, IsGossip, most_uniques, nothing_known, MayUpdate, updated, seen_by, same, both};
 ghost use Rattle.ak_gossip.specs.GossipContracts.{Receives, excess_of};
 
+use crate::known::{Known, Tables};
 use ak_address::{Unique, Uniques};
 use ak_clock::{Relation, Version};
 use ak_member::{Effects, Members};
@@ -45,9 +46,7 @@ pub enum GossipFault {
 /// row's number is at most what is counted of its observer: invariants of the type.
 #[derive(Drop)]
 pub struct Gossip {
-    pub(crate) version: Version,
-    pub(crate) members: Members,
-    pub(crate) rows: Rows,
+    pub(crate) known: Known,
     pub(crate) seen: Uniques,
 }
 
@@ -58,9 +57,9 @@ impl Model for Gossip {
 
     ghost coded = { coded_gossip };
 
-    ghost view = { λ g. record { version = g.version; view = record { standings = g.members; rows = g.rows }; seen = g.seen } };
+    ghost view = { λ g. record { version = g.known.version; view = g.known.view; seen = g.seen } };
 
-    ghost invariant = { λ g. IsGossip (record { version = g.version; view = record { standings = g.members; rows = g.rows }; seen = g.seen }) };
+    ghost invariant = { λ g. IsGossip (record { version = g.known.version; view = g.known.view; seen = g.seen }) };
 }
 
 impl Gossip {
@@ -69,9 +68,7 @@ impl Gossip {
         ensures { result ≡ nothing_known }
     {
         Gossip {
-            version: Version::empty(alloc),
-            members: Members::empty(alloc),
-            rows: Rows::empty(alloc),
+            known: Known::nothing(alloc),
             seen: Uniques::empty(alloc),
         }
     }
@@ -80,21 +77,21 @@ impl Gossip {
     pub fn version(&self) -> &Version
         ensures { result.now ≡ self.now.version }
     {
-        &self.version
+        self.known.version()
     }
 
     /// The members and tombstones after the entries that are seen.
     pub fn members(&self) -> &Members
         ensures { result.now ≡ self.now.view.standings }
     {
-        &self.members
+        self.known.members()
     }
 
     /// Whom the observers found unreachable by then.
     pub fn rows(&self) -> &Rows
         ensures { result.now ≡ self.now.view.rows }
     {
-        &self.rows
+        self.known.rows()
     }
 
     /// Which members are known to know exactly this (Akka's Cluster Specification, "Gossip Convergence": the seen set).
@@ -109,30 +106,23 @@ impl Gossip {
         ensures value { result ≡ map.len self.now.view.standings }
         ensures few { result ≤ most_uniques }
     {
-        self.members.uniques() as u32
+        self.known.members().uniques() as u32
     }
 
     /// Tells a proof what is true of every gossip. It does nothing.
     pub fn invariant(&self)
         ensures { IsGossip self.now }
     {
-        let _version = &self.version;
+        let _seen = &self.seen;
     }
 
-    /// An equal gossip. Only memory can fail.
+    /// An equal gossip. The two share what is known, and only those that have seen it are copied. Only memory can fail.
     pub fn copy(&self, alloc: Global) -> Result<Gossip, AllocError>
         ensures { IfOk result (λ copy. copy ≡ self.now) }
     {
-        let version = self.version.copy(alloc)?;
-        let members = self.members.copy(alloc)?;
-        let rows = self.rows.copy(alloc)?;
+        let known = self.known.copy(alloc)?;
         let seen = self.seen.copy(alloc)?;
-        Ok(Gossip {
-            version,
-            members,
-            rows,
-            seen,
-        })
+        Ok(Gossip { known, seen })
     }
 
     /// The author makes an entry with these effects and answers its number; only the author has seen what is known then
@@ -151,15 +141,21 @@ impl Gossip {
     {
         let mut only_author = Uniques::empty(alloc);
         only_author.insert(alloc, author)?;
-        let members = self.members.copy(alloc)?.after(alloc, effects)?;
-        let mut version = self.version.copy(alloc)?;
+        let members = self.known.members().copy(alloc)?.after(alloc, effects)?;
+        let mut version = self.known.version().copy(alloc)?;
         let number = version.bump(alloc, author)?;
-        let mut rows = self.rows.copy(alloc)?;
+        let mut rows = self.known.rows().copy(alloc)?;
         observe(alloc, author, number, effects, &mut rows)?;
+        let known = Known::of_tables(
+            alloc,
+            Tables {
+                version,
+                members,
+                rows,
+            },
+        )?;
         *self = Gossip {
-            version,
-            members,
-            rows,
+            known,
             seen: only_author,
         };
         Ok(number)
@@ -177,15 +173,15 @@ impl Gossip {
     ) -> Result<Received, GossipFault>
         ensures { Receives me.now self.old incoming.now result self.new }
     {
-        let own = self.version.count(me);
-        let theirs = incoming.version.count(me);
+        let own = self.known.version().count(me);
+        let theirs = incoming.known.version().count(me);
         if own < theirs {
             return Err(GossipFault::ForeignCount { own, theirs });
         }
         if let Some(union) = self.excess(alloc, incoming)? {
             return Err(GossipFault::TooManyUniques { union });
         }
-        match self.version.compare(&incoming.version) {
+        match self.known.version().compare(incoming.known.version()) {
             Relation::Same => Ok(self.take_same(alloc, me, incoming)?),
             Relation::Before => Ok(self.take_newer(alloc, me, incoming)?),
             Relation::After => Ok(Received::Older),
@@ -204,11 +200,23 @@ impl Gossip {
         ensures answer { IfOk result (λ r. r ≡ Received.Same) }
         ensures err { OnErr result (self.new ≡ self.old) }
     {
+        if self.is_seen(me, incoming) {
+            return Ok(Received::Same);
+        }
         let mut seen = self.seen.copy(alloc)?;
-        add_members(alloc, &incoming.seen, &self.members, &mut seen)?;
-        add_member(alloc, me, &self.members, &mut seen)?;
+        add_members(alloc, &incoming.seen, self.known.members(), &mut seen)?;
+        add_member(alloc, me, self.known.members(), &mut seen)?;
         self.seen = seen;
         Ok(Received::Same)
+    }
+
+    // Whether all who would be added are among those that have seen it, where both know the same: a settled cluster hears
+    // little else, and nothing is copied then.
+    fn is_seen(&self, me: &Unique, incoming: &Gossip) -> bool
+        ensures { IsTrue result → self.now ≡ seen_by me.now (same self.now incoming.now) }
+    {
+        let members = self.known.members();
+        has_members(&incoming.seen, members, &self.seen) && has_member(me, members, &self.seen)
     }
 
     // What came replaces what was known.
@@ -222,17 +230,10 @@ impl Gossip {
         ensures answer { IfOk result (λ r. r ≡ Received.Newer) }
         ensures err { OnErr result (self.new ≡ self.old) }
     {
-        let version = incoming.version.copy(alloc)?;
-        let members = incoming.members.copy(alloc)?;
-        let rows = incoming.rows.copy(alloc)?;
+        let known = incoming.known.copy(alloc)?;
         let mut seen = incoming.seen.copy(alloc)?;
-        add_member(alloc, me, &incoming.members, &mut seen)?;
-        *self = Gossip {
-            version,
-            members,
-            rows,
-            seen,
-        };
+        add_member(alloc, me, incoming.known.members(), &mut seen)?;
+        *self = Gossip { known, seen };
         Ok(Received::Newer)
     }
 
@@ -248,20 +249,23 @@ impl Gossip {
         ensures answer { IfOk result (λ r. r ≡ Received.Merged) }
         ensures err { OnErr result (self.new ≡ self.old) }
     {
-        let mut version = self.version.copy(alloc)?;
-        version.merge(alloc, &incoming.version)?;
-        let mut members = self.members.copy(alloc)?;
-        members.merge(alloc, &incoming.members)?;
-        let mut rows = self.rows.copy(alloc)?;
-        rows.merge(alloc, &incoming.rows)?;
+        let mut version = self.known.version().copy(alloc)?;
+        version.merge(alloc, incoming.known.version())?;
+        let mut members = self.known.members().copy(alloc)?;
+        members.merge(alloc, incoming.known.members())?;
+        let mut rows = self.known.rows().copy(alloc)?;
+        rows.merge(alloc, incoming.known.rows())?;
         let mut seen = Uniques::empty(alloc);
         add_member(alloc, me, &members, &mut seen)?;
-        *self = Gossip {
-            version,
-            members,
-            rows,
-            seen,
-        };
+        let known = Known::of_tables(
+            alloc,
+            Tables {
+                version,
+                members,
+                rows,
+            },
+        )?;
+        *self = Gossip { known, seen };
         Ok(Received::Merged)
     }
 
@@ -269,12 +273,12 @@ impl Gossip {
     fn excess(&self, alloc: Global, incoming: &Gossip) -> Result<Option<u32>, AllocError>
         ensures { IfOk result (λ excess. excess ≡ excess_of (map.len (merged_standings self.now.view.standings incoming.now.view.standings))) }
     {
-        let own = self.members.uniques();
-        let theirs = incoming.members.uniques();
+        let own = self.known.members().uniques();
+        let theirs = incoming.known.members().uniques();
         if own + theirs <= MOST_UNIQUES {
             return Ok(None);
         }
-        let union = size_of_both(alloc, &self.members, &incoming.members)?;
+        let union = size_of_both(alloc, self.known.members(), incoming.known.members())?;
         if union <= MOST_UNIQUES {
             return Ok(None);
         }
@@ -309,6 +313,30 @@ fn observe(
         Some(subjects) => rows.set_row(alloc, author, number, subjects),
         None => Ok(()),
     }
+}
+
+// Whether the process is there, or is no member.
+fn has_member(who: &Unique, members: &Members, seen: &Uniques) -> bool
+    ensures { IsTrue result → seen.now ≡ (if is_member members.now who.now then with_one seen.now who.now else seen.now) }
+{
+    if seen.contains(who) {
+        return true;
+    }
+    members.get(who).is_none()
+}
+
+// Whether those are there that are members.
+fn has_members(others: &Uniques, members: &Members, seen: &Uniques) -> bool
+    ensures { IsTrue result → seen.now ≡ union seen.now (those others.now (is_member members.now)) }
+{
+    'others: for index in 0..others.len() {
+        if let Some(who) = others.at(index) {
+            if !has_member(who, members, seen) {
+                return false;
+            }
+        }
+    }
+    true
 }
 
 // Adds a process that is a member.

@@ -2,6 +2,7 @@
 #![tactic(auto)]
 
 mod gossip;
+mod known;
 mod laws;
 mod part;
 mod parts;

@@ -8,6 +8,7 @@ ghost use Rattle.ak_gossip.specs.Parts.{state_of_status, state_of, number_of, ro
 ghost use Rattle.ak_gossip.specs.PartsWalk.{standing_of, ascend_from, is_above, ascend_after, has_there, with_counts, with_known, with_standings, with_seen, with_process, with_indices, with_part_row, with_part_rows};
 
 use crate::gossip::{Gossip, MOST_UNIQUES};
+use crate::known::{Known, Tables};
 use crate::part::{Indices, Part, Parts};
 use ak_address::{Unique, Uniques};
 use ak_clock::{BOUND, Version};
@@ -21,7 +22,7 @@ impl Gossip {
         ensures parts { IfOk result (λ parts. parts ≡ parts_of self.now) }
         ensures valid { IfOk result (λ parts. AreParts parts) }
     {
-        let members = &self.members;
+        let members = self.known.members();
         let mut parts = Parts::empty(alloc);
         'indices: for index in 0..members.uniques() {
             if let Some((who, standing)) = members.pair(index) {
@@ -37,11 +38,11 @@ impl Gossip {
         ensures { IfOk result (λ part. part ≡ part_of self.now (who.now, standing)) }
     {
         let unique = who.copy(alloc)?;
-        let row = self.rows.row(who);
-        let subjects = subjects_of(alloc, row, &self.members)?;
+        let row = self.known.rows().row(who);
+        let subjects = subjects_of(alloc, row, self.known.members())?;
         Ok(Part {
             unique,
-            count: self.version.count(who),
+            count: self.known.version().count(who),
             state: state_of(standing),
             up_number: number_of(standing),
             seen: self.seen.contains(who),
@@ -60,12 +61,15 @@ impl Gossip {
         let members = members_of(alloc, parts)?;
         let rows = rows_of(alloc, parts)?;
         let seen = seen_of(alloc, parts)?;
-        Ok(Gossip {
-            version,
-            members,
-            rows,
-            seen,
-        })
+        let known = Known::of_tables(
+            alloc,
+            Tables {
+                version,
+                members,
+                rows,
+            },
+        )?;
+        Ok(Gossip { known, seen })
     }
 }
 

@@ -1,5 +1,6 @@
-use Rattle.std.proofs.Common.{sym, arith}
-use Rattle.ak_member.specs.Standing.{merged_standing}
+use Rattle.std.proofs.Common.{sym, ap, arith}
+use Rattle.std.specs.FinMap as map
+use Rattle.ak_member.specs.Standing.{Standings, merged_standing}
 use Rattle.ak_gossip.specs.Gossip.{GossipState}
 use Rattle.ak_gossip.proofs.InvariantLemmas.{few_as}
 use Rattle.ak_gossip.proofs.SeenLemmas.{few_of, len-merged_tables-most}
@@ -7,11 +8,27 @@ use Rattle.ak_gossip.proofs.gossip.Gossip.excess.Goals as goal
 
 pub returns-then-own-theirs-le-MOST_UNIQUES : goal.returns-then-own-theirs-le-MOST_UNIQUES
 returns-then-own-theirs-le-MOST_UNIQUES c =
-    let own : GossipState = record { version = c.self.inside.version; view = record { standings = c.self.inside.members; rows = c.self.inside.rows }; seen = c.self.inside.seen } in
-    let incoming : GossipState = record { version = c.incoming.inside.version; view = record { standings = c.incoming.inside.members; rows = c.incoming.inside.rows }; seen = c.incoming.inside.seen } in
+    let own : GossipState = record { version = c.self.inside.known.version; view = c.self.inside.known.view; seen = c.self.inside.seen } in
+    let incoming : GossipState = record { version = c.incoming.inside.known.version; view = c.incoming.inside.known.view; seen = c.incoming.inside.seen } in
     few_of _ (few_as c.args.self.now own c.args.incoming.now incoming (sym c.self.view_is) (sym c.incoming.view_is)
-    (omega (arith, c.uniques-own.ensures, c.uniques-theirs.ensures, c.if-own-theirs-le-MOST_UNIQUES.true, len-merged_tables-most merged_standing c.self.inside.members c.incoming.inside.members)))
+    (omega (
+      arith,
+      c.uniques-own.ensures,
+      c.uniques-theirs.ensures,
+      c.if-own-theirs-le-MOST_UNIQUES.true,
+      ap (λ (s : Standings). map.len s) c.members.ensures,
+      ap (λ (s : Standings). map.len s) c.members-2.ensures,
+      len-merged_tables-most merged_standing c.self.inside.known.view.standings c.incoming.inside.known.view.standings,
+    )))
 
 pub overflow_cast-result : goal.overflow_cast-result
 overflow_cast-result c =
-    omega (arith, c.in_ok-union.ensures, c.self.invariant.few, c.incoming.invariant.few, len-merged_tables-most merged_standing c.self.inside.members c.incoming.inside.members)
+    omega (
+      arith,
+      c.in_ok-union.ensures,
+      c.self.invariant.few,
+      c.incoming.invariant.few,
+      ap (λ (s : Standings). map.len s) c.members-3.ensures,
+      ap (λ (s : Standings). map.len s) c.members-4.ensures,
+      len-merged_tables-most merged_standing c.members-3.result.now c.members-4.result.now,
+    )
