@@ -7,9 +7,10 @@ use Rattle.ak_address.specs.Unique.{AddressModel, UniqueModel, IsAddress, IsUniq
 use Rattle.ak_address.specs.Uniques.{has, in_order}
 use Rattle.ak_address.proofs.ChangedLaws.{has-keys_of}
 use Rattle.ak_address.proofs.Elements.{contains_nothing, contains_either, contains_first, contains_rest, first_or_rest, in_map, index_of}
+use Rattle.ak_address.proofs.TableLaws.{get-empty}
 use Rattle.ak_address.proofs.UniquesLaws.{has_at}
 use Rattle.ak_detector.proofs.DetectorLaws.{ticked_same}
-use Rattle.ak_gossip.specs.Gossip.{GossipState, IsGossip, is_known}
+use Rattle.ak_gossip.specs.Gossip.{GossipState, IsGossip, is_known, nothing_known}
 use Rattle.ak_gossip.proofs.InvariantLemmas.{member_known}
 use Rattle.ak_member.specs.declared.effect.Effect.{Effect}
 use Rattle.ak_member.specs.declared.effect.Effect.TheVariants.{Observed}
@@ -264,3 +265,16 @@ sends_valid e n said names is node later gossip = by_runs n.runs refl
     by_runs : (b : Bool) → n.runs ≡ b → AreValid (step e n).1
     by_runs true runs = runs_valid runs
     by_runs false stopped = λ p there. absurd (contains_nothing p (subst (λ (b : Bool). Contains (sent (if b then running_step e (record n { steps = n.steps + 1 }) else nothing n).1) p) stopped there))
+
+-- ---- what a call makes of that
+pub names_of : (s : State) (g : GossipState) → g ≡ known s → IsSendable g → KnowsProcesses s
+names_of s g is sendable = (subst IsSendable is sendable).uniques
+
+pub step_sends : (e : NodeEvent) (n s : State) (actions : List Action) (g : GossipState) → IsSaid e → KnowsProcesses n → IsProcess n → IsNode n → s ≡ (step e n).0 → actions ≡ (step e n).1 → g ≡ known s → IsSendable g → AreValid actions
+step_sends e n s actions g said names is node state done same sendable =
+    let known_then : IsSendable (known (step e n).0) = subst IsSendable (same ∙ ap known state) sendable in
+    subst AreValid (sym done) (sends_valid e n said names is node known_then.uniques known_then.gossip)
+
+-- whoever knows nothing knows no process
+pub no_names : (s : State) → known s ≡ nothing_known → KnowsProcesses s
+no_names s is who there = absurd (true≢false (sym there ∙ ap (λ (g : GossipState). is_known g.view.standings who) is ∙ ap is_some (get-empty who)))

@@ -4,6 +4,8 @@ ghost use Rattle.ak_membership.specs.Membership as rules_of_membership;
 ghost use Rattle.ak_membership.specs.MembershipContracts.{IsWatching};
 ghost use Rattle.ak_membership.specs.Tick as rules_of_ticks;
 ghost use Rattle.ak_node.specs.Node as rules;
+ghost use Rattle.ak_address.specs.Unique.{IsAddress, IsUnique};
+ghost use Rattle.ak_node.specs.Sends.{AreValid, IsProcess, IsSaid};
 ghost use Rattle.ak_node.specs.NodeContracts.{Does, IsSameProcess, IsLeftOver, IsSilent, ServesWhileItRuns};
 
 use ak_address::{Address, Unique};
@@ -11,7 +13,7 @@ use ak_gossip::Gossip;
 use ak_membership::{Change, Closing, MemberFault, Membership, Reply};
 use ak_schedule::Settings;
 use ak_settled::Settled;
-use ak_wire::{Action, Actions, Envelope, Message};
+use ak_wire::{Action, Actions, Envelope, Message, sendable};
 use std::alloc::{AllocError, Global};
 use std::marker::Model;
 
@@ -123,6 +125,15 @@ impl Cover {
 }
 
 impl State {
+    fn process(&self)
+        ensures { IsProcess self.now }
+    {
+        process(self.me());
+        if let Some(target) = self.membership.target() {
+            address(target);
+        }
+    }
+
     fn me(&self) -> &Unique
         ensures { result.now ≡ rules.me_of self.now }
     {
@@ -543,6 +554,29 @@ fn is_dead(me: &Unique, event: &NodeEvent) -> bool
     }
 }
 
+// Each tells a proof what is true of every value of a type. They do nothing.
+fn process(who: &Unique)
+    ensures { IsUnique who.now }
+{
+    let _uid = who.uid;
+}
+
+fn address(place: &Address)
+    ensures { IsAddress place.now }
+{
+    let _port = place.port;
+}
+
+fn said(event: &NodeEvent)
+    ensures { IsSaid event.now }
+{
+    match event {
+        NodeEvent::Join(target) => address(target),
+        NodeEvent::Packet(envelope) => process(&envelope.from),
+        _ => {}
+    }
+}
+
 /// A node. Once out of memory it is spent: it is the same process with the same settings and knows nothing, and each later
 /// step answers that it is out of memory. It had no more ticks than steps: an invariant of the type.
 #[derive(Drop)]
@@ -553,6 +587,7 @@ pub struct Node {
 
 impl Model for Node {
     ghost use Rattle.ak_node.specs.NodeContracts.{NodeModel, IsNode, HasForgotten};
+    ghost use Rattle.ak_node.specs.Sends.{KnowsProcesses};
     ghost use Rattle.std.specs.Coded.{codes};
     ghost use Rattle.ak_membership.specs.contracts.membership.Membership as membership;
 
@@ -562,7 +597,7 @@ impl Model for Node {
 
     ghost view = { λ n. record { state = n.state; spent = n.spent } };
 
-    ghost invariant = { λ n. IsNode n.state × HasForgotten n.spent n.state };
+    ghost invariant = { λ n. IsNode n.state × HasForgotten n.spent n.state × KnowsProcesses n.state };
 }
 
 impl Node {
@@ -582,12 +617,14 @@ impl Node {
         })
     }
 
-    /// Gives the node one event, and answers its actions; a node that has stopped answers none, and knows what it knew. While
+    /// Gives the node one event, and answers its actions; a node that has stopped answers none, and knows what it knew. Each
+    /// packet that it sends is valid: it has a spelling as bytes, whatever came before. While
     /// it runs and knows anybody, it is a member of its own view, and not Down. Once out of memory the node is spent: it still
     /// shows its process and its settings, and has forgotten what it knew.
     pub fn step(&mut self, alloc: Global, event: NodeEvent) -> Result<Actions, AllocError>
         requires { self.old.state.steps < 2 ^ 62 }
         ensures ok { IfOk result (λ actions. Does (rules.step event self.old.state) self.new.state actions) }
+        ensures valid { IfOk result (λ actions. AreValid actions) }
         ensures silent { IfOk result (λ actions. IsSilent self.old.state self.new.state actions) }
         ensures serves { OnOk result (ServesWhileItRuns self.new.state) }
         ensures alive { OnOk result (self.old.spent ≡ false) × OnOk result (self.new.spent ≡ false) }
@@ -596,9 +633,12 @@ impl Node {
         if self.spent {
             return Err(AllocError);
         }
+        said(&event);
+        self.state.process();
         match self.state.step(alloc, event) {
             Ok(actions) => {
                 self.state.membership.invariant();
+                sendable(self.state.membership.gossip());
                 Ok(actions)
             }
             Err(error) => {

@@ -87,8 +87,5 @@ unfolding gossip_at made_at
 gossip_read bytes rest ps g are read back =
     ap (made_at gossip_from) read ∙ ap (λ (h : GossipState). done (h, rest)) (sym (back (gossip_from ps) (made_is_gossip ps are) (parts_back ps are)))
 
-pub sendable_when : (g : GossipState) (members : Standings) (b : Bool) → IsGossip g → members ≡ g.view.standings → (IsTrue b ↔ AllUnique (table.entries members)) → IsTrue b ↔ IsSendable g
-sendable_when g members b is same when = (
-  λ h. record { gossip = is; uniques = pairs_known g (subst (λ (s : Standings). AllUnique (table.entries s)) same (when.0 h)) },
-  λ sendable. when.1 (subst (λ (s : Standings). AllUnique (table.entries s)) (sym same) (known_pairs g sendable.uniques)),
-)
+pub sendable_when : (g : GossipState) (members : Standings) → IsGossip g → members ≡ g.view.standings → AllUnique (table.entries members) → IsSendable g
+sendable_when g members is same all = record { gossip = is; uniques = pairs_known g (subst (λ (s : Standings). AllUnique (table.entries s)) same all) }

@@ -109,21 +109,33 @@ fn is_body(message: &Message) -> bool
 fn is_sendable(gossip: &Gossip) -> bool
     ensures { IsTrue result ↔ IsSendable gossip.now }
 {
-    gossip.invariant();
-    are_processes(gossip.members())
+    sendable(gossip);
+    true
 }
 
-fn are_processes(members: &Members) -> bool
-    ensures { IsTrue result ↔ ((i : ℕ) (pair : Process) → slice_get (map.entries members.now) i ≡ Some pair → IsUnique pair.0) }
+/// Tells a proof that each process of a gossip is in its ranges, as every process is, so that the gossip can be spelled. It
+/// looks at each of them, and takes no memory.
+pub fn sendable(gossip: &Gossip)
+    ensures { IsSendable gossip.now }
+{
+    gossip.invariant();
+    processes(gossip.members());
+}
+
+fn processes(members: &Members)
+    ensures { (i : ℕ) (pair : Process) → slice_get (map.entries members.now) i ≡ Some pair → IsUnique pair.0 }
 {
     'members: for index in 0..members.uniques() {
         if let Some((who, _standing)) = members.pair(index) {
-            if !is_process(who) {
-                return false;
-            }
+            process(who);
         }
     }
-    true
+}
+
+fn process(who: &Unique)
+    ensures { IsUnique who.now }
+{
+    let _uid = who.uid;
 }
 
 fn is_granted(ballot: &Ballot, version: &Version, reports: &Reports) -> bool

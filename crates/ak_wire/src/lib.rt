@@ -16,7 +16,7 @@ mod writing;
 
 pub use action::{Action, Actions};
 pub use ak_field::{WireFault, check_header};
-pub use checking::valid;
+pub use checking::{sendable, valid};
 pub use envelope::{Envelope, Message};
 pub use laws::{
     bytes_are_a_datagram_or_at_fault, datagrams_are_their_spellings, no_datagram_begins_another,

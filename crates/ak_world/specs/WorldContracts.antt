@@ -1,5 +1,5 @@
 -- Words of the contracts of a world's calls.
-use Rattle.std.specs.Prelude.{◌≡◌, ℕ, ◌+◌, ◌^◌, ◌<◌, ◌≤◌, Bool, true, false, List, [], ◌∷◌, ◌++◌, map, length, slice_get, Some, Result, Ok, Err}
+use Rattle.std.specs.Prelude.{◌≡◌, ℕ, ◌+◌, ◌^◌, ◌<◌, ◌≤◌, Bool, true, false, List, [], ◌∷◌, ◌++◌, map, length, slice_get, Option, None, Some, Result, Ok, Err, ⊤}
 use Rattle.ak_address.specs.Unique.{UniqueModel}
 use Rattle.ak_schedule.specs.Settings.{SettingsModel}
 use Rattle.ak_schedule.specs.declared.event.Event.{Event}
@@ -15,6 +15,8 @@ use Rattle.ak_node.specs.NodeContracts.{NodeModel}
 use Rattle.ak_world.specs.World.{WorldState, Done, node_of, gives, acts, happens, run}
 use Rattle.ak_world.specs.Margin.{IsMargin}
 use Rattle.ak_wire.specs.Wire.{sent}
+use Rattle.ak_wire.specs.declared.envelope.Envelope.{Envelope}
+use Rattle.ak_wire.specs.Datagram.{Spells}
 
 -- a world with its settings and the events that it accepted, in their order; a spent one has run out of memory
 pub record WorldModel : Type 0 where
@@ -102,3 +104,9 @@ Applies event old (Err refused.TheVariants.NoMemory) new = Spends event old new
 pub record IsWorld (settings : SettingsModel) (w : WorldState) (events : List Event) (margin : Margin) (spent : Bool) : Type 0 where
   pub is_run : spent ≡ false → w ≡ run settings events
   pub is_margin : IsMargin settings events margin
+
+-- A packet is kept as bytes: they are there exactly where the packet is, and spell it.
+abbrev pub AreSpelled : Option Envelope → Option (List ℕ) → Type 0
+AreSpelled None None = ⊤
+AreSpelled (Some e) (Some bytes) = Spells bytes e
+AreSpelled packet bytes = ⊥

@@ -18,7 +18,8 @@ ghost use Rattle.ak_node.specs.declared.node.State.{State};
 ghost use Rattle.ak_world.specs.InRun.{WasStarted, HasStopped, AllServe, RunAlone, IsConfirmed, IsNamedIn, IsSettled, HasNoted};
 ghost use Rattle.ak_world.specs.SettledLine.{WasSettled, IsOverHalf, AreInLine};
 ghost use Rattle.ak_schedule.specs.Settings.{settling_size};
-ghost use Rattle.ak_world.specs.WorldContracts.{Applies, Scenes, IsReady, Acts, states, state_of};
+ghost use Rattle.ak_node.specs.Sends.{AreValid};
+ghost use Rattle.ak_world.specs.WorldContracts.{AreSpelled, Applies, Scenes, IsReady, Acts, states, state_of};
 ghost use Rattle.ak_node.specs.NodeContracts.{NodeModel};
 
 use crate::margin::Margin;
@@ -26,7 +27,7 @@ use ak_address::{Address, Unique};
 use ak_history::History;
 use ak_node::{Node, NodeEvent, is_for};
 use ak_schedule::{Event, Settings};
-use ak_wire::{Action, Actions, Envelope};
+use ak_wire::{Action, Actions, Envelope, Packet};
 use std::alloc::{AllocError, AllocFailed, Global};
 use std::marker::Model;
 
@@ -84,7 +85,7 @@ const MOST_PACKETS: usize = 200_000;
 pub(crate) struct Scene {
     settings: Settings,
     nodes: Vec<Node>,
-    packets: Vec<Envelope>,
+    packets: Vec<Packet>,
     history: History,
     founded: bool,
 }
@@ -279,21 +280,21 @@ impl Scene {
         ensures scenes { Scenes (state_of self.old) (rules.happens self.old.settings (Event.Deliver number) (state_of self.old)) result (state_of self.new) }
     {
         let is_full = self.is_full();
-        let Some(envelope) = packet_at(&self.packets, number) else {
+        let Some(packet) = packet_at(&self.packets, number) else {
             let sent = self.packets.len() as u64;
             return Err(Refused::Invalid(Reason::NoPacket { sent }));
         };
         if is_full {
             return Err(Refused::Invalid(Reason::TooManyPackets));
         }
-        let Some(index) = receiver_of(&self.nodes, envelope) else {
+        let envelope = packet.envelope(alloc)?;
+        let Some(index) = receiver_of(&self.nodes, &envelope) else {
             return Ok(Step {
                 node: None,
                 first_packet: self.next_packet(),
                 actions: Actions::empty(alloc),
             });
         };
-        let envelope = envelope.copy(alloc)?;
         self.give(alloc, index, NodeEvent::Packet(envelope))
     }
 
@@ -407,7 +408,7 @@ impl Scene {
 }
 
 // The packet of a number from 1 on.
-fn packet_at(packets: &[Envelope], number: u64) -> Option<&Envelope>
+fn packet_at(packets: &[Packet], number: u64) -> Option<&Packet>
     ensures { option_copied result ≡ rules.numbered packets.now number }
 {
     if number == 0 {
@@ -425,18 +426,19 @@ fn number_of(index: usize) -> Option<u32>
     u32::try_from(index).ok()
 }
 
-// What the actions send is kept, each packet once.
+// What the actions send is kept, each packet once, as bytes.
 fn keep_packets(
     alloc: Global,
     actions: &[Action],
-    packets: &mut Vec<Envelope>,
+    packets: &mut Vec<Packet>,
 ) -> Result<(), AllocError>
+    requires { AreValid actions.now }
     ensures kept { OnOk result (packets.new.items ≡ packets.old.items ++ sent actions.now) }
     ensures numbered { OnOk result (length packets.new.items < 2 ^ 63) }
 {
     'actions: for action in actions {
         if let Action::Send(envelope) = action {
-            packets.push(envelope.copy(alloc)?)?;
+            packets.push(Packet::of(alloc, envelope)?)?;
         }
     }
     Ok(())
@@ -643,10 +645,23 @@ impl World {
         self.scene.packets.len() as u64
     }
 
-    /// The packet of a number from 1 on, and None where none has it.
-    pub fn packet(&self, number: u64) -> Option<&Envelope>
-        ensures { option_copied result ≡ rules.packet_at self.now.state number }
+    /// The bytes of the packet of a number from 1 on, which spell its envelope, and None exactly where no packet has it.
+    pub fn packet(&self, number: u64) -> Option<&[u8]>
+        ensures { AreSpelled (rules.packet_at self.now.state number) (option_copied result) }
     {
-        packet_at(&self.scene.packets, number)
+        match packet_at(&self.scene.packets, number) {
+            Some(packet) => Some(packet.bytes()),
+            None => None,
+        }
+    }
+
+    /// The envelope of the packet of a number from 1 on, and None exactly where no packet has it. Only memory can fail.
+    pub fn envelope(&self, alloc: Global, number: u64) -> Result<Option<Envelope>, AllocError>
+        ensures { IfOk result (λ envelope. envelope ≡ rules.packet_at self.now.state number) }
+    {
+        match packet_at(&self.scene.packets, number) {
+            Some(packet) => Ok(Some(packet.envelope(alloc)?)),
+            None => Ok(None),
+        }
     }
 }

@@ -1,5 +1,5 @@
-use Rattle.ak_wire.proofs.GossipFields.{sendable_when}
+use Rattle.std.proofs.Common.{refl}
 use Rattle.ak_wire.proofs.checking.is_sendable.Goals as goal
 
 pub returns : goal.returns
-returns c = sendable_when c.args.gossip.now c.members.result.now c.are_processes.result c.invariant.ensures c.members.ensures c.are_processes.ensures
+returns c = (λ _. c.sendable.ensures, λ _. refl)
