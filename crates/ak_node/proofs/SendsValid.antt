@@ -276,5 +276,5 @@ step_sends e n s actions g said names is node state done same sendable =
     subst AreValid (sym done) (sends_valid e n said names is node known_then.uniques known_then.gossip)
 
 -- whoever knows nothing knows no process
-pub no_names : (s : State) → known s ≡ nothing_known → KnowsProcesses s
-no_names s is who there = absurd (true≢false (sym there ∙ ap (λ (g : GossipState). is_known g.view.standings who) is ∙ ap is_some (get-empty who)))
+pub no_names : (g : GossipState) → g ≡ nothing_known → (who : UniqueModel) → IsTrue (is_known g.view.standings who) → IsUnique who
+no_names g is who there = absurd (true≢false (sym there ∙ ap (λ (h : GossipState). is_known h.view.standings who) is ∙ ap is_some (get-empty who)))

@@ -22,7 +22,7 @@ invariant_of-self-in-Err c =
 
 pub returns-in-Ok-clause-valid : goal.returns-in-Ok-clause-valid
 returns-in-Ok-clause-valid c =
-    step_sends c.args.event c.self.inside.state c.step.new.self c.in-Ok.actions c.gossip.result.now c.said.ensures c.self.invariant.1.1 c.process.ensures c.self.invariant.0
+    step_sends c.args.event c.self.inside.state c.step.new.self c.in-Ok.actions c.gossip.result.now c.said.ensures c.self.invariant.2 c.process.ensures c.self.invariant.0
     c.in-Ok.ensures.does.state_after c.in-Ok.ensures.does.actions_done c.gossip.ensures c.sendable.ensures
 
 pub returns-in-Ok-clause-serves : goal.returns-in-Ok-clause-serves
