@@ -1,3 +1,5 @@
+ghost use Rattle.std.specs.Prelude.{◌<◌, OnOk};
+
 use crate::node::{Node, NodeEvent};
 use ak_address::{Address, Text, Unique, parse_unique};
 use ak_gossip::{Gossip, Indices, Part, Parts, parts_valid};
@@ -96,19 +98,32 @@ fn start(alloc: Global, letter: u8) -> Result<Node, Fail> {
     Ok(Node::start(alloc, process(alloc, letter)?, &settings(alloc)?)?)
 }
 
-// What the node does at an event.
-fn step(alloc: Global, node: &mut Node, event: NodeEvent) -> Result<Actions, Fail> {
+// A test makes few steps.
+fn few_steps(node: &Node) -> Result<(), Fail>
+    ensures { OnOk result (node.now.state.steps < 1000) }
+{
     if node.steps() >= 1000 {
         return Err("too many steps")?;
     }
+    Ok(())
+}
+
+// What the node does at an event.
+fn step(alloc: Global, node: &mut Node, event: NodeEvent) -> Result<Actions, Fail> {
+    few_steps(node)?;
     Ok(node.step(alloc, event)?)
 }
 
-// A message of the process of this letter, for the node.
-fn envelope(alloc: Global, node: &Node, from: u8, message: Message) -> Result<Envelope, Fail> {
+// The process of this letter, which sends, and the address of the node, which receives.
+fn ways(alloc: Global, node: &Node, from: u8) -> Result<(Unique, Address), Fail> {
     let from = process(alloc, from)?;
     let to = node.me().address.copy(alloc)?;
-    Ok(Envelope {
+    Ok((from, to))
+}
+
+// The event that a message comes.
+fn packet(from: Unique, to: Address, message: Message) -> NodeEvent {
+    NodeEvent::Packet(Envelope {
         from,
         to,
         uid: 0,
@@ -118,8 +133,8 @@ fn envelope(alloc: Global, node: &Node, from: u8, message: Message) -> Result<En
 
 // What the node does where the message of the process of this letter reaches it.
 fn given(alloc: Global, node: &mut Node, from: u8, message: Message) -> Result<Actions, Fail> {
-    let envelope = envelope(alloc, node, from, message)?;
-    step(alloc, node, NodeEvent::Packet(envelope))
+    let (from, to) = ways(alloc, node, from)?;
+    step(alloc, node, packet(from, to, message))
 }
 
 // What it does where the process of this letter asks to join.
