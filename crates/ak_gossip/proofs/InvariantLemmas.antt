@@ -22,8 +22,7 @@ use Rattle.ak_member.specs.declared.status.Status.TheVariants.{Joining, Up, Leav
 use Rattle.ak_member.specs.Standing.{Standings, rank, greater_status, older_number, merged_standing, merged_standings, known, member_of, is_member}
 use Rattle.ak_member.specs.View.{Row, RowTable, later_row, merged_rows, after_effect, after_effects, after_observed, observed}
 use Rattle.ak_member.proofs.StandingLaws.{rank-greater_status}
-use Rattle.ak_gossip.specs.Known.{KnownState}
-use Rattle.ak_gossip.specs.Gossip.{GossipState, most_uniques, is_known, IsNumber, IsStanding, IsRow, IsGossip, nothing_known, updated, MayUpdate, same, both}
+use Rattle.ak_gossip.specs.Gossip.{GossipState, most_uniques, is_known, IsNumber, IsStanding, IsRow, IsGossip, nothing_known, updated, MayUpdate, seen_by, same, both}
 
 -- ---- standings
 -- the number of a member by the rank of its status
@@ -165,13 +164,6 @@ pub parts_kept : (v w : Counts) (s t : Standings) (r q : RowTable) (seen others 
 parts_kept v w s t r q seen others a b c d h =
     subst IsGossip (λ i. record { version = sym a i; view = record { standings = sym b i; rows = sym c i }; seen = sym d i }) h
 
--- the same, where what is known is one value
-pub known_kept : (known other : KnownState) (seen others : UniqueSet) → known ≡ other → seen ≡ others
-    → IsGossip (record { version = other.version; view = other.view; seen = others })
-    → IsGossip (record { version = known.version; view = known.view; seen = seen })
-known_kept known other seen others a b h =
-    subst IsGossip (λ i. record { version = (sym a i).version; view = (sym a i).view; seen = sym b i }) h
-
 -- ---- nothing known
 none_there : {X : Type 0} (x : X) → None ≡ Some x → ⊥
 none_there x is = true≢false (sym (ap is_some is))
@@ -223,6 +215,13 @@ noted_kept me g p = by_member (is_member g.view.standings me) refl
     by_member true is = seen_kept g (with_one g.seen me) p (with_me me g p is)
     by_member false is = p
 
+pub seen_by_kept : (me : UniqueModel) (g : GossipState) → IsGossip g → IsGossip (seen_by me g)
+seen_by_kept me g p = by_member (is_member g.view.standings me) (noted_kept me g p)
+  where
+    by_member : (b : Bool) → IsGossip (record g { seen = if b then with_one g.seen me else g.seen }) → IsGossip (if b then record g { seen = with_one g.seen me } else g)
+    by_member true h = h
+    by_member false h = h
+
 pub same_kept : (own incoming : GossipState) → IsGossip own → IsGossip (same own incoming)
 same_kept own incoming p = seen_kept own (union own.seen others) p (λ who h. elim (or_case (has own.seen who) (has others who) (sym (has-union own.seen others who) ∙ h)) [
   | inl here ↦ p.seen who here
@@ -273,14 +272,6 @@ pub merged_parts_kept : (me : UniqueModel) (own incoming : GossipState) → IsGo
     → IsGossip (record { version = v; view = record { standings = s; rows = r }; seen = seen })
 merged_parts_kept me own incoming p q few v s r seen none a b c e d =
     parts_kept v _ s _ r _ seen _ a b c (d ∙ (λ i. if is_member (b i) me then with_one (e i) me else (e i))) (noted_kept me (both own incoming) (both_kept own incoming p q few))
-
--- what takes the place of a gossip, where a node is among those that have seen it
-pub accepted_kept : (me : UniqueModel) (g : GossipState) → IsGossip g
-    → (known : KnownState) (s : Standings) (seen before : UniqueSet) → known ≡ record { version = g.version; view = g.view } → s ≡ g.view.standings → before ≡ g.seen
-    → seen ≡ (if is_member s me then with_one before me else before)
-    → IsGossip (record { version = known.version; view = known.view; seen = seen })
-accepted_kept me g p known s seen before a b c d =
-    known_kept known _ seen _ a (d ∙ (λ i. if is_member (b i) me then with_one (c i) me else (c i))) (noted_kept me g p)
 
 -- ---- an entry
 pub updated_kept : (author : UniqueModel) (effects : List Effect) (g : GossipState) → IsGossip g → MayUpdate author effects g → IsGossip (updated author effects g)

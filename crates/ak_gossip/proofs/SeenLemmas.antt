@@ -13,9 +13,9 @@ use Rattle.ak_address.specs.Table.{with_pairs, merged_tables}
 use Rattle.ak_address.proofs.OrderLemmas.{unique_total}
 use Rattle.ak_address.proofs.TableLaws.{key_itself, same_key}
 use Rattle.ak_address.proofs.UniquesLaws.{has-with_one, has-those, has-union, same_uniques, with_present, has_at, index_of_has}
-use Rattle.ak_member.specs.Standing.{is_member}
+use Rattle.ak_member.specs.Standing.{Standings, is_member}
 use Rattle.ak_gossip.specs.GossipContracts.{excess_of}
-use Rattle.ak_gossip.specs.Gossip.{GossipState, most_uniques, seen_by, same}
+use Rattle.ak_gossip.specs.Gossip.{GossipState, most_uniques, seen_by}
 
 -- whether a process is among these
 abbrev pub is_among : UniqueModel → List UniqueModel → Bool
@@ -160,20 +160,18 @@ pub few_of : (n : ℕ) → n ≤ most_uniques → None ≡ excess_of n
 few_of n few = sym (ap (λ b. if b then Some n else None) (le-ltb _ _ few))
 
 -- ---- nobody is added
--- who is there already, or is no member, is not added
+-- who is there already is not added
 pub there_already : (s : UniqueSet) (k : UniqueModel) (member : Bool) → has s k ≡ true → s ≡ (if member then with_one s k else s)
 there_already s k true there = with_present s k there
 there_already s k false there = refl
 
-pub no_member : (s : UniqueSet) (k : UniqueModel) (member : Bool) → member ≡ false → s ≡ (if member then with_one s k else s)
-no_member s k true none = absurd (true≢false none)
-no_member s k false none = refl
+seen_by_case : (me : UniqueModel) (g : GossipState) (member : Bool) → record g { seen = if member then with_one g.seen me else g.seen } ≡ (if member then record g { seen = with_one g.seen me } else g)
+seen_by_case me g true = refl
+seen_by_case me g false = refl
 
-noted_already : (me : UniqueModel) (own : GossipState) (seen : UniqueSet) (member : Bool) → own.seen ≡ seen → own.seen ≡ (if member then with_one own.seen me else own.seen)
-    → own ≡ (if member then record own { seen = with_one seen me } else record own { seen = seen })
-noted_already me own seen true same noted = λ i. record own { seen = (noted ∙ ap (λ s. with_one s me) same) i }
-noted_already me own seen false same noted = λ i. record own { seen = same i }
-
-pub seen_already : (me : UniqueModel) (own incoming : GossipState) → own.seen ≡ union own.seen (those incoming.seen (is_member own.view.standings))
-    → own.seen ≡ (if is_member own.view.standings me then with_one own.seen me else own.seen) → own ≡ seen_by me (same own incoming)
-seen_already me own incoming all noted = noted_already me own (union own.seen (those incoming.seen (is_member own.view.standings))) (is_member own.view.standings me) all noted
+-- what a node has seen, by those that have seen it then
+pub seen_by_as : (me : UniqueModel) (g : GossipState) (s : Standings) (seen before : UniqueSet) → s ≡ g.view.standings → before ≡ g.seen → seen ≡ (if is_member s me then with_one before me else before)
+    → record g { seen = seen } ≡ seen_by me g
+seen_by_as me g s seen before a b is =
+    ap (λ (them : UniqueSet). record g { seen = them }) (is ∙ (λ i. if is_member (a i) me then with_one (b i) me else (b i)))
+    ∙ seen_by_case me g (is_member g.view.standings me)

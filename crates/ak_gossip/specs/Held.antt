@@ -1,14 +1,15 @@
--- What is known, wherever its tables stand.
-use Rattle.ak_gossip.specs.Known.{KnownState}
+-- What is known, wherever it stands.
+use Rattle.ak_address.specs.Uniques.{UniqueSet}
+use Rattle.ak_gossip.specs.Gossip.{GossipState}
 use Rattle.ak_gossip.specs.declared.known.Tables.{Tables}
 use Rattle.ak_gossip.specs.declared.known.Held.{Held}
 use Rattle.ak_gossip.specs.declared.known.Held.TheVariants.{Own, Shared}
 
--- the tables: those of one owner, or those that several owners share
-abbrev pub tables_of : Held → Tables
-tables_of (Own tables) = tables
-tables_of (Shared tables) = tables.value
+-- what the tables say, seen by these
+abbrev pub said_by : Tables → UniqueSet → GossipState
+said_by tables seen = record { version = tables.version; view = record { standings = tables.members; rows = tables.rows }; seen = seen }
 
--- what the tables say
-abbrev pub said_by : Tables → KnownState
-said_by tables = record { version = tables.version; view = record { standings = tables.members; rows = tables.rows } }
+-- of one owner, or of several that share it
+abbrev pub held_state : Held → GossipState
+held_state (Own tables seen) = said_by tables seen
+held_state (Shared tables seen) = said_by tables.value seen.value

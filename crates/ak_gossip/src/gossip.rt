@@ -47,7 +47,6 @@ pub enum GossipFault {
 #[derive(Drop)]
 pub struct Gossip {
     pub(crate) known: Known,
-    pub(crate) seen: Uniques,
 }
 
 impl Model for Gossip {
@@ -57,9 +56,9 @@ impl Model for Gossip {
 
     ghost coded = { coded_gossip };
 
-    ghost view = { λ g. record { version = g.known.version; view = g.known.view; seen = g.seen } };
+    ghost view = { λ g. g.known };
 
-    ghost invariant = { λ g. IsGossip (record { version = g.known.version; view = g.known.view; seen = g.seen }) };
+    ghost invariant = { λ g. IsGossip g.known };
 }
 
 impl Gossip {
@@ -69,7 +68,6 @@ impl Gossip {
     {
         Gossip {
             known: Known::nothing(alloc),
-            seen: Uniques::empty(alloc),
         }
     }
 
@@ -98,7 +96,7 @@ impl Gossip {
     pub fn seen(&self) -> &Uniques
         ensures { result.now ≡ self.now.seen }
     {
-        &self.seen
+        self.known.seen()
     }
 
     /// How many processes are in it, members and tombstones together, at most 128. Takes no memory.
@@ -113,16 +111,15 @@ impl Gossip {
     pub fn invariant(&self)
         ensures { IsGossip self.now }
     {
-        let _seen = &self.seen;
+        let _known = &self.known;
     }
 
-    /// An equal gossip. The two share what is known, and only those that have seen it are copied. Only memory can fail.
+    /// An equal gossip, which shares all with this one. Only memory can fail.
     pub fn copy(&self, alloc: Global) -> Result<Gossip, AllocError>
         ensures { IfOk result (λ copy. copy ≡ self.now) }
     {
         let known = self.known.copy(alloc)?;
-        let seen = self.seen.copy(alloc)?;
-        Ok(Gossip { known, seen })
+        Ok(Gossip { known })
     }
 
     /// The author makes an entry with these effects and answers its number; only the author has seen what is known then
@@ -146,18 +143,13 @@ impl Gossip {
         let number = version.bump(alloc, author)?;
         let mut rows = self.known.rows().copy(alloc)?;
         observe(alloc, author, number, effects, &mut rows)?;
-        let known = Known::of_tables(
-            alloc,
-            Tables {
-                version,
-                members,
-                rows,
-            },
-        )?;
-        *self = Gossip {
-            known,
-            seen: only_author,
+        let tables = Tables {
+            version,
+            members,
+            rows,
         };
+        let known = Known::of_tables(alloc, tables, only_author)?;
+        *self = Gossip { known };
         Ok(number)
     }
 
@@ -203,10 +195,12 @@ impl Gossip {
         if self.is_seen(me, incoming) {
             return Ok(Received::Same);
         }
-        let mut seen = self.seen.copy(alloc)?;
-        add_members(alloc, &incoming.seen, self.known.members(), &mut seen)?;
-        add_member(alloc, me, self.known.members(), &mut seen)?;
-        self.seen = seen;
+        let members = self.known.members();
+        let mut seen = self.known.seen().copy(alloc)?;
+        add_members(alloc, incoming.known.seen(), members, &mut seen)?;
+        add_member(alloc, me, members, &mut seen)?;
+        let known = self.known.with_seen(alloc, seen)?;
+        *self = Gossip { known };
         Ok(Received::Same)
     }
 
@@ -216,7 +210,8 @@ impl Gossip {
         ensures { IsTrue result → self.now ≡ seen_by me.now (same self.now incoming.now) }
     {
         let members = self.known.members();
-        has_members(&incoming.seen, members, &self.seen) && has_member(me, members, &self.seen)
+        let seen = self.known.seen();
+        has_members(incoming.known.seen(), members, seen) && has_member(me, members, seen)
     }
 
     // What came replaces what was known.
@@ -230,10 +225,8 @@ impl Gossip {
         ensures answer { IfOk result (λ r. r ≡ Received.Newer) }
         ensures err { OnErr result (self.new ≡ self.old) }
     {
-        let known = incoming.known.copy(alloc)?;
-        let mut seen = incoming.seen.copy(alloc)?;
-        add_member(alloc, me, incoming.known.members(), &mut seen)?;
-        *self = Gossip { known, seen };
+        let known = noted(alloc, me, &incoming.known)?;
+        *self = Gossip { known };
         Ok(Received::Newer)
     }
 
@@ -257,15 +250,13 @@ impl Gossip {
         rows.merge(alloc, incoming.known.rows())?;
         let mut seen = Uniques::empty(alloc);
         add_member(alloc, me, &members, &mut seen)?;
-        let known = Known::of_tables(
-            alloc,
-            Tables {
-                version,
-                members,
-                rows,
-            },
-        )?;
-        *self = Gossip { known, seen };
+        let tables = Tables {
+            version,
+            members,
+            rows,
+        };
+        let known = Known::of_tables(alloc, tables, seen)?;
+        *self = Gossip { known };
         Ok(Received::Merged)
     }
 
@@ -313,6 +304,19 @@ fn observe(
         Some(subjects) => rows.set_row(alloc, author, number, subjects),
         None => Ok(()),
     }
+}
+
+// What is known, and seen by the node where it is a member of that.
+fn noted(alloc: Global, me: &Unique, known: &Known) -> Result<Known, AllocError>
+    ensures { IfOk result (λ noted. noted ≡ seen_by me.now known.now) }
+{
+    if has_member(me, known.members(), known.seen()) {
+        let same = known.copy(alloc)?;
+        return Ok(same);
+    }
+    let mut seen = known.seen().copy(alloc)?;
+    add_member(alloc, me, known.members(), &mut seen)?;
+    known.with_seen(alloc, seen)
 }
 
 // Whether the process is there, or is no member.

@@ -1,9 +1,8 @@
 ghost use Rattle.std.specs.Prelude.{◌≡◌, IfOk};
-ghost use Rattle.std.specs.FinMap as map;
-ghost use Rattle.ak_member.specs.View.{empty_view};
-ghost use Rattle.ak_gossip.specs.Known.{KnownState};
-ghost use Rattle.ak_gossip.specs.Held.{tables_of, said_by};
+ghost use Rattle.ak_gossip.specs.Gossip.{nothing_known};
+ghost use Rattle.ak_gossip.specs.Held.{said_by, held_state};
 
+use ak_address::Uniques;
 use ak_clock::Version;
 use ak_member::Members;
 use ak_reach::Rows;
@@ -20,68 +19,98 @@ pub(crate) struct Tables {
     pub(crate) rows: Rows,
 }
 
-// The tables of a gossip that knows nothing stand in the value itself, since it takes no memory; all others are shared.
+// The tables and those that have seen what they say. Of a gossip that knows nothing they stand in the value itself, since
+// it takes no memory; of all others they are shared.
 #[derive(Drop)]
 enum Held {
-    Own(Tables),
-    Shared(Rc<Tables>),
+    Own(Tables, Uniques),
+    Shared(Rc<Tables>, Rc<Uniques>),
 }
 
-/// What a gossip knows beside who has seen it. Its tables never change: a copy shares them, and an entry or a merge makes
-/// new ones (this project's choice).
+/// What a gossip knows, and who has seen it. What is kept never changes: a copy shares it, an entry or a merge makes new
+/// tables, and where only more members have seen it the tables stay (this project's choice).
 pub(crate) struct Known {
     held: Held,
 }
 
 impl Model for Known {
-    ghost use Rattle.ak_gossip.specs.Known.{KnownState, coded_known};
+    ghost use Rattle.ak_gossip.specs.Gossip.{GossipState, coded_gossip};
 
-    ghost Value = { KnownState };
+    ghost Value = { GossipState };
 
-    ghost coded = { coded_known };
+    ghost coded = { coded_gossip };
 
-    ghost use Rattle.ak_gossip.specs.Held.{tables_of, said_by};
+    ghost use Rattle.ak_gossip.specs.Held.{held_state};
 
-    ghost view = { λ k. said_by (tables_of k.held) };
+    ghost view = { λ k. held_state k.held };
 }
 
 impl Known {
     /// Nothing is known. Takes no memory.
     pub(crate) fn nothing(alloc: Global) -> Known
-        ensures { result ≡ record { version = map.empty; view = empty_view } }
+        ensures { result ≡ nothing_known }
     {
         let tables = no_tables(alloc);
+        let seen = Uniques::empty(alloc);
         Known {
-            held: Held::Own(tables),
+            held: Held::Own(tables, seen),
         }
     }
 
-    /// What these tables say, from now on shared. Only memory can fail.
-    pub(crate) fn of_tables(alloc: Global, tables: Tables) -> Result<Known, AllocError>
-        ensures { IfOk result (λ known. known ≡ said_by tables) }
+    /// What these tables say, seen by these. Only memory can fail.
+    pub(crate) fn of_tables(
+        alloc: Global,
+        tables: Tables,
+        seen: Uniques,
+    ) -> Result<Known, AllocError>
+        ensures { IfOk result (λ known. known ≡ said_by tables seen) }
     {
-        let shared = Rc::new(alloc, tables)?;
+        let tables = Rc::new(alloc, tables)?;
+        let seen = Rc::new(alloc, seen)?;
         Ok(Known {
-            held: Held::Shared(shared),
+            held: Held::Shared(tables, seen),
         })
     }
 
-    /// An equal value with the same tables. Takes no memory; it fails only where more values share the tables than can be
-    /// counted.
+    /// An equal value, which shares all with this one. Takes no memory; it fails only where more values share it than can
+    /// be counted.
     pub(crate) fn copy(&self, alloc: Global) -> Result<Known, AllocError>
         ensures { IfOk result (λ copy. copy ≡ self.now) }
     {
         match &self.held {
-            Held::Own(tables) => {
+            Held::Own(tables, seen) => {
                 let tables = copy_of(alloc, tables)?;
+                let seen = seen.copy(alloc)?;
                 Ok(Known {
-                    held: Held::Own(tables),
+                    held: Held::Own(tables, seen),
                 })
             }
-            Held::Shared(shared) => {
-                let shared = shared.clone()?;
+            Held::Shared(tables, seen) => {
+                let tables = tables.clone()?;
+                let seen = seen.clone()?;
                 Ok(Known {
-                    held: Held::Shared(shared),
+                    held: Held::Shared(tables, seen),
+                })
+            }
+        }
+    }
+
+    /// The same, seen by these; it shares the tables with this one. Only memory can fail.
+    pub(crate) fn with_seen(&self, alloc: Global, seen: Uniques) -> Result<Known, AllocError>
+        ensures { IfOk result (λ known. known ≡ record self.now { seen = seen }) }
+    {
+        match &self.held {
+            Held::Own(tables, _) => {
+                let tables = copy_of(alloc, tables)?;
+                Ok(Known {
+                    held: Held::Own(tables, seen),
+                })
+            }
+            Held::Shared(tables, _) => {
+                let tables = tables.clone()?;
+                let seen = Rc::new(alloc, seen)?;
+                Ok(Known {
+                    held: Held::Shared(tables, seen),
                 })
             }
         }
@@ -91,25 +120,44 @@ impl Known {
     pub(crate) fn version(&self) -> &Version
         ensures { result.now ≡ self.now.version }
     {
-        &tables_behind(&self.held).version
+        match &self.held {
+            Held::Own(tables, _) => &tables.version,
+            Held::Shared(tables, _) => &tables.as_ref().version,
+        }
     }
 
     /// The members and tombstones after the entries that are seen.
     pub(crate) fn members(&self) -> &Members
         ensures { result.now ≡ self.now.view.standings }
     {
-        &tables_behind(&self.held).members
+        match &self.held {
+            Held::Own(tables, _) => &tables.members,
+            Held::Shared(tables, _) => &tables.as_ref().members,
+        }
     }
 
     /// Whom the observers found unreachable by then.
     pub(crate) fn rows(&self) -> &Rows
         ensures { result.now ≡ self.now.view.rows }
     {
-        &tables_behind(&self.held).rows
+        match &self.held {
+            Held::Own(tables, _) => &tables.rows,
+            Held::Shared(tables, _) => &tables.as_ref().rows,
+        }
+    }
+
+    /// Which members are known to know exactly this.
+    pub(crate) fn seen(&self) -> &Uniques
+        ensures { result.now ≡ self.now.seen }
+    {
+        match &self.held {
+            Held::Own(_, seen) => seen,
+            Held::Shared(_, seen) => seen.as_ref(),
+        }
     }
 }
 
-// By hand, so that for a proof a drop is one step, wherever the tables stand.
+// By hand, so that for a proof a drop is one step, wherever it stands.
 impl Drop for Known {
     fn drop(self) {
         let Known { held } = self;
@@ -117,17 +165,8 @@ impl Drop for Known {
     }
 }
 
-fn tables_behind(held: &Held) -> &Tables
-    ensures { result.now ≡ tables_of held.now }
-{
-    match held {
-        Held::Own(tables) => tables,
-        Held::Shared(shared) => shared.as_ref(),
-    }
-}
-
 fn no_tables(alloc: Global) -> Tables
-    ensures { said_by result ≡ record { version = map.empty; view = empty_view } }
+    ensures { said_by result nothing_known.seen ≡ nothing_known }
 {
     Tables {
         version: Version::empty(alloc),

@@ -45,7 +45,7 @@ impl Gossip {
             count: self.known.version().count(who),
             state: state_of(standing),
             up_number: number_of(standing),
-            seen: self.seen.contains(who),
+            seen: self.known.seen().contains(who),
             row_number: row_number_of(row),
             subjects,
         })
@@ -61,15 +61,13 @@ impl Gossip {
         let members = members_of(alloc, parts)?;
         let rows = rows_of(alloc, parts)?;
         let seen = seen_of(alloc, parts)?;
-        let known = Known::of_tables(
-            alloc,
-            Tables {
-                version,
-                members,
-                rows,
-            },
-        )?;
-        Ok(Gossip { known, seen })
+        let tables = Tables {
+            version,
+            members,
+            rows,
+        };
+        let known = Known::of_tables(alloc, tables, seen)?;
+        Ok(Gossip { known })
     }
 }
 

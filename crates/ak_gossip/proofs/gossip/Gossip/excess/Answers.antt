@@ -8,8 +8,8 @@ use Rattle.ak_gossip.proofs.gossip.Gossip.excess.Goals as goal
 
 pub returns-then-own-theirs-le-MOST_UNIQUES : goal.returns-then-own-theirs-le-MOST_UNIQUES
 returns-then-own-theirs-le-MOST_UNIQUES c =
-    let own : GossipState = record { version = c.self.inside.known.version; view = c.self.inside.known.view; seen = c.self.inside.seen } in
-    let incoming : GossipState = record { version = c.incoming.inside.known.version; view = c.incoming.inside.known.view; seen = c.incoming.inside.seen } in
+    let own : GossipState = c.self.inside.known in
+    let incoming : GossipState = c.incoming.inside.known in
     few_of _ (few_as c.args.self.now own c.args.incoming.now incoming (sym c.self.view_is) (sym c.incoming.view_is)
     (omega (
       arith,

@@ -1,16 +1,16 @@
-use Rattle.std.proofs.Common.{◌∙◌, refl}
+use Rattle.std.proofs.Common.{◌∙◌, sym, subst}
 use Rattle.ak_clock.specs.Version.{merged}
 use Rattle.ak_member.specs.Standing.{merged_standings}
 use Rattle.ak_member.specs.View.{merged_rows}
-use Rattle.ak_gossip.specs.Gossip.{GossipState}
-use Rattle.ak_gossip.proofs.InvariantLemmas.{few_as, known_kept, merged_parts_kept}
+use Rattle.ak_gossip.specs.Gossip.{GossipState, IsGossip}
+use Rattle.ak_gossip.proofs.InvariantLemmas.{few_as, merged_parts_kept}
 use Rattle.ak_gossip.proofs.gossip.Gossip.take_both.Goals as goal
 
 pub invariant_of-self : goal.invariant_of-self
 invariant_of-self c =
-    let own : GossipState = record { version = c.self.inside.known.version; view = c.self.inside.known.view; seen = c.self.inside.seen } in
-    let incoming : GossipState = record { version = c.incoming.inside.known.version; view = c.incoming.inside.known.view; seen = c.incoming.inside.seen } in
-    known_kept _ _ _ _ c.in_ok-known.ensures refl
+    let own : GossipState = c.self.inside.known in
+    let incoming : GossipState = c.incoming.inside.known in
+    subst IsGossip (sym c.in_ok-known.ensures)
     (merged_parts_kept c.args.me.now own incoming c.self.invariant c.incoming.invariant
     (few_as own c.args.self.now incoming c.args.incoming.now c.self.view_is c.incoming.view_is c.requires)
     _ _ _ _ c.empty-seen.result

@@ -1,15 +1,15 @@
-use Rattle.std.proofs.Common.{sym, ap, ◌∙◌, subst, ◌+◌, refl}
+use Rattle.std.proofs.Common.{sym, ap, ◌∙◌, subst, ◌+◌}
 use Rattle.ak_address.specs.Uniques.{with_one}
 use Rattle.ak_clock.specs.Version.{count, bumped}
 use Rattle.ak_member.specs.View.{after_effects, after_observed, observed}
-use Rattle.ak_gossip.specs.Gossip.{GossipState, MayUpdate}
-use Rattle.ak_gossip.proofs.InvariantLemmas.{known_kept, updated_parts_kept}
+use Rattle.ak_gossip.specs.Gossip.{GossipState, IsGossip, MayUpdate}
+use Rattle.ak_gossip.proofs.InvariantLemmas.{updated_parts_kept}
 use Rattle.ak_gossip.proofs.gossip.Gossip.update.Goals as goal
 
 pub invariant_of-self : goal.invariant_of-self
 invariant_of-self c =
-    let own : GossipState = record { version = c.self.inside.known.version; view = c.self.inside.known.view; seen = c.self.inside.seen } in
-    known_kept _ _ _ _ c.in_ok-known.ensures refl
+    let own : GossipState = c.self.inside.known in
+    subst IsGossip (sym c.in_ok-known.ensures)
     (updated_parts_kept c.args.author.now c.args.effects.now own c.self.invariant (subst (MayUpdate c.args.author.now c.args.effects.now) (sym c.self.view_is) c.requires)
     _ _ _ _
     (c.in_ok-number.ensures.ok.1 ∙ ap (λ v. bumped v c.args.author.now) (c.in_ok-version.ensures ∙ c.version.ensures))
