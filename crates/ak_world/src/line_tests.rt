@@ -1,13 +1,13 @@
-ghost use Rattle.std.specs.Prelude.{◌≡◌, ◌+◌, ◌<◌, length, OnOk};
+ghost use Rattle.std.specs.Prelude.{◌≡◌, ◌+◌, ◌<◌, ◌≤◌, length, OnOk};
 
 use crate::fold_tests::{apply_line, settings_of};
 use crate::world::World;
-use ak_address::parse_unique;
+use ak_address::{Unique, parse_unique};
 use std::alloc::Global;
 use std::test::Fail;
 
 // One member is enough for a settled view, and there is one address.
-const HEADERS: [&str; 9] = [
+const ALONE: [&str; 9] = [
     "listed a:1",
     "strategy static-quorum 1",
     "margin 2",
@@ -19,29 +19,112 @@ const HEADERS: [&str; 9] = [
     "limit 1",
 ];
 
-// How many updates of the founder the view counts that it has noted as settled by the end of this event; 0 where it has noted none.
-fn noted_after(alloc: Global, world: &mut World, line: &str) -> Result<u64, Fail>
-    requires { length world.old.events < 1000 }
-    ensures { OnOk result (length world.new.events ≡ length world.old.events + 1) }
-{
-    apply_line(alloc, world, line)?;
-    let founder = parse_unique(alloc, b"a:1#1")?;
-    match world.node(0) {
-        Some(node) => Ok(node.settled().version().count(&founder)),
-        None => Err("no process was started")?,
-    }
-}
+// Both members are needed for a settled view.
+const BOTH: [&str; 9] = [
+    "listed a:1 b:1",
+    "strategy static-quorum 2",
+    "margin 2",
+    "deadline 9",
+    "stable 9",
+    "shards 10",
+    "buffer 2",
+    "threshold 1",
+    "limit 1",
+];
+
+// How many updates of a:1#1 and of b:1#1 a version counts.
+#[derive(Clone, Copy, PartialEq, Eq)]
+struct Updates(u64, u64);
+
+const NOTHING: Updates = Updates(0, 0);
+
+// A line of a schedule, and the versions of the settled views that the first and the second node have noted by its end.
+#[derive(Clone, Copy)]
+struct Row(&'static str, Updates, Updates);
 
 // A founder comes Up alone, leaves, and stops: its view settles twice, each time at a later version, and the one in which it
 // is Exiting is noted by nobody.
+const FOUNDER_LEAVES: [Row; 5] = [
+    Row("start a:1#1", NOTHING, NOTHING),
+    Row("found a:1#1", NOTHING, NOTHING),
+    Row("tick a:1#1 0", Updates(2, 0), NOTHING),
+    Row("leave a:1#1 a:1#1", Updates(3, 0), NOTHING),
+    Row("tick a:1#1 0", Updates(3, 0), NOTHING),
+];
+
+// a founds, b joins, and both come Up: what b hears of it is settled, and then what a hears from b.
+const BOTH_RISE: [Row; 12] = [
+    Row("start a:1#1", NOTHING, NOTHING),
+    Row("start b:1#1", NOTHING, NOTHING),
+    Row("found a:1#1", NOTHING, NOTHING),
+    Row("join b:1#1 a:1", NOTHING, NOTHING),
+    Row("deliver 1", NOTHING, NOTHING),
+    Row("deliver 2", NOTHING, NOTHING),
+    Row("deliver 3", NOTHING, NOTHING),
+    Row("tick a:1#1 0", NOTHING, NOTHING),
+    Row("tick a:1#1 0", NOTHING, NOTHING),
+    Row("tick a:1#1 0", NOTHING, NOTHING),
+    Row("deliver 7", NOTHING, Updates(3, 0)),
+    Row("deliver 8", Updates(3, 0), Updates(3, 0)),
+];
+
+// b leaves, and tells: the next settled view is later than the first, at both.
+const ONE_LEAVES: [Row; 5] = [
+    Row("leave b:1#1 b:1#1", Updates(3, 0), Updates(3, 0)),
+    Row("deliver 3", Updates(3, 0), Updates(3, 0)),
+    Row("deliver 9", Updates(3, 0), Updates(3, 0)),
+    Row("deliver 10", Updates(3, 1), Updates(3, 0)),
+    Row("deliver 11", Updates(3, 1), Updates(3, 1)),
+];
+
+// What a node has noted.
+fn noted_by(world: &World, number: u32, a: &Unique, b: &Unique) -> Updates {
+    match world.node(number) {
+        Some(node) => {
+            let version = node.settled().version();
+            Updates(version.count(a), version.count(b))
+        }
+        None => NOTHING,
+    }
+}
+
+// What a row says is noted.
+fn notes(alloc: Global, world: &mut World, row: &Row) -> Result<bool, Fail>
+    requires { length world.old.events < 1000 }
+    ensures { OnOk result (length world.new.events ≡ length world.old.events + 1) }
+{
+    apply_line(alloc, world, row.0)?;
+    let a = parse_unique(alloc, b"a:1#1")?;
+    let b = parse_unique(alloc, b"b:1#1")?;
+    Ok(noted_by(world, 0, &a, &b) == row.1 && noted_by(world, 1, &a, &b) == row.2)
+}
+
+// How many of the rows go as they say, one after another: all, or those before the first that does not.
+fn rows_that_go(alloc: Global, world: &mut World, rows: &[Row]) -> Result<usize, Fail>
+    requires { length world.old.events + length rows.now < 1000 }
+    ensures { OnOk result (length world.new.events ≤ length world.old.events + length rows.now) }
+{
+    'rows: for (index, row) in rows.iter().enumerate() {
+        if !notes(alloc, world, row)? {
+            return Ok(index);
+        }
+    }
+    Ok(rows.len())
+}
+
 #[test]
 fn settled_versions_of_a_founder_that_leaves(rt: HostRuntime) -> Result<(), Fail> {
     let alloc = rt.alloc();
-    let mut world = World::new(alloc, settings_of(alloc, HEADERS)?);
-    assert_eq!(rt; noted_after(alloc, &mut world, "start a:1#1")?, 0);
-    assert_eq!(rt; noted_after(alloc, &mut world, "found a:1#1")?, 0);
-    assert_eq!(rt; noted_after(alloc, &mut world, "tick a:1#1 0")?, 2);
-    assert_eq!(rt; noted_after(alloc, &mut world, "leave a:1#1 a:1#1")?, 3);
-    assert_eq!(rt; noted_after(alloc, &mut world, "tick a:1#1 0")?, 3);
+    let mut world = World::new(alloc, settings_of(alloc, ALONE)?);
+    assert_eq!(rt; rows_that_go(alloc, &mut world, &FOUNDER_LEAVES)?, 5);
+    Ok(())
+}
+
+#[test]
+fn two_members_settle_one_after_another(rt: HostRuntime) -> Result<(), Fail> {
+    let alloc = rt.alloc();
+    let mut world = World::new(alloc, settings_of(alloc, BOTH)?);
+    assert_eq!(rt; rows_that_go(alloc, &mut world, &BOTH_RISE)?, 12);
+    assert_eq!(rt; rows_that_go(alloc, &mut world, &ONE_LEAVES)?, 5);
     Ok(())
 }
