@@ -1,8 +1,8 @@
 -- Lemmas of the definitions of a world: what a list of actions does by parts, how many nodes a run has and how many
 -- events each was given, and which node a process is.
-use Rattle.std.proofs.Common.{◌≡◌, is_ok, OnOk, ℕ, zero, suc, ◌+◌, ◌<◌, ◌≤◌, ◌^◌, leb, ltb, Bool, true, false, cond, not, ◌||◌, List, [], ◌∷◌, ◌++◌, set, length, Option, Some, None, is_some, option_map, position, slice_get, Result, Ok, Err, IsTrue, if◌then◌else◌, refl, sym, ap, ◌∙◌, subst, arith, append_assoc, one-add, le-leb, true≢false, length-append, take, get_or}
+use Rattle.std.proofs.Common.{◌≡◌, is_ok, OnOk, ℕ, zero, suc, ◌+◌, ◌<◌, ◌≤◌, ◌^◌, leb, ltb, Bool, true, false, cond, not, ◌||◌, List, [], ◌∷◌, ◌++◌, set, length, Option, Some, None, is_some, option_map, position, slice_get, Result, Ok, Err, IsTrue, if◌then◌else◌, refl, sym, ap, ◌∙◌, subst, arith, append_assoc, one-add, le-leb, true≢false, length-append, take, get_or, Contains}
 use Rattle.std.proofs.Math.ListN.{length-set}
-use Rattle.std.proofs.lemmas.Option.{slice_get-map, slice_get-get_or}
+use Rattle.std.proofs.lemmas.Option.{slice_get-map, slice_get-get_or, same_Some}
 use Rattle.std.proofs.lemmas.Bool.{leb-false, lt-leb}
 use Rattle.std.proofs.lemmas.Bool.Decides.{nat_tests}
 use Rattle.std.proofs.lemmas.List.{take_more, map-set}
@@ -22,6 +22,7 @@ use Rattle.ak_wire.specs.declared.action.Action.{Action}
 use Rattle.ak_wire.specs.declared.action.Action.TheVariants as action
 use Rattle.ak_wire.specs.declared.action.Action.TheVariants.{Send, Update}
 use Rattle.ak_world.specs.declared.world.Refused.{Refused}
+use Rattle.ak_world.specs.declared.world.Refused as refused
 use Rattle.ak_world.specs.declared.world.Reason as reason
 use Rattle.ak_world.specs.declared.world.Step.{Step}
 use Rattle.ak_history.specs.History.{entries_of}
@@ -29,7 +30,8 @@ use Rattle.ak_node.specs.Node.{me_of, started, step}
 use Rattle.ak_node.proofs.StepChanges.{step_changes}
 use Rattle.ak_node.specs.NodeContracts.{NodeModel}
 use Rattle.ak_world.specs.World.{WorldState, Done, recorded, with_update, gives, acts_at, acts, arrives, delivers, starts, stepped, is_process, runs_at, is_in_use, is_full, is_reached, happens, after, run_from, run, empty_world, node_of, receiver_of, packet_at}
-use Rattle.ak_wire.specs.Wire.{sent, effects_of}
+use Rattle.ak_address.proofs.Elements.{contains_first, contains_rest}
+use Rattle.ak_wire.specs.Wire.{sent, effects_of, envelope_of, put}
 use Rattle.ak_wire.proofs.Sending.{sent-append}
 use Rattle.ak_world.proofs.IndexLemmas.{set_at, push_at}
 use Rattle.ak_world.proofs.WhatHappened.{begins, steps, nobody, IsAnswer, happened}
@@ -48,6 +50,16 @@ sent-kept old now new xs i a lt is before here =
     ∙ ap (λ (es : List Envelope). es ++ sent (a ∷ [])) before
     ∙ append_assoc old (sent (take i xs)) (sent (a ∷ []))
     ∙ ap (λ (es : List Envelope). old ++ es) (sym (sent-more xs i a lt is))
+
+-- what an action sends is among what they send
+sent-later : (o : Option Envelope) (xs : List Envelope) (e : Envelope) → Contains xs e → Contains (put o xs) e
+sent-later None xs e there = there
+sent-later (Some y) xs e there = contains_rest y e xs there
+
+pub sent-there : (xs : List Action) (i : ℕ) (a : Action) (e : Envelope) → slice_get xs i ≡ Some a → a ≡ Send e → Contains (sent xs) e
+sent-there [] i a e at is = absurd (true≢false (sym (ap is_some at)))
+sent-there (x ∷ xs) zero a e at is = subst (λ (y : Action). Contains (put (envelope_of y) (sent xs)) e) (sym (same_Some x a at ∙ is)) (contains_first e (sent xs))
+sent-there (x ∷ xs) (suc i) a e at is = sent-later (envelope_of x) (sent xs) e (sent-there xs i a e at is)
 
 pub sent-none : (a : Action) → ((e : Envelope) → a ≡ Send e → ⊥) → sent (a ∷ []) ≡ []
 sent-none (Send e) other = absurd (other e refl)
@@ -237,6 +249,16 @@ given-accepted e index w lt = let there = state-there w.nodes index lt in (stepp
 pub accepted-too : (a b : Result Done reason.Reason) → b ≡ a → IsAccepted a → IsAccepted b
 accepted-too a b same accepted = (accepted.0, same ∙ accepted.1)
 
+-- memory ran out at an event that is accepted
+pub ran-out : (w v : WorldState) (a : Result Done reason.Reason) (r : Result Step Refused) (why : Refused) → IsAccepted a → r ≡ Err why → why ≡ refused.TheVariants.NoMemory → Scenes w a r v
+ran-out w v a r why accepted is none = subst (λ x. Scenes w a x v) (sym (is ∙ ap done none)) accepted
+  where
+    done : Refused → Result Step Refused
+    done f = Err f
+
+pub given-at : (e : NodeEvent) (index : ℕ) (w : WorldState) (n : State) → slice_get w.nodes index ≡ Some n → IsAccepted (gives e index (slice_get w.nodes index) w)
+given-at e index w n at = (stepped index (step e n) w, ap (λ (o : Option State). gives e index o w) at)
+
 -- which node the code found is which the world names
 pub found-node : (u : UniqueModel) (nodes : List NodeModel) (r o : Option ℕ) → r ≡ position (λ (n : NodeModel). is_process u n.state) nodes → r ≡ o → position (is_process u) (states nodes) ≡ o
 found-node u nodes r o answers is = position-states (is_process u) nodes ∙ sym answers ∙ is
@@ -317,6 +339,13 @@ pub delivery-answer : (w : WorldState) (number : ℕ) (e : Envelope) (full : Boo
     → delivers (packet_at w number) w ≡ (if full then Err reason.TheVariants.TooManyPackets else arrives e (receiver_of e w) w)
 delivery-answer w number e full packet is =
     ap (λ (o : Option Envelope). delivers o w) packet ∙ ap (λ (b : Bool). if b then Err reason.TheVariants.TooManyPackets else arrives e (receiver_of e w) w) is
+
+pub delivery-accepted : (w : WorldState) (number : ℕ) (e : Envelope) → packet_at w number ≡ Some e → is_full w ≡ false → IsAccepted (delivers (packet_at w number) w)
+delivery-accepted w number e packet room = accepted-too _ _ (delivery-answer w number e false packet room) (arrived (receiver_of e w) refl)
+  where
+    arrived : (o : Option ℕ) → receiver_of e w ≡ o → IsAccepted (arrives e o w)
+    arrived None is = (record { world = w; node = None; actions = [] }, refl)
+    arrived (Some index) is = given-accepted (event.TheVariants.Packet e) index w (position-within (is_reached e) w.nodes index is)
 
 pub dead-delivery : (w : WorldState) (number : ℕ) (e : Envelope) (s : Step) → packet_at w number ≡ Some e → is_full w ≡ false → receiver_of e w ≡ None → s.node ≡ None → s.first_packet ≡ length w.packets + 1 → s.first_packet < 2 ^ 64
     → s.actions ≡ [] → Went w (delivers (packet_at w number) w) s w

@@ -1,20 +1,26 @@
-use Rattle.std.proofs.Common.{List, [], ◌∷◌, ◌++◌, ap, sym, ◌∙◌}
+use Rattle.std.proofs.Common.{List, [], ◌∷◌, ◌++◌, ap, sym, refl, ◌∙◌}
 use Rattle.std.proofs.lemmas.List.{append-nil}
+use Rattle.std.proofs.lemmas.Option.{slice_get_read}
 use Rattle.ak_wire.specs.declared.action.Action.{Action}
 use Rattle.ak_wire.specs.declared.envelope.Envelope.{Envelope}
 use Rattle.ak_wire.specs.Wire.{sent}
-use Rattle.ak_world.proofs.WorldLemmas.{sent-kept, sent-none}
+use Rattle.ak_world.proofs.WorldLemmas.{sent-kept, sent-none, sent-there}
 use Rattle.ak_world.proofs.world.keep_packets.Goals as goal
-use Rattle.ak_world.proofs.world.keep_packets.Goals.{in-Send+in_ok-copy+in_ok-push, in_default}
+use Rattle.ak_world.proofs.world.keep_packets.Goals.{in-Send+in_ok-of+in_ok-push, in_default}
+
+pub of-requires : goal.of-requires
+of-requires c =
+    let at = slice_get_read c.args.actions.now _ c.actions.action-index c.action-item.result refl c.actions-test.true c.action-item.is in
+    c.requires c.in-Send.envelope (sent-there c.args.actions.now c.actions.action-index c.action-item.result c.in-Send.envelope at c.in-Send.is)
 
 pub actions-preserved : goal.actions-preserved
 actions-preserved c =
     sent-kept c.args.packets.now.items c.actions.packets.items c.match-action.packets.items c.args.actions.now c.actions.action-index c.action-item.result c.actions-test.true c.action-item.is c.actions.invariant
     (elim c.match-action.branch [
-      | in-Send+in_ok-copy+in_ok-push w ↦
+      | in-Send+in_ok-of+in_ok-push w ↦
           ap (λ v. v.items) w.packets-is
           ∙ w.in_ok-push.ensures.items
-          ∙ ap (λ (e : Envelope). c.actions.packets.items ++ e ∷ []) w.in_ok-copy.ensures
+          ∙ ap (λ (e : Envelope). c.actions.packets.items ++ e ∷ []) w.in_ok-of.ensures
           ∙ ap (λ (x : Action). c.actions.packets.items ++ sent (x ∷ [])) (sym w.in-Send.is)
       | in_default w ↦
           ap (λ v. v.items) w.packets-is

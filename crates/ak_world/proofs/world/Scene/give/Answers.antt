@@ -1,15 +1,33 @@
-use Rattle.std.proofs.Common.{◌≡◌, ◌<◌, List, ◌++◌, length, refl, ap, ◌∙◌, get_or-set_same}
+use Rattle.std.proofs.Common.{◌≡◌, ◌<◌, List, ◌++◌, length, refl, ap, ◌∙◌, sym, subst, get_or-set_same}
 use Rattle.ak_wire.specs.declared.action.Action.{Action}
 use Rattle.ak_node.specs.Node.{me_of}
 use Rattle.ak_node.specs.NodeContracts.{NodeModel}
 use Rattle.ak_wire.specs.Wire.{sent}
 use Rattle.ak_world.specs.World.{recorded}
-use Rattle.ak_world.proofs.WorldLemmas.{state-at, went-given}
+use Rattle.std.proofs.lemmas.Result.{err_from_is_err_and}
+use Rattle.ak_node.specs.Sends.{AreValid}
+use Rattle.ak_world.specs.WorldContracts.{state_of}
+use Rattle.ak_world.proofs.WorldLemmas.{state-at, went-given, given-at, ran-out}
 use Rattle.ak_world.proofs.world.Scene.give.Goals as goal
 
 pub step-requires : goal.step-requires
 step-requires c =
     c.requires.ready.few_steps c.args.index c.index_mut.result.now.state (state-at c.args.self.now.nodes.items c.args.index c.index_mut.result.now c.requires.index c.index_mut.ensures.value)
+
+pub keep_packets-requires : goal.keep_packets-requires
+keep_packets-requires c = subst AreValid (sym c.as_slice.ensures) c.in_ok-actions.ensures.valid
+
+pub returns-in_err-keep_packets-clause-scenes : goal.returns-in_err-keep_packets-clause-scenes
+returns-in_err-keep_packets-clause-scenes c =
+    let p = err_from_is_err_and c.from_residual-in_err-keep_packets.result c.from_residual-in_err-keep_packets.ensures.1 in
+    ran-out (state_of c.args.self.now) _ _ _ p.0
+    (given-at c.args.event c.args.index (state_of c.args.self.now) c.index_mut.result.now.state (state-at c.args.self.now.nodes.items c.args.index c.index_mut.result.now c.requires.index c.index_mut.ensures.value)) p.1 p.2
+
+pub returns-in_err-keep_entries-clause-scenes : goal.returns-in_err-keep_entries-clause-scenes
+returns-in_err-keep_entries-clause-scenes c =
+    let p = err_from_is_err_and c.from_residual-in_err-keep_entries.result c.from_residual-in_err-keep_entries.ensures.1 in
+    ran-out (state_of c.args.self.now) _ _ _ p.0
+    (given-at c.args.event c.args.index (state_of c.args.self.now) c.index_mut.result.now.state (state-at c.args.self.now.nodes.items c.args.index c.index_mut.result.now c.requires.index c.index_mut.ensures.value)) p.1 p.2
 
 pub returns : goal.returns
 returns c = record {
