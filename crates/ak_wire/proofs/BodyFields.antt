@@ -1,5 +1,5 @@
 -- Bodies are read as they are spelled, kind by kind.
-use Rattle.std.proofs.Common.{◌≡◌, ℕ, zero, suc, ◌+◌, ◌^◌, ◌<◌, ◌≤◌, Bool, true, false, List, [], ◌∷◌, ◌++◌, Result, Ok, inl, inr, refl, sym, ap, subst, ◌∙◌, arith}
+use Rattle.std.proofs.Common.{◌≡◌, ℕ, zero, suc, ◌+◌, ◌^◌, ◌<◌, ◌≤◌, List, [], ◌++◌, Result, Ok, inl, inr, refl, sym, ap, subst, ◌∙◌, arith}
 use Rattle.std.specs.Prelude.{⊤}
 use Rattle.std.specs.Int.{w64}
 use Rattle.std.proofs.lemmas.Bool.{cases_lt}
@@ -7,7 +7,6 @@ use Rattle.ak_address.specs.Unique.{UniqueModel, IsUnique}
 use Rattle.ak_clock.specs.declared.version.TheConstants.{BOUND}
 use Rattle.ak_clock.specs.Version.{Counts}
 use Rattle.ak_promise.specs.Ballot.{BallotModel, IsBallot}
-use Rattle.ak_shard_id.specs.declared.report.Report.{Report}
 use Rattle.ak_gossip.specs.Gossip.{GossipState}
 use Rattle.ak_gossip.specs.Parts.{parts_of}
 use Rattle.ak_field.specs.declared.fault.WireFault.{WireFault}
@@ -158,33 +157,82 @@ each_at P first (suc many) each n above below = elim (cases_lt first n) [
 
 each_kind : Each (λ kind. Was kind (body_at kind)) 1 25
 unfolding body_at early_body_at late_body_at
-each_kind =
-    (bare_was 1 Join (refl, (tt, refl)),
-    (told_was 2 (λ g is. (refl, (is, refl))),
-    (told_was 3 (λ g is. (refl, (is, refl))),
-    (bare_was 4 Heartbeat (refl, (tt, refl)),
-    (bare_was 5 HeartbeatReply (refl, (tt, refl)),
-    (bare_was 6 ExitingConfirmed (refl, (tt, refl)),
-    (asking_was 7 (λ b is. (refl, (is, refl))),
-    (was 8 granted_at (λ x. ballot x.0 ++ (version x.1.0 ++ reports x.1.1)) (λ x. IsBallot x.0 × (IsShort x.1.0 × AreReports x.1.1)) granting granted_field (λ x is. (refl, (is, refl))),
-    (refusing_was 9 (λ x is. (refl, (is, refl))),
-    (refusing_was 10 (λ x is. (refl, (is, refl))),
-    (asking_was 11 (λ b is. (refl, (is, refl))),
-    (ending_was 12 (λ x is. (refl, (is, refl))),
-    (ending_was 13 (λ x is. (refl, (is, refl))),
-    (was 14 get_home_at (λ x. ballot x.0 ++ shard x.1) (λ x. IsBallot x.0 × IsShard x.1) seeking get_home_field (λ x is. (refl, (is, refl))),
-    (was 15 home_at (λ x. ballot x.0 ++ (shard x.1.0 ++ process x.1.1)) (λ x. IsBallot x.0 × (IsShard x.1.0 × IsUnique x.1.1)) homing home_field (λ x is. (refl, (is, refl))),
-    (placing_was 16 (λ x is. (refl, (is, refl))),
-    (placing_was 17 (λ x is. (refl, (is, refl))),
-    (placing_was 18 (λ x is. (refl, (is, refl))),
-    (placing_was 19 (λ x is. (refl, (is, refl))),
-    (placing_was 20 (λ x is. (refl, (is, refl))),
-    (placing_was 21 (λ x is. (refl, (is, refl))),
-    (carrying_was 22 (λ x is. (refl, (is, refl))),
-    (naming_was 23 (λ u is. (refl, (is, refl))),
-    (naming_was 24 (λ u is. (refl, (is, refl))),
-    (carrying_was 25 (λ x is. (refl, (is, refl))),
-    tt)))))))))))))))))))))))))
+each_kind = (
+  bare_was 1 Join (refl, (tt, refl)),
+  (
+    told_was 2 (λ g is. (refl, (is, refl))),
+    (
+      told_was 3 (λ g is. (refl, (is, refl))),
+      (
+        bare_was 4 Heartbeat (refl, (tt, refl)),
+        (
+          bare_was 5 HeartbeatReply (refl, (tt, refl)),
+          (
+            bare_was 6 ExitingConfirmed (refl, (tt, refl)),
+            (
+              asking_was 7 (λ b is. (refl, (is, refl))),
+              (
+                was 8 granted_at (λ x. ballot x.0 ++ (version x.1.0 ++ reports x.1.1)) (λ x. IsBallot x.0 × (IsShort x.1.0 × AreReports x.1.1)) granting granted_field (λ x is. (refl, (is, refl))),
+                (
+                  refusing_was 9 (λ x is. (refl, (is, refl))),
+                  (
+                    refusing_was 10 (λ x is. (refl, (is, refl))),
+                    (
+                      asking_was 11 (λ b is. (refl, (is, refl))),
+                      (
+                        ending_was 12 (λ x is. (refl, (is, refl))),
+                        (
+                          ending_was 13 (λ x is. (refl, (is, refl))),
+                          (
+                            was 14 get_home_at (λ x. ballot x.0 ++ shard x.1) (λ x. IsBallot x.0 × IsShard x.1) seeking get_home_field (λ x is. (refl, (is, refl))),
+                            (
+                              was 15 home_at (λ x. ballot x.0 ++ (shard x.1.0 ++ process x.1.1)) (λ x. IsBallot x.0 × (IsShard x.1.0 × IsUnique x.1.1)) homing home_field (λ x is. (refl, (is, refl))),
+                              (
+                                placing_was 16 (λ x is. (refl, (is, refl))),
+                                (
+                                  placing_was 17 (λ x is. (refl, (is, refl))),
+                                  (
+                                    placing_was 18 (λ x is. (refl, (is, refl))),
+                                    (
+                                      placing_was 19 (λ x is. (refl, (is, refl))),
+                                      (
+                                        placing_was 20 (λ x is. (refl, (is, refl))),
+                                        (
+                                          placing_was 21 (λ x is. (refl, (is, refl))),
+                                          (
+                                            carrying_was 22 (λ x is. (refl, (is, refl))),
+                                            (
+                                              naming_was 23 (λ u is. (refl, (is, refl))),
+                                              (
+                                                naming_was 24 (λ u is. (refl, (is, refl))),
+                                                (
+                                                  carrying_was 25 (λ x is. (refl, (is, refl))),
+                                                  tt,
+                                                ),
+                                              ),
+                                            ),
+                                          ),
+                                        ),
+                                      ),
+                                    ),
+                                  ),
+                                ),
+                              ),
+                            ),
+                          ),
+                        ),
+                      ),
+                    ),
+                  ),
+                ),
+              ),
+            ),
+          ),
+        ),
+      ),
+    ),
+  ),
+)
 
 pub body_was : (kind : ℕ) → 1 ≤ kind → kind ≤ 25 → Was kind (body_at kind)
 body_was kind above below = each_at (λ kind. Was kind (body_at kind)) 1 25 each_kind kind above (omega (arith, below))

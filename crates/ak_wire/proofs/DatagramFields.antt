@@ -1,5 +1,5 @@
 -- A datagram is read as it is spelled.
-use Rattle.std.proofs.Common.{◌≡◌, ℕ, ◌-◌, ◌^◌, ◌<◌, ◌≤◌, Bool, true, false, List, [], ◌∷◌, ◌++◌, Result, Ok, Err, IfOk, refl, sym, ap, subst, ◌∙◌, arith}
+use Rattle.std.proofs.Common.{◌≡◌, ℕ, Bool, true, false, List, [], ◌∷◌, ◌++◌, Result, Ok, Err, IfOk, refl, sym, ap, subst, ◌∙◌, arith}
 use Rattle.std.proofs.lemmas.List.{append-nil}
 use Rattle.ak_address.specs.Unique.{UniqueModel, IsUnique, IsAddress}
 use Rattle.ak_field.specs.declared.fault.WireFault.{WireFault}
@@ -116,8 +116,8 @@ to_field kind range from =
     (λ to is. last_field kind range from to)
     (λ e is. (is.1.0, (ap (λ (u : UniqueModel). made u (receiver e) e.message) is.0, is.1.1)))
     (λ to e is after.
-        let same : receiver e ≡ to = ap receiver after.0 in
-        (same, (ap (λ (d : Envelope). d.from) after.0, (subst (IsReceiver (is_kind_for_anybody kind)) (sym same) is, after.1))))
+    let same : receiver e ≡ to = ap receiver after.0 in
+    (same, (ap (λ (d : Envelope). d.from) after.0, (subst (IsReceiver (is_kind_for_anybody kind)) (sym same) is, after.1))))
 
 from_field : (kind : ℕ) → Ranges 1 25 kind → IsField (λ bytes. unique_at bytes >>= λ from. receiver_at (is_kind_for_anybody kind) from.1 >>= λ to. body_at kind to.1 >>= λ message. Ok (made from.0 to.0 message.0, message.1)) (λ e. process e.from ++ (process (receiver e) ++ body e.message)) (AfterKind kind)
 from_field kind range =

@@ -1,15 +1,15 @@
 -- Bytes are a datagram or have a first fault.
-use Rattle.std.proofs.Common.{◌≡◌, ◌⊎◌, inl, inr, ℕ, ◌≤◌, Bool, true, is_some, List, Option, Some, None, Result, Ok, Err, refl, sym, ap, subst, ◌∙◌, arith}
+use Rattle.std.proofs.Common.{◌≡◌, ◌⊎◌, inl, inr, ℕ, ◌≤◌, true, is_some, List, Option, Some, None, Result, Ok, Err, refl, sym, ap, subst, ◌∙◌, arith}
 use Rattle.ak_address.proofs.Pairs.{not_None, same_Some}
 use Rattle.ak_field.specs.declared.fault.WireFault.{WireFault}
 use Rattle.ak_field.specs.declared.fault.WireFault.TheVariants.{Short, Magic, Version, Kind, Count, Order, Range, Trailing, NoMemory}
-use Rattle.ak_field.specs.Reading.{◌>>=◌, fault_number, first_fault}
-use Rattle.ak_field.specs.Fields.{header_at, unique_at, receiver_at}
+use Rattle.ak_field.specs.Reading.{fault_number, first_fault}
+use Rattle.ak_field.specs.Fields.{header_at}
 use Rattle.ak_field.specs.Laws.{IsBytes}
 use Rattle.ak_field.proofs.Combined.{ok_is}
 use Rattle.ak_wire.specs.declared.envelope.Envelope.{Envelope}
-use Rattle.ak_wire.specs.Datagram.{datagram, Spells}
-use Rattle.ak_wire.specs.ReadingDatagram.{body_at, is_kind_for_anybody, datagram_at, ended, read}
+use Rattle.ak_wire.specs.Datagram.{Spells}
+use Rattle.ak_wire.specs.ReadingDatagram.{datagram_at, read}
 use Rattle.ak_wire.specs.Laws.{FirstFault, IsDecided}
 use Rattle.ak_wire.proofs.DatagramFields.{read_was, spelled_again}
 use Rattle.ak_wire.proofs.Numbered.{read_numbered}

@@ -1,19 +1,17 @@
 -- Reading ends in no fault but one that has a number.
-use Rattle.std.proofs.Common.{◌≡◌, ℕ, zero, suc, ◌+◌, ◌==◌, ◌||◌, nat_le, Bool, true, false, IsTrue, is_some, List, [], ◌∷◌, Option, Some, None, length, if◌then◌else◌, ltb, Result, Ok, Err, refl, subst}
+use Rattle.std.proofs.Common.{◌≡◌, ℕ, zero, suc, ◌+◌, nat_le, Bool, true, false, is_some, List, [], ◌∷◌, Option, Some, None, length, if◌then◌else◌, ltb, Result, Ok, Err, refl, subst}
 use Rattle.std.specs.Prelude.{⊤}
-use Rattle.std.specs.List.{list_all}
 use Rattle.std.specs.Int.{Width, byte_len}
 use Rattle.ak_address.specs.Unique.{UniqueModel}
 use Rattle.ak_clock.specs.declared.version.TheConstants.{BOUND}
 use Rattle.ak_gossip.specs.declared.part.Part.{Part}
 use Rattle.ak_field.specs.declared.fault.WireFault.{WireFault}
 use Rattle.ak_field.specs.declared.fault.WireFault.TheVariants.{Short, Magic, Version, Kind, Count, Order, Range, Trailing}
-use Rattle.ak_field.specs.Reading.{◌>>=◌, bytes_at, byte_at, wide_at, checked, items_at, fault_number, first_fault}
+use Rattle.ak_field.specs.Reading.{◌>>=◌, bytes_at, byte_at, wide_at, checked, items_at, fault_number}
 use Rattle.ak_field.specs.Fields.{length_at, number_at, shard_at, flag_at, process_bytes_at, process_at, receiver_at, ballot_at, entity_at, header_at}
 use Rattle.ak_field.specs.Lists.{next_unique_at, counted_at, counts_at, version_at, report_at, report_count_at, reports_at}
 use Rattle.ak_field.specs.Parts.{state_at, up_number_at, seen_at, index_at, indices_at, subjects_at, part_at, parts_at}
 use Rattle.ak_wire.specs.declared.envelope.Envelope.{Envelope}
-use Rattle.ak_wire.specs.declared.envelope.Message.{Message}
 use Rattle.ak_wire.specs.ReadingDatagram.{pair_at, made_at, gossip_at, early_body_at, late_body_at, body_at, datagram_at, ended, read}
 
 -- what is read, or a fault that has a number
@@ -101,8 +99,8 @@ a_header : (bytes : List ℕ) → IsNumbered (header_at bytes)
 unfolding header_at
 a_header bytes =
     bind _ _ (check Magic _ (bytes_at 3 bytes) refl (some_bytes 3 bytes)) (λ first.
-        bind _ _ (check Version _ (byte_at first.1) refl (one_byte first.1)) (λ version.
-            check Kind _ (byte_at version.1) refl (one_byte version.1)))
+    bind _ _ (check Version _ (byte_at first.1) refl (one_byte first.1)) (λ version.
+    check Kind _ (byte_at version.1) refl (one_byte version.1)))
 
 -- ---- lists
 next_unique : (last : Option UniqueModel) (bytes : List ℕ) → IsNumbered (next_unique_at last bytes)
@@ -117,14 +115,14 @@ a_version : (bytes : List ℕ) → IsNumbered (version_at bytes)
 unfolding version_at counts_at
 a_version bytes =
     bind (length_at 0 128 bytes) _ (a_length 0 128 bytes) (λ many.
-        bind (items_at counted_at None many.0 many.1) _ (items counted_at a_counted None many.0 many.1) (λ pairs. fine _))
+    bind (items_at counted_at None many.0 many.1) _ (items counted_at a_counted None many.0 many.1) (λ pairs. fine _))
 
 a_report : (last : Option _) (bytes : List ℕ) → IsNumbered (report_at last bytes)
 unfolding report_at
 a_report last bytes =
     bind _ _ (check Order _ (shard_at bytes) refl (a_shard bytes)) (λ shard.
-        bind (number_at 1 BOUND shard.1) _ (a_number 1 BOUND shard.1) (λ number.
-            bind (flag_at number.1) _ (a_flag number.1) (λ hosted. fine _)))
+    bind (number_at 1 BOUND shard.1) _ (a_number 1 BOUND shard.1) (λ number.
+    bind (flag_at number.1) _ (a_flag number.1) (λ hosted. fine _)))
 
 some_reports : (bytes : List ℕ) → IsNumbered (reports_at bytes)
 unfolding reports_at report_count_at
@@ -149,12 +147,12 @@ a_part : (many : ℕ) (last : Option Part) (bytes : List ℕ) → IsNumbered (pa
 unfolding part_at state_at up_number_at seen_at
 a_part many last bytes =
     bind (next_unique_at _ bytes) _ (next_unique _ bytes) (λ who.
-        bind (number_at 0 BOUND who.1) _ (a_number 0 BOUND who.1) (λ count.
-            bind _ _ (check Range _ (byte_at count.1) refl (one_byte count.1)) (λ state.
-                bind _ _ (check Range _ (wide_at _ state.1) refl (wide _ state.1)) (λ up_number.
-                    bind _ _ (check Range _ (flag_at up_number.1) refl (a_flag up_number.1)) (λ seen.
-                        bind (number_at 0 count.0 seen.1) _ (a_number 0 count.0 seen.1) (λ row_number.
-                            bind (subjects_at many row_number.0 row_number.1) _ (some_subjects many row_number.0 row_number.1) (λ subjects. fine _)))))))
+    bind (number_at 0 BOUND who.1) _ (a_number 0 BOUND who.1) (λ count.
+    bind _ _ (check Range _ (byte_at count.1) refl (one_byte count.1)) (λ state.
+    bind _ _ (check Range _ (wide_at _ state.1) refl (wide _ state.1)) (λ up_number.
+    bind _ _ (check Range _ (flag_at up_number.1) refl (a_flag up_number.1)) (λ seen.
+    bind (number_at 0 count.0 seen.1) _ (a_number 0 count.0 seen.1) (λ row_number.
+    bind (subjects_at many row_number.0 row_number.1) _ (some_subjects many row_number.0 row_number.1) (λ subjects. fine _)))))))
 
 some_parts : (bytes : List ℕ) → IsNumbered (parts_at bytes)
 unfolding parts_at
@@ -199,9 +197,9 @@ a_datagram : (bytes : List ℕ) → IsNumbered (datagram_at bytes)
 unfolding datagram_at
 a_datagram bytes =
     bind (header_at bytes) _ (a_header bytes) (λ kind.
-        bind (process_at _ _ kind.1) _ (a_process _ _ kind.1) (λ from.
-            bind (receiver_at _ from.1) _ (a_receiver _ from.1) (λ to.
-                bind (body_at kind.0 to.1) _ (a_body kind.0 to.1) (λ message. fine _))))
+    bind (process_at _ _ kind.1) _ (a_process _ _ kind.1) (λ from.
+    bind (receiver_at _ from.1) _ (a_receiver _ from.1) (λ to.
+    bind (body_at kind.0 to.1) _ (a_body kind.0 to.1) (λ message. fine _))))
 
 nothing_left : (x : Envelope × List ℕ) → IsNumbered (ended x)
 nothing_left (e, []) = fine _

@@ -14,11 +14,7 @@ use std::alloc::Global;
 
 /// The body of a message of this kind, from 1 to 25.
 #[tactic(auto, unfolding(crate::specs::ReadingDatagram::body_at))]
-pub(crate) fn body(
-    alloc: Global,
-    kind: u8,
-    fields: &mut Fields<'_>,
-) -> Result<Message, WireFault>
+pub(crate) fn body(alloc: Global, kind: u8, fields: &mut Fields<'_>) -> Result<Message, WireFault>
     ensures { Gives result fields.new (body_at kind fields.old) }
 {
     if kind <= 13 {

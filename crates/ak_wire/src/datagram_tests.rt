@@ -10,13 +10,18 @@ const HEARTBEAT: [u8; 29] = [
 
 // a:1#1, b:1#1, and anybody at b:1
 const A: [u8; 12] = [1, 97, 0, 1, 0, 0, 0, 0, 0, 0, 0, 1];
+
 const B: [u8; 12] = [1, 98, 0, 1, 0, 0, 0, 0, 0, 0, 0, 1];
+
 const ANYBODY: [u8; 12] = [1, 98, 0, 1, 0, 0, 0, 0, 0, 0, 0, 0];
 
 // 0, 1, 2^62 and one more
 const ZERO: [u8; 8] = [0, 0, 0, 0, 0, 0, 0, 0];
+
 const ONE: [u8; 8] = [0, 0, 0, 0, 0, 0, 0, 1];
+
 const BOUND: [u8; 8] = [64, 0, 0, 0, 0, 0, 0, 0];
+
 const ABOVE_BOUND: [u8; 8] = [64, 0, 0, 0, 0, 0, 0, 1];
 
 // shard 999
@@ -96,8 +101,22 @@ fn all_refused(alloc: Global, cases: &[(usize, u8, u8)]) -> Result<bool, AllocEr
 #[test]
 fn each_bad_field_of_a_heartbeat_is_refused(rt: HostRuntime) -> Result<(), Fail> {
     let head = [(0, 66, 2), (2, 65, 2), (3, 2, 3), (4, 0, 4), (4, 26, 4)];
-    let from = [(5, 0, 5), (5, 65, 5), (6, 32, 7), (8, 0, 7), (9, 128, 7), (16, 0, 7)];
-    let to = [(17, 0, 5), (17, 65, 5), (18, 47, 7), (20, 0, 7), (21, 128, 7), (28, 0, 7)];
+    let from = [
+        (5, 0, 5),
+        (5, 65, 5),
+        (6, 32, 7),
+        (8, 0, 7),
+        (9, 128, 7),
+        (16, 0, 7),
+    ];
+    let to = [
+        (17, 0, 5),
+        (17, 65, 5),
+        (18, 47, 7),
+        (20, 0, 7),
+        (21, 128, 7),
+        (28, 0, 7),
+    ];
     assert!(rt; all_refused(rt.alloc(), &head)?);
     assert!(rt; all_refused(rt.alloc(), &from)?);
     assert!(rt; all_refused(rt.alloc(), &to)?);

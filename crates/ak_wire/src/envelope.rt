@@ -161,7 +161,10 @@ impl Message {
             Message::ShardStopped(ballot, shard, number) => {
                 Ok(Message::ShardStopped(ballot.copy(alloc)?, *shard, *number))
             }
-            Message::Forward(entity, payload) => Ok(Message::Forward(entity.copy(alloc)?, *payload)),
+            Message::Forward(entity, payload) => Ok(Message::Forward(
+                entity.copy(alloc)?,
+                *payload,
+            )),
             Message::Leave(who) => Ok(Message::Leave(who.copy(alloc)?)),
             Message::Down(who) => Ok(Message::Down(who.copy(alloc)?)),
             Message::Offer(entity, payload) => Ok(Message::Offer(entity.copy(alloc)?, *payload)),

@@ -103,7 +103,9 @@ fn write_body(message: &Message, parts: &[Part], out: &mut Vec<u8>) -> Result<()
         Message::HostShard(ballot, shard, number) => write_placed(ballot, *shard, *number, out),
         Message::ShardStarted(ballot, shard, number) => write_placed(ballot, *shard, *number, out),
         Message::BeginHandOff(ballot, shard, number) => write_placed(ballot, *shard, *number, out),
-        Message::BeginHandOffAck(ballot, shard, number) => write_placed(ballot, *shard, *number, out),
+        Message::BeginHandOffAck(ballot, shard, number) => write_placed(
+            ballot, *shard, *number, out,
+        ),
         Message::HandOff(ballot, shard, number) => write_placed(ballot, *shard, *number, out),
         Message::ShardStopped(ballot, shard, number) => write_placed(ballot, *shard, *number, out),
         Message::Forward(entity, payload) => write_payload(entity, *payload, out),

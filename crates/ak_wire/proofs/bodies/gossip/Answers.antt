@@ -1,4 +1,4 @@
-use Rattle.std.proofs.Common.{◌≡◌, sym, ◌∙◌, subst}
+use Rattle.std.proofs.Common.{sym, ◌∙◌, subst}
 use Rattle.ak_gossip.specs.Parts.{AreParts}
 use Rattle.ak_wire.proofs.GossipFields.{read_parts, gossip_read}
 use Rattle.ak_wire.proofs.bodies.gossip.Goals as goal
