@@ -1,10 +1,9 @@
 -- What a node sends is valid: it goes to processes that the node knows or hears from, or to the address that it joins through.
-use Rattle.std.proofs.Common.{◌≡◌, ℕ, Bool, true, false, ◌&&◌, inl, inr, if◌then◌else◌, List, [], ◌∷◌, ◌++◌, map, slice_get, Option, Some, None, is_some, not, ◌+◌, Result, Ok, Err, IsTrue, Contains, refl, sym, ap, ◌∙◌, subst, true≢false, arith}
-use Rattle.std.proofs.lemmas.Option.{same_Some}
+use Rattle.std.proofs.Common.{◌≡◌, ℕ, Bool, true, false, inl, inr, if◌then◌else◌, List, [], ◌∷◌, ◌++◌, Option, Some, None, is_some, not, ◌+◌, Result, Ok, Err, IsTrue, Contains, refl, sym, ap, ◌∙◌, subst, true≢false, arith}
 use Rattle.std.specs.FinMap as finmap
 use Rattle.ak_address.specs.Changed.{keys_of}
 use Rattle.ak_address.specs.Unique.{AddressModel, UniqueModel, IsAddress, IsUnique}
-use Rattle.ak_address.specs.Uniques.{has, in_order}
+use Rattle.ak_address.specs.Uniques.{in_order}
 use Rattle.ak_address.proofs.ChangedLaws.{has-keys_of}
 use Rattle.ak_address.proofs.Elements.{contains_nothing, contains_either, contains_first, contains_rest, first_or_rest, in_map, index_of}
 use Rattle.ak_address.proofs.TableLaws.{get-empty}
@@ -40,7 +39,7 @@ use Rattle.ak_wire.proofs.Sending.{sent-append}
 use Rattle.ak_node.specs.declared.node.State.{State}
 use Rattle.ak_node.specs.declared.node.NodeEvent.{NodeEvent}
 use Rattle.ak_node.specs.declared.node.NodeEvent.TheVariants as event
-use Rattle.ak_node.specs.Node.{Outcome, known, me_of, is_member, is_gone, nothing, and_then, to_process, to_each, to_address, update_by, answer, does, does_for, unless_refused, number_of, found, join, leave, down, stop, asks_at, counted_members, exits, gossips_to, goes_on, ends, beats, ticked, tick, on_join, on_gossip, on_heartbeat, on_heard, on_confirmed, on_message, rule, closes, is_dead, running_step, step}
+use Rattle.ak_node.specs.Node.{Outcome, known, me_of, is_member, is_gone, nothing, and_then, to_process, to_each, update_by, answer, does, does_for, unless_refused, number_of, asks_at, counted_members, exits, gossips_to, goes_on, ends, beats, ticked, tick, on_message, rule, closes, is_dead, running_step, step}
 use Rattle.ak_node.specs.NodeContracts.{IsNode}
 use Rattle.ak_node.specs.Sends.{AreValid, KnowsProcesses, IsTarget, IsProcess, IsSaid}
 use Rattle.ak_node.proofs.CountedPairs.{counted_have}

@@ -1,5 +1,5 @@
 -- What a node sends has a spelling as bytes, where what it was told came from processes.
-use Rattle.std.specs.Prelude.{◌≡◌, IsTrue, List, Option, None, Some, Contains, ⊤}
+use Rattle.std.specs.Prelude.{IsTrue, List, Option, None, Some, Contains, ⊤}
 use Rattle.ak_address.specs.Unique.{AddressModel, UniqueModel, IsAddress, IsUnique}
 use Rattle.ak_gossip.specs.Gossip.{is_known}
 use Rattle.ak_wire.specs.declared.envelope.Envelope.{Envelope}
