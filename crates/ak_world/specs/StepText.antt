@@ -2,6 +2,7 @@
 use Rattle.std.specs.Prelude.{◌≡◌, ℕ, List, [], ◌∷◌, ◌++◌, length, codes, slice_get, Option, Some, None, option_and_then}
 use Rattle.std.specs.Fmt.{decimal}
 use Rattle.ak_address.specs.Spelling.{unique_text}
+use Rattle.ak_address.specs.Unique.{UniqueModel}
 use Rattle.ak_schedule.specs.Schedule.{event_text}
 use Rattle.ak_schedule.specs.declared.event.Event.{Event}
 use Rattle.ak_schedule.specs.declared.event.Event as event
@@ -17,9 +18,13 @@ use Rattle.ak_world.specs.Margin.{IsMargin}
 use Rattle.ak_schedule.specs.Settings.{SettingsModel}
 use Rattle.ak_world.specs.World.{WorldState, Done, packet_at}
 
+-- to whom a packet was given, what it is and from whom
+abbrev pub packet_text : UniqueModel → Envelope → List ℕ
+packet_text who e = item (codes "at " ++ unique_text who ++ codes " " ++ kind_text e.message ++ codes " from " ++ unique_text e.from)
+
 -- what a delivered packet was, or that it reached nobody
 abbrev pub arrival_text : Option State → Option Envelope → List ℕ
-arrival_text (Some n) (Some e) = item (codes "at " ++ unique_text (me_of n) ++ codes " " ++ kind_text e.message ++ codes " from " ++ unique_text e.from)
+arrival_text (Some n) (Some e) = packet_text (me_of n) e
 arrival_text (Some n) None = item (codes "dead")
 arrival_text None e = item (codes "dead")
 

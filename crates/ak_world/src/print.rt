@@ -10,12 +10,26 @@ ghost use Rattle.ak_world.specs.StepText as text;
 
 use crate::margin::Margin;
 use crate::world::{Step, World};
-use ak_address::print_number;
+use ak_address::{Unique, print_number};
 use ak_gossip::Gossip;
 use ak_node::Node;
 use ak_report::{print_actions, print_bytes};
 use ak_schedule::{Event, print_event};
+use ak_wire::Envelope;
 use std::alloc::{AllocError, Global};
+
+// To whom a packet was given, what it is and from whom.
+fn print_packet(who: &Unique, envelope: &Envelope, out: &mut Vec<u8>) -> Result<(), AllocError>
+    ensures { OnOk result (out.new.items ≡ out.old.items ++ text.packet_text who.now envelope.now) }
+{
+    print_bytes(b"  at ", out)?;
+    who.print_into(out)?;
+    print_bytes(b" ", out)?;
+    print_bytes(envelope.message.kind(), out)?;
+    print_bytes(b" from ", out)?;
+    envelope.from.print_into(out)?;
+    print_bytes(b"\n", out)
+}
 
 // What a delivered packet was, or that it reached nobody.
 fn print_arrival(
@@ -30,13 +44,7 @@ fn print_arrival(
 {
     if let Some(node) = node {
         if let Some(envelope) = world.envelope(alloc, number)? {
-            print_bytes(b"  at ", out)?;
-            node.me().print_into(out)?;
-            print_bytes(b" ", out)?;
-            print_bytes(envelope.message.kind(), out)?;
-            print_bytes(b" from ", out)?;
-            envelope.from.print_into(out)?;
-            return print_bytes(b"\n", out);
+            return print_packet(node.me(), &envelope, out);
         }
     }
     print_bytes(b"  dead\n", out)
