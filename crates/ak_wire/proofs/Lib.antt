@@ -6,4 +6,3 @@ pub mod DatagramFields
 pub mod Lengths
 pub mod Numbered
 pub mod Decided
-pub mod Packets

@@ -2,16 +2,16 @@ ghost use Rattle.std.specs.Prelude.{◌≡◌, IfOk};
 ghost use Rattle.ak_wire.specs.Datagram.{IsValid, Spells};
 
 use crate::envelope::Envelope;
-use crate::reading::decode;
 use crate::writing::encode;
 use std::alloc::{AllocError, Global};
 use std::marker::Model;
 
-/// A packet that was sent: the bytes of a datagram, which spell an envelope (an invariant of the type). Contracts see the
-/// envelope, so that whoever keeps packets speaks of what they say.
+/// A packet that was sent: an envelope that has a spelling as bytes (an invariant of the type). Contracts see the envelope.
+/// The bytes are made when they are asked for: a gossip in the envelope shares its tables with whoever sent it, and bytes
+/// would not.
 #[derive(Drop)]
 pub struct Packet {
-    bytes: Vec<u8>,
+    envelope: Envelope,
 }
 
 impl Model for Packet {
@@ -21,43 +21,39 @@ impl Model for Packet {
     ghost use Rattle.ak_member.specs.View.{coded_uniques};
     ghost use Rattle.ak_promise.specs.Ballot.{coded_ballot};
     ghost use Rattle.ak_wire.specs.Wire.{coded_counts};
-    ghost use Rattle.ak_wire.specs.Datagram.{Spells};
-    ghost use Rattle.ak_wire.specs.Packet.{envelope_in};
+    ghost use Rattle.ak_wire.specs.Datagram.{IsValid};
     ghost use Rattle.ak_wire.specs.declared.envelope.Envelope.{Envelope};
 
     ghost Value = { Envelope };
 
     ghost coded = { Prim.hlevel (codes, coded_address, coded_unique, coded_uniques, coded_gossip, coded_ballot, coded_counts) };
 
-    ghost view = { λ p. envelope_in p.bytes.items };
+    ghost view = { λ p. p.envelope };
 
-    ghost invariant = { λ p. Spells p.bytes.items (envelope_in p.bytes.items) };
+    ghost invariant = { λ p. IsValid p.envelope };
 }
 
 impl Packet {
-    /// The packet of a valid envelope. Only memory can fail.
+    /// The packet of a valid envelope, of which it keeps a copy. Only memory can fail.
     pub fn of(alloc: Global, envelope: &Envelope) -> Result<Packet, AllocError>
         requires { IsValid envelope.now }
         ensures { IfOk result (λ packet. packet ≡ envelope.now) }
     {
-        let bytes = encode(alloc, envelope)?;
-        Ok(Packet { bytes })
+        let envelope = envelope.copy(alloc)?;
+        Ok(Packet { envelope })
     }
 
-    /// Its bytes.
-    pub fn bytes(&self) -> &[u8]
-        ensures { Spells result.now self.now }
+    /// What it says.
+    pub fn envelope(&self) -> &Envelope
+        ensures { result.now ≡ self.now }
     {
-        &self.bytes
+        &self.envelope
     }
 
-    /// The envelope that it spells. Only memory can fail.
-    pub fn envelope(&self, alloc: Global) -> Result<Envelope, AllocError>
-        ensures { IfOk result (λ envelope. envelope ≡ self.now) }
+    /// Its bytes: the one spelling of its envelope, which `decode` reads again. Only memory can fail.
+    pub fn bytes(&self, alloc: Global) -> Result<Vec<u8>, AllocError>
+        ensures { IfOk result (λ bytes. Spells bytes.items self.now) }
     {
-        match decode(alloc, &self.bytes) {
-            Ok(envelope) => Ok(envelope),
-            Err(_) => Err(AllocError),
-        }
+        encode(alloc, &self.envelope)
     }
 }

@@ -105,7 +105,7 @@ pub record IsWorld (settings : SettingsModel) (w : WorldState) (events : List Ev
   pub is_run : spent ≡ false → w ≡ run settings events
   pub is_margin : IsMargin settings events margin
 
--- A packet is kept as bytes: they are there exactly where the packet is, and spell it.
+-- The bytes of a packet are there exactly where the packet is, and spell it.
 abbrev pub AreSpelled : Option Envelope → Option (List ℕ) → Type 0
 AreSpelled None None = ⊤
 AreSpelled (Some e) (Some bytes) = Spells bytes e

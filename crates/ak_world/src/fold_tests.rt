@@ -62,7 +62,7 @@ fn folds(alloc: Global, world: &World) -> Result<bool, AllocError> {
         }
     }
     for number in 1..20 {
-        if let Some(envelope) = world.envelope(alloc, number)? {
+        if let Some(envelope) = world.envelope(number) {
             if let Message::Welcome(gossip) | Message::Gossip(gossip) = &envelope.message {
                 let view = world.history().view(alloc, gossip.version())?;
                 if !same(&view, gossip) {

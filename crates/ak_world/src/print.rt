@@ -33,7 +33,6 @@ fn print_packet(who: &Unique, envelope: &Envelope, out: &mut Vec<u8>) -> Result<
 
 // What a delivered packet was, or that it reached nobody.
 fn print_arrival(
-    alloc: Global,
     world: &World,
     number: u64,
     node: Option<&Node>,
@@ -43,8 +42,8 @@ fn print_arrival(
         ≡ out.old.items ++ text.arrival_text (option_map (λ n. n.now.state) node.entry) (packet_at world.now.state number)) }
 {
     if let Some(node) = node {
-        if let Some(envelope) = world.envelope(alloc, number)? {
-            return print_packet(node.me(), &envelope, out);
+        if let Some(envelope) = world.envelope(number) {
+            return print_packet(node.me(), envelope, out);
         }
     }
     print_bytes(b"  dead\n", out)
@@ -76,14 +75,13 @@ pub fn print_step(
     let mut text = Vec::new(alloc);
     let node = acting(world, step);
     print_head(step_number, event, &mut text)?;
-    print_delivery(alloc, world, event, node, &mut text)?;
+    print_delivery(world, event, node, &mut text)?;
     print_done(alloc, node, step, &mut text)?;
     print_bytes(&text, out)
 }
 
 // What arrived, where the event is a delivery.
 fn print_delivery(
-    alloc: Global,
     world: &World,
     event: &Event,
     node: Option<&Node>,
@@ -93,7 +91,7 @@ fn print_delivery(
         ≡ out.old.items ++ text.delivery_text event.now world.now.state (option_map (λ n. n.now.state) node.entry)) }
 {
     match event {
-        Event::Deliver(number) => print_arrival(alloc, world, *number, node, out),
+        Event::Deliver(number) => print_arrival(world, *number, node, out),
         _ => Ok(()),
     }
 }

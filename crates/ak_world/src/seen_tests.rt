@@ -48,21 +48,17 @@ fn nodes_tell_the_truth(past: &[Holding], world: &World) -> bool {
     true
 }
 
-fn packets_tell_the_truth(
-    alloc: Global,
-    past: &[Holding],
-    world: &World,
-) -> Result<bool, AllocError> {
+fn packets_tell_the_truth(past: &[Holding], world: &World) -> bool {
     for number in 1..20 {
-        if let Some(envelope) = world.envelope(alloc, number)? {
+        if let Some(envelope) = world.envelope(number) {
             if let Message::Welcome(gossip) | Message::Gossip(gossip) = &envelope.message {
                 if !all_held(past, gossip.seen(), gossip.version()) {
-                    return Ok(false);
+                    return false;
                 }
             }
         }
     }
-    Ok(true)
+    true
 }
 
 // Each node holds what it knows now.
@@ -97,9 +93,7 @@ fn seen_after(alloc: Global, lines: &[&str]) -> Result<[usize; 3], Fail>
     'lines: for line in lines {
         apply_line(alloc, &mut world, *line)?;
         hold(alloc, &world, &mut past)?;
-        if !nodes_tell_the_truth(&past, &world)
-            || !packets_tell_the_truth(alloc, &past, &world)?
-        {
+        if !nodes_tell_the_truth(&past, &world) || !packets_tell_the_truth(&past, &world) {
             return Err("a process in a seen set did not hold the version")?;
         }
     }

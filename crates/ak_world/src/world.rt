@@ -287,14 +287,14 @@ impl Scene {
         if is_full {
             return Err(Refused::Invalid(Reason::TooManyPackets));
         }
-        let envelope = packet.envelope(alloc)?;
-        let Some(index) = receiver_of(&self.nodes, &envelope) else {
+        let Some(index) = receiver_of(&self.nodes, packet.envelope()) else {
             return Ok(Step {
                 node: None,
                 first_packet: self.next_packet(),
                 actions: Actions::empty(alloc),
             });
         };
+        let envelope = packet.envelope().copy(alloc)?;
         self.give(alloc, index, NodeEvent::Packet(envelope))
     }
 
@@ -426,7 +426,7 @@ fn number_of(index: usize) -> Option<u32>
     u32::try_from(index).ok()
 }
 
-// What the actions send is kept, each packet once, as bytes.
+// What the actions send is kept, each packet once.
 fn keep_packets(
     alloc: Global,
     actions: &[Action],
@@ -645,22 +645,23 @@ impl World {
         self.scene.packets.len() as u64
     }
 
-    /// The bytes of the packet of a number from 1 on, which spell its envelope, and None exactly where no packet has it.
-    pub fn packet(&self, number: u64) -> Option<&[u8]>
-        ensures { AreSpelled (rules.packet_at self.now.state number) (option_copied result) }
+    /// What the packet of a number from 1 on says, and None exactly where no packet has it.
+    pub fn envelope(&self, number: u64) -> Option<&Envelope>
+        ensures { option_copied result ≡ rules.packet_at self.now.state number }
     {
         match packet_at(&self.scene.packets, number) {
-            Some(packet) => Some(packet.bytes()),
+            Some(packet) => Some(packet.envelope()),
             None => None,
         }
     }
 
-    /// The envelope of the packet of a number from 1 on, and None exactly where no packet has it. Only memory can fail.
-    pub fn envelope(&self, alloc: Global, number: u64) -> Result<Option<Envelope>, AllocError>
-        ensures { IfOk result (λ envelope. envelope ≡ rules.packet_at self.now.state number) }
+    /// The bytes of the packet of a number from 1 on, which spell what it says, and None exactly where no packet has it. Only
+    /// memory can fail.
+    pub fn packet(&self, alloc: Global, number: u64) -> Result<Option<Vec<u8>>, AllocError>
+        ensures { IfOk result (λ bytes. AreSpelled (rules.packet_at self.now.state number) (option_map (λ v. v.items) bytes)) }
     {
         match packet_at(&self.scene.packets, number) {
-            Some(packet) => Ok(Some(packet.envelope(alloc)?)),
+            Some(packet) => Ok(Some(packet.bytes(alloc)?)),
             None => Ok(None),
         }
     }
