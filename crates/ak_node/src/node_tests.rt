@@ -161,25 +161,33 @@ fn is_refusal(actions: &Actions, code: u8) -> bool {
     }
 }
 
-fn is_answer_with_view(actions: &Actions) -> bool {
-    match actions.as_slice() {
-        [Action::Send(_), Action::View] => true,
+fn is_send(action: Option<&Action>) -> bool {
+    matches!(action, Some(Action::Send(_)))
+}
+
+fn is_view(action: Option<&Action>) -> bool {
+    matches!(action, Some(Action::View))
+}
+
+// The first update of a node.
+fn is_first(action: Option<&Action>) -> bool {
+    match action {
+        Some(Action::Update(number, _)) => *number == 1,
         _ => false,
     }
+}
+
+fn is_answer_with_view(actions: &Actions) -> bool {
+    actions.len() == 2 && is_send(actions.at(0)) && is_view(actions.at(1))
 }
 
 fn is_founding(actions: &Actions) -> bool {
-    match actions.as_slice() {
-        [Action::Update(number, _), Action::View] => *number == 1,
-        _ => false,
-    }
+    actions.len() == 2 && is_first(actions.at(0)) && is_view(actions.at(1))
 }
 
 fn is_admission(actions: &Actions) -> bool {
-    match actions.as_slice() {
-        [Action::Update(number, _), Action::Send(_), Action::View] => *number == 1,
-        _ => false,
-    }
+    let starts = actions.len() == 3 && is_first(actions.at(0));
+    starts && is_send(actions.at(1)) && is_view(actions.at(2))
 }
 
 // From one process to exactly the other.
