@@ -1,8 +1,9 @@
 -- What is found in a list of pairs in order, at the index of a key and in two lists that are woven.
 use Rattle.std.proofs.Common.{◌≡◌, ℕ, zero, suc, ◌+◌, ◌<◌, ◌≤◌, Bool, true, false, not, cond, ◌&&◌, T, List, [], ◌∷◌, ◌++◌, length, drop, set, insert, remove, get_or, slice_get, Option, Some, None, is_some, unwrap_or, ◌≢◌, option_map, Result, Ok, Err, MatchResult, ◌⊎◌, inl, inr, drop_of_length-le, append-nil, refl, sym, ap, ◌∙◌, subst, arith}
+use Rattle.std.proofs.lemmas.Option.{slice_get_within}
 use Rattle.std.specs.declared.cmp.Ordering.{Ordering}
 use Rattle.std.specs.declared.cmp.Ordering.TheVariants.{Less, Equal, Greater}
-use Rattle.std.specs.Ordering.{is_lt, is_eq, ordering_reverse, eq_by_cmp}
+use Rattle.std.specs.Ordering.{is_lt, is_gt, is_eq, ordering_reverse, eq_by_cmp}
 use Rattle.std.specs.Cmp.{IsTotalOrder, alike_right, tied_itself}
 use Rattle.std.specs.FinMap.{IsAntisymmetric, find, put, is_sorted}
 use Rattle.std.specs.FinMap.Entries.{by_order, below_all, where_key}
@@ -49,8 +50,13 @@ is_neither Less a b e f g h = absurd (subst T (sym g ∙ h) tt)
 is_neither Equal a b e f g h = absurd (subst T (sym e ∙ f) tt)
 is_neither Greater a b e f g h = refl
 
+pub is_greater : (o : Ordering) (b : Bool) → b ≡ is_gt o → b ≡ true → o ≡ Greater
+is_greater Less b e t = absurd (subst T (sym t ∙ e) tt)
+is_greater Equal b e t = absurd (subst T (sym t ∙ e) tt)
+is_greater Greater b e t = refl
+
 -- ---- indices
-before_or : (i m : ℕ) → i ≤ m → (i < m) ⊎ (i ≡ m)
+pub before_or : (i m : ℕ) → i ≤ m → (i < m) ⊎ (i ≡ m)
 before_or zero zero le = inr refl
 before_or zero (suc m) le = inl (omega arith)
 before_or (suc i) zero le = absurd (omega arith)
@@ -215,6 +221,14 @@ module _ {K X : Type 0} (R : K → K → Ordering) where
 
       pub above_before : R q e.0 ≡ Equal → IsAboveBefore es m
       above_before tied i d lt is = o.congr q e.0 d.0 tied ∙ o.antisymm e.0 d.0 ∙ ap ordering_reverse (rises o es i m d e h lt is at)
+
+      -- a key above the last pair
+      pub index_past : m + 1 ≡ length es → R q e.0 ≡ Greater → index R q es ≡ Err (length es)
+      index_past last above =
+          index_between es (length es) (omega arith) (λ i d lt is. above_up_to above i d (omega (arith, last, lt)) is) (λ i d le is. absurd (no_later i d le is))
+        where
+          no_later : (i : ℕ) (d : K × X) → length es ≤ i → slice_get es i ≡ Some d → ⊥
+          no_later i d le is = let within = slice_get_within es i d is in omega (arith, le, within)
 
   -- what is found stands at some index, where only equal keys tie
   pub index_of_found : IsAntisymmetric R → (q : K) (v : X) (es : List (K × X)) → find R q es ≡ Some v → (i : ℕ) × (slice_get es i ≡ Some (q, v))

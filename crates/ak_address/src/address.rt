@@ -1,4 +1,5 @@
-ghost use Rattle.std.specs.Prelude.{◌≡◌, ◌++◌, IfOk, OnOk, OnErr, option_copied};
+ghost use Rattle.std.specs.Prelude.{◌≡◌, ◌↔◌, ◌++◌, IfOk, OnOk, OnErr, IsTrue, option_copied};
+ghost use Rattle.std.specs.Ordering.{is_eq};
 ghost use Rattle.ak_address.specs.Unique.{address_cmp, unique_cmp};
 ghost use Rattle.ak_address.specs.Distinct.{is_at_address};
 ghost use Rattle.ak_address.specs.Spelling.{address_text, unique_text};
@@ -40,6 +41,14 @@ impl Address {
             return self.port.cmp(&other.port);
         }
         hosts
+    }
+
+    /// Whether both are the same address. It is told sooner than their order. Takes no memory.
+    pub fn is(&self, other: &Address) -> bool
+        ensures value { result ≡ is_eq (address_cmp self.now other.now) }
+        ensures meaning { IsTrue result ↔ self.now ≡ other.now }
+    {
+        self.port == other.port && self.host.bytes() == other.host.bytes()
     }
 
     /// An equal address. Only memory can fail.
@@ -92,6 +101,14 @@ impl Unique {
         addresses
     }
 
+    /// Whether both are the same process. It is told sooner than their order. Takes no memory.
+    pub fn is(&self, other: &Unique) -> bool
+        ensures value { result ≡ is_eq (unique_cmp self.now other.now) }
+        ensures meaning { IsTrue result ↔ self.now ≡ other.now }
+    {
+        self.uid == other.uid && self.address.is(&other.address)
+    }
+
     /// An equal unique. Only memory can fail.
     pub fn copy(&self, alloc: Global) -> Result<Unique, AllocError>
         ensures { IfOk result (λ copy. copy ≡ self.now) }
@@ -115,7 +132,7 @@ pub fn shares_address(first: Option<&Unique>, second: &Unique) -> bool
     ensures { result ≡ is_at_address (option_copied first.entry) second.now }
 {
     match first {
-        Some(first) => first.address.compare(&second.address).is_eq(),
+        Some(first) => first.address.is(&second.address),
         None => false,
     }
 }

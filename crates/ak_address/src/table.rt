@@ -1,4 +1,4 @@
-ghost use Rattle.std.specs.Prelude.{◌≡◌, ℕ, IfOk, OnOk, OnErr, IsOk, IsSome, IsTrue, [], ◌∷◌, ◌++◌, slice_get, option_map, option_copied, if◌then◌else◌};
+ghost use Rattle.std.specs.Prelude.{◌≡◌, ℕ, IfOk, OnOk, OnErr, IsOk, IsSome, IsTrue, Err, [], ◌∷◌, ◌++◌, length, slice_get, option_map, option_copied, if◌then◌else◌};
 ghost use Rattle.std.specs.Prelude as list;
 ghost use Rattle.std.specs.FinMap as map;
 ghost use Rattle.ak_address.specs.Unique.{UniqueModel, unique_cmp};
@@ -173,11 +173,15 @@ impl<V: Merge + Drop> Table<V> {
     }
 }
 
-// Where the process stands, or as an error where it would go: a search by halves.
+// Where the process stands, or as an error where it would go: at the end, where whoever adds processes in their order
+// is answered at once, or where a search by halves finds it.
 fn index_of<V>(entries: &[(Unique, V)], who: &Unique) -> Result<usize, usize>
     requires { IsTrue (map.is_sorted unique_cmp entries.now) }
     ensures { result ≡ index unique_cmp who.now entries.now }
 {
+    if is_past(entries, who) {
+        return Err(entries.len());
+    }
     let mut low = 0;
     let mut high = entries.len();
     'halves: while low < high {
@@ -193,6 +197,18 @@ fn index_of<V>(entries: &[(Unique, V)], who: &Unique) -> Result<usize, usize>
         }
     }
     Err(low)
+}
+
+// Whether the process comes after all that stand here.
+fn is_past<V>(entries: &[(Unique, V)], who: &Unique) -> bool
+    requires { IsTrue (map.is_sorted unique_cmp entries.now) }
+    ensures { IsTrue result → index unique_cmp who.now entries.now ≡ Err (length entries.now) }
+{
+    let many = entries.len();
+    if many == 0 {
+        return true;
+    }
+    who.compare(&entries[many - 1].0).is_gt()
 }
 
 // The value of the process.

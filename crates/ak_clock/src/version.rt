@@ -103,6 +103,9 @@ impl Version {
         ensures value { result ≡ relation self.now other.now }
         ensures meaning { Relates result self.now other.now }
     {
+        if is_same(&self.counts, &other.counts) {
+            return Relation::Same;
+        }
         let covers = reaches(&self.counts, &other.counts);
         let is_covered = reaches(&other.counts, &self.counts);
         relation_by(covers, is_covered)
@@ -179,16 +182,41 @@ fn reaches(counts: &Table<u64>, others: &Table<u64>) -> bool
         let Some((mine, n)) = counts.at(i) else {
             return false;
         };
-        let order = mine.compare(who);
-        if order.is_gt() {
-            return false;
-        }
-        if order.is_eq() {
+        if mine.is(who) {
             if *n < *least {
                 return false;
             }
             j += 1;
+        } else if mine.compare(who).is_gt() {
+            return false;
         }
     }
     others.at(j).is_none()
+}
+
+// Whether both have the same processes with the same counts. Most versions that meet do, and it is told sooner than which
+// covers which.
+fn is_same(counts: &Table<u64>, others: &Table<u64>) -> bool
+    ensures { IsTrue result → counts.now ≡ others.now }
+{
+    let many = counts.len();
+    if others.len() != many {
+        return false;
+    }
+    'pairs: for index in 0..many {
+        if !is_same_at(counts, others, index) {
+            return false;
+        }
+    }
+    true
+}
+
+// The same stands at an index of both.
+fn is_same_at(counts: &Table<u64>, others: &Table<u64>, index: usize) -> bool
+    ensures { IsTrue result → slice_get (map.entries counts.now) index ≡ slice_get (map.entries others.now) index }
+{
+    match (counts.at(index), others.at(index)) {
+        (Some((who, n)), Some((other, m))) => *n == *m && who.is(other),
+        _ => false,
+    }
 }

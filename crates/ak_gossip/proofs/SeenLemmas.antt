@@ -122,6 +122,16 @@ added_all before others seen test h = same_uniques seen (union before (those oth
     ∙ ap (λ a. has before q || a) (sym (has-those others test q))
     ∙ sym (has-union before (those others test) q))
 
+-- where all others are there already, none is added
+pub among_all : (seen others : UniqueSet) → ((who : UniqueModel) → has others who ≡ true → has seen who ≡ true) → (test : UniqueModel → Bool) → seen ≡ union seen (those others test)
+among_all seen others all test = same_uniques seen (union seen (those others test)) (λ q.
+    nothing_new (has seen q) (has others q) (test q) (all q) ∙ ap (λ a. has seen q || a) (sym (has-those others test q)) ∙ sym (has-union seen (those others test) q))
+  where
+    nothing_new : (there other passes : Bool) → (other ≡ true → there ≡ true) → there ≡ (there || (other && passes))
+    nothing_new true other passes is = refl
+    nothing_new false true passes is = absurd (true≢false (sym (is refl)))
+    nothing_new false false passes is = refl
+
 -- ---- indices of a set
 pub not_none : {X : Type 0} (xs : List X) (i : ℕ) → i < length xs → slice_get xs i ≡ None → ⊥
 not_none [] i lt none = omega arith

@@ -1,5 +1,6 @@
-ghost use Rattle.std.specs.Prelude.{◌≡◌, ◌+◌, ◌≤◌, if◌then◌else◌, IfOk, OnOk, OnErr, IsFalse, IsTrue};
+ghost use Rattle.std.specs.Prelude.{◌≡◌, ◌+◌, ◌≤◌, if◌then◌else◌, Some, option_copied, IfOk, OnOk, OnErr, IsFalse, IsTrue};
 ghost use Rattle.std.specs.FinMap as map;
+ghost use Rattle.ak_address.specs.Unique.{UniqueModel};
 ghost use Rattle.ak_address.specs.Uniques.{has, with_one, those, union};
 ghost use Rattle.ak_clock.specs.Version.{count};
 ghost use Rattle.ak_member.specs.Standing.{is_member, merged_standings};
@@ -209,9 +210,8 @@ impl Gossip {
     fn is_seen(&self, me: &Unique, incoming: &Gossip) -> bool
         ensures { IsTrue result → self.now ≡ seen_by me.now (same self.now incoming.now) }
     {
-        let members = self.known.members();
         let seen = self.known.seen();
-        has_members(incoming.known.seen(), members, seen) && has_member(me, members, seen)
+        are_among(incoming.known.seen(), seen) && has_member(me, self.known.members(), seen)
     }
 
     // What came replaces what was known.
@@ -329,18 +329,27 @@ fn has_member(who: &Unique, members: &Members, seen: &Uniques) -> bool
     members.get(who).is_none()
 }
 
-// Whether those are there that are members.
-fn has_members(others: &Uniques, members: &Members, seen: &Uniques) -> bool
-    ensures { IsTrue result → seen.now ≡ union seen.now (those others.now (is_member members.now)) }
+// Whether all of these are among those: one walk along both.
+fn are_among(others: &Uniques, seen: &Uniques) -> bool
+    ensures { IsTrue result → (who : UniqueModel) → IsTrue (has others.now who) → IsTrue (has seen.now who) }
 {
-    'others: for index in 0..others.len() {
-        if let Some(who) = others.at(index) {
-            if !has_member(who, members, seen) {
-                return false;
-            }
+    let mut found = 0;
+    'seen: for index in 0..seen.len() {
+        if is_the_same(others.at(found), seen.at(index)) {
+            found += 1;
         }
     }
-    true
+    found >= others.len()
+}
+
+// Whether both are there and the same process.
+fn is_the_same(one: Option<&Unique>, other: Option<&Unique>) -> bool
+    ensures { IsTrue result → (who : UniqueModel) → option_copied one.entry ≡ Some who → option_copied other.entry ≡ Some who }
+{
+    match (one, other) {
+        (Some(one), Some(other)) => one.is(other),
+        _ => false,
+    }
 }
 
 // Adds a process that is a member.
