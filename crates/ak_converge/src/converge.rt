@@ -28,10 +28,10 @@ pub fn settled_by(quorum: u32, members: &Members, rows: &Rows, seen: &Uniques) -
     ensures value { result ≡ is_settled quorum (record { standings = members.now; rows = rows.now }) seen.now }
     ensures meaning { IsTrue result ↔ (IsConverged (record { standings = members.now; rows = rows.now }) seen.now × (quorum ≤ distinct (counted_addresses members.now))) }
 {
-    if converged(members, rows, seen) {
-        return quorum <= members.counted();
+    if quorum > members.counted() {
+        return false;
     }
-    false
+    converged(members, rows, seen)
 }
 
 fn all_agree(members: &Members, rows: &Rows, seen: &Uniques) -> bool

@@ -56,7 +56,7 @@ fn beside_at_pair<'a>(
 pub(crate) fn is_beside(members: &Members, rows: &Rows, me: &Unique, who: &Unique) -> bool
     ensures { result ≡ is_beside (unreachable_members (seen_with members.now rows.now)) me.now who.now }
 {
-    who.compare(me).is_eq() || !is_unreachable(members, rows, who)
+    who.is(me) || !is_unreachable(members, rows, who)
 }
 
 // How many counted members are on the side of the node, and how many are not.

@@ -1,6 +1,7 @@
 -- Entries and their numbers, and which entries versions cover.
-use Rattle.std.proofs.Common.{◌≡◌, ◌≢◌, ℕ, ◌+◌, ◌≤◌, ◌<◌, max, leb, Bool, true, false, ◌||◌, if◌then◌else◌, inl, inr, List, [], ◌∷◌, ◌++◌, Contains, refl, sym, ap, ◌∙◌, subst, arith, le-leb}
+use Rattle.std.proofs.Common.{◌≡◌, ◌≢◌, ℕ, ◌+◌, ◌≤◌, ◌<◌, max, leb, Bool, true, false, ◌||◌, if◌then◌else◌, inl, inr, List, [], ◌∷◌, ◌++◌, length, reverse, take, drop, get_or, Contains, refl, sym, ap, ◌∙◌, subst, arith, le-leb}
 use Rattle.std.proofs.lemmas.Bool.{leb-true, leb-false, lt-leb}
+use Rattle.std.proofs.lemmas.List.{reverse-append, take_more, take-append-drop}
 use Rattle.std.specs.Ordering.{is_eq}
 use Rattle.ak_address.specs.Unique.{UniqueModel, unique_cmp}
 use Rattle.ak_address.proofs.TableLaws.{key_itself, other_key, same_or_apart}
@@ -32,6 +33,36 @@ entries-prefix (e ∷ more) history u = let rest = entries-prefix more history u
 pub numbered-rest : (more history : List Entry) → IsNumbered (more ++ history) → IsNumbered history
 numbered-rest [] history numbered = numbered
 numbered-rest (e ∷ more) history numbered = numbered-rest more history numbered.1
+
+-- ---- a list of entries that has the newest last
+numbered-take : (entries : List Entry) (n : ℕ) → IsNumbered (reverse entries) → IsNumbered (reverse (take n entries))
+numbered-take entries n numbered =
+    numbered-rest (reverse (drop n entries)) (reverse (take n entries)) (subst IsNumbered (ap reverse (sym (take-append-drop n entries)) ∙ reverse-append (take n entries) (drop n entries)) numbered)
+
+module _ (entries : List Entry) (n : ℕ) (e : Entry) (lt : n < length entries) (at : e ≡ get_or entries n e) where
+  newest_first : reverse (take (n + 1) entries) ≡ e ∷ reverse (take n entries)
+  newest_first = ap reverse (take_more entries n e lt) ∙ reverse-append (take n entries) (get_or entries n e ∷ []) ∙ ap (λ x. x ∷ reverse (take n entries)) (sym at)
+
+  -- the number of an entry is how many its author had with it
+  pub number-newest : IsNumbered (reverse entries) → e.number ≡ entries_of e.author (reverse (take (n + 1) entries))
+  number-newest numbered =
+      let here : IsNumbered (e ∷ reverse (take n entries)) = subst IsNumbered newest_first (numbered-take entries (n + 1) numbered) in
+      here.0 ∙ sym (entries-author e (reverse (take n entries))) ∙ ap (entries_of e.author) (sym newest_first)
+
+  -- an entry of somebody else counts for nothing
+  pub entries-without : (author : UniqueModel) → is_eq (unique_cmp author e.author) ≡ false → entries_of author (reverse (take n entries)) ≡ entries_of author (reverse (take (n + 1) entries))
+  entries-without author other =
+      let rest = reverse (take n entries) in
+      sym (ap (λ b. if b then entries_of author rest + 1 else entries_of author rest) other) ∙ ap (entries_of author) (sym newest_first)
+
+most-if : (b : Bool) (k n : ℕ) → k ≤ n → (if b then k + 1 else k) ≤ n + 1
+most-if true k n le = omega arith
+most-if false k n le = omega arith
+
+-- an author has at most all entries
+pub entries-most : (history : List Entry) (u : UniqueModel) → entries_of u history ≤ length history
+entries-most [] u = omega arith
+entries-most (e ∷ history) u = let rest = most-if (is_eq (unique_cmp u e.author)) (entries_of u history) (length history) (entries-most history u) in omega (arith, rest)
 
 -- an entry's number is from 1 to how many entries its author has
 pub record InRange (history : List Entry) (e : Entry) : Type 0 where

@@ -1,7 +1,7 @@
 ghost use Rattle.std.specs.Prelude.{◌≡◌, ◌+◌, ◌≤◌, [], ◌∷◌, reverse, length, slice_get, IfOk, OnOk, OnErr};
 ghost use Rattle.std.specs.Option.{option_copied};
 ghost use Rattle.ak_member.specs.View.{observed};
-ghost use Rattle.ak_history.specs.History.{entries_of, view};
+ghost use Rattle.ak_history.specs.History.{IsNumbered, entries_of, view};
 ghost use Rattle.ak_history.specs.Walk.{with_observed, with_entry, with_covered, with_all_covered};
 
 use crate::entry::Entry;
@@ -59,7 +59,7 @@ impl History {
         ensures err { OnErr result (self.new ≡ self.old) }
     {
         let author = author.copy(alloc)?;
-        let number = count_of(&self.list, &author) + 1;
+        let number = last_number(&self.list, &author) + 1;
         self.list.push(Entry {
             author,
             number,
@@ -90,18 +90,21 @@ impl History {
     }
 }
 
-// How many entries the author has.
-fn count_of(entries: &[Entry], author: &Unique) -> u64
-    ensures count { result ≡ entries_of author.now (reverse entries.now) }
+// The number of the author's newest entry, 0 where it has none. The walk begins at the newest entry, so whoever made one lately
+// is found soon.
+fn last_number(entries: &[Entry], author: &Unique) -> u64
+    requires { IsNumbered (reverse entries.now) }
+    ensures last { result ≡ entries_of author.now (reverse entries.now) }
     ensures bounded { result ≤ length entries.now }
 {
-    let mut count = 0;
-    'entries: for entry in entries {
-        if author.compare(&entry.author).is_eq() {
-            count += 1;
+    let many = entries.len();
+    'entries: for back in 0..many {
+        let entry = &entries[many - 1 - back];
+        if author.is(&entry.author) {
+            return entry.number;
         }
     }
-    count
+    0
 }
 
 // Sets the author's row where its entry observes.

@@ -21,7 +21,7 @@ use Rattle.ak_gossip.specs.GossipContracts as gossip
 use Rattle.ak_membership.specs.declared.state.MembershipState.{MembershipState}
 use Rattle.ak_membership.specs.MembershipContracts.{Receives}
 use Rattle.ak_membership.specs.Membership.{knowing}
-use Rattle.ak_membership.specs.Sight.{sight, is_same_reach, is_same_sight, is_otherwise, has_moved}
+use Rattle.ak_membership.specs.Sight.{sight, is_same_reach, is_same_sight, is_otherwise, has_moved, is_news}
 
 -- ---- the same sight
 pub or_false : (b : Bool) → (b || false) ≡ b
@@ -64,27 +64,17 @@ module _ (me : UniqueModel) (own incoming : GossipState) where
       by_case true = refl
       by_case false = refl
 
-  -- the view stays, unless the gossip is newer, or each knows what the other does not
-  abbrev Stays : Relation → Type 0
-  Stays clock.Same = Unit {0}
-  Stays clock.Before = ⊥
-  Stays clock.After = Unit {0}
-  Stays clock.Concurrent = ⊥
-
-  view_stays : (r : Relation) → Stays r → (noted me (accepted r own incoming)).1.view ≡ own.view
+  -- the view stays, unless what came is news
+  view_stays : (r : Relation) → is_news (noted me (accepted r own incoming)).0 ≡ false → (noted me (accepted r own incoming)).1.view ≡ own.view
   view_stays clock.Same is = seen_view (same own incoming)
-  view_stays clock.Before is = absurd is
+  view_stays clock.Before is = absurd (true≢false is)
   view_stays clock.After is = refl
-  view_stays clock.Concurrent is = absurd is
+  view_stays clock.Concurrent is = absurd (true≢false is)
 
-  pub replaced_view : relation own.version incoming.version ≡ clock.Before → (r : Received × GossipState) → receive me own incoming ≡ Ok r → r.1.view ≡ incoming.view
-  replaced_view before r is = ap (λ (x : Received × GossipState). x.1.view) (sym (received_is r is)) ∙ ap (λ rel. (noted me (accepted rel own incoming)).1.view) before ∙ seen_view incoming
-
-  pub same_view : relation own.version incoming.version ≡ clock.Same → (r : Received × GossipState) → receive me own incoming ≡ Ok r → r.1.view ≡ own.view
-  same_view same r is = ap (λ (x : Received × GossipState). x.1.view) (sym (received_is r is)) ∙ ap (λ rel. (noted me (accepted rel own incoming)).1.view) same ∙ view_stays clock.Same tt
-
-  pub older_view : relation own.version incoming.version ≡ clock.After → (r : Received × GossipState) → receive me own incoming ≡ Ok r → r.1.view ≡ own.view
-  older_view after r is = ap (λ (x : Received × GossipState). x.1.view) (sym (received_is r is)) ∙ ap (λ rel. (noted me (accepted rel own incoming)).1.view) after ∙ view_stays clock.After tt
+  pub no_news : (r : Received × GossipState) → receive me own incoming ≡ Ok r → is_news r.0 ≡ false → r.1.view ≡ own.view
+  no_news r is none =
+      let here = received_is r is in
+      ap (λ (x : Received × GossipState). x.1.view) (sym here) ∙ view_stays (relation own.version incoming.version) (ap (λ (x : Received × GossipState). is_news x.0) here ∙ none)
 
 -- what a membership knows whose view stays, or is this one
 pub still_knowing : (m : MembershipState) (g : GossipState) → g.view ≡ m.gossip.view → record m { gossip = g } ≡ knowing g m
@@ -92,9 +82,6 @@ still_knowing m g same = λ i. record m { gossip = g; moved = moved_is i }
   where
     moved_is : m.moved ≡ (m.moved || has_moved m.gossip.view g.view)
     moved_is = sym (ap (λ b. m.moved || b) (stays_still m.gossip.view g.view same) ∙ or_false m.moved)
-
-pub knowing_by : (m : MembershipState) (g : GossipState) (v : View) (moved : Bool) → g.view ≡ v → moved ≡ (m.moved || has_moved m.gossip.view v) → record m { gossip = g; moved = moved } ≡ knowing g m
-knowing_by m g v moved same is = λ i. record m { gossip = g; moved = (is ∙ ap (λ w. m.moved || has_moved m.gossip.view w) (sym same)) i }
 
 -- ---- what accepting a gossip answered and left
 module _ (incoming : GossipState) (m : MembershipState) (after : GossipState) where
@@ -106,12 +93,12 @@ module _ (incoming : GossipState) (m : MembershipState) (after : GossipState) wh
   received_not (faults.TooManyUniques union) is = (is.0, as_it_was is.1)
   received_not faults.NoMemory is = as_it_was is
 
-  received_as : ((r : Received × GossipState) → receive m.me m.gossip incoming ≡ Ok r → r.1.view ≡ m.gossip.view) → (result : Result Received GossipFault) → gossip.Receives m.me m.gossip incoming result after → Receives incoming m result (record m { gossip = after })
-  received_as view (Ok received) is = (after, is, still_knowing m after (view (received, after) is))
-  received_as view (Err fault) is = received_not fault is
+  -- what came moves nothing
+  pub received_no_news : (received : Received) → is_news received ≡ false → gossip.Receives m.me m.gossip incoming (Ok received) after → Receives incoming m (Ok received) (record m { gossip = after })
+  received_no_news received none is = (after, is, still_knowing m after (no_news m.me m.gossip incoming (received, after) is none))
 
-  pub received_same : relation m.gossip.version incoming.version ≡ clock.Same → (result : Result Received GossipFault) → gossip.Receives m.me m.gossip incoming result after → Receives incoming m result (record m { gossip = after })
-  received_same same result is = received_as (same_view m.me m.gossip incoming same) result is
-
-  pub received_older : relation m.gossip.version incoming.version ≡ clock.After → (result : Result Received GossipFault) → gossip.Receives m.me m.gossip incoming result after → Receives incoming m result (record m { gossip = after })
-  received_older older result is = received_as (older_view m.me m.gossip incoming older) result is
+  -- what moves is asked
+  pub received_news : (received : Received) (before : GossipState) (moved : Bool) → before ≡ m.gossip → moved ≡ (m.moved || has_moved before.view after.view) → gossip.Receives m.me m.gossip incoming (Ok received) after
+      → Receives incoming m (Ok received) (record m { gossip = after; moved = moved })
+  received_news received before moved same asked is =
+      (after, is, λ i. record m { gossip = after; moved = (asked ∙ ap (λ (g : GossipState). m.moved || has_moved g.view after.view) same) i })

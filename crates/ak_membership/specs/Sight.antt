@@ -9,6 +9,8 @@ use Rattle.ak_member.specs.declared.status.Status.{Status}
 use Rattle.ak_member.specs.Standing.{member_of, members_of, rank}
 use Rattle.ak_member.specs.View.{View}
 use Rattle.ak_reach.specs.Unreachable.{unreachable_members}
+use Rattle.ak_gossip.specs.declared.gossip.Received.{Received}
+use Rattle.ak_gossip.specs.declared.gossip.Received.TheVariants.{Same, Newer, Older, Merged}
 
 -- of a process that is no member nothing
 abbrev pub sight : View → UniqueModel → Option (Status × Bool)
@@ -34,3 +36,10 @@ shows_otherwise v w = list_any (λ m. is_otherwise v w m.0) (members_of v.standi
 -- a view moved, from one to another: they do not show the same members, each the same
 abbrev pub has_moved : View → View → Bool
 has_moved v w = shows_otherwise v w || shows_otherwise w v
+
+-- a gossip that was received so may show other members than those that were known
+abbrev pub is_news : Received → Bool
+is_news Same = false
+is_news Newer = true
+is_news Older = false
+is_news Merged = true

@@ -41,7 +41,7 @@ fn is_lost_at(members: &Members, rows: &Rows, me: &Unique, pair: usize) -> bool
 {
     match members.member_at_pair(pair) {
         Some(member) => {
-            !member.unique.compare(me).is_eq()
+            !member.unique.is(me)
                 && is_unreachable(members, rows, member.unique)
                 && !member.status.is_down()
         }

@@ -56,7 +56,7 @@ pub(crate) fn is_joining(members: &Members, who: &Unique) -> bool
 fn is_beside(who: &Unique, other: &Unique) -> bool
     ensures { result ≡ rules.is_beside who.now other.now }
 {
-    other.address.compare(&who.address).is_eq()
+    other.address.is(&who.address)
 }
 
 // At a pair stands a member at the address of this process.

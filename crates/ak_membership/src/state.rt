@@ -1,7 +1,6 @@
 ghost use Rattle.std.specs.Prelude.{◌≡◌, ◌<◌, ◌^◌, nat_le, [], ◌∷◌, IfOk, OnOk, OnErr, MatchOption, IsTrue, true, false, None, option_copied, if◌then◌else◌};
 ghost use Rattle.std.specs.FinMap as map;
-ghost use Rattle.ak_clock.specs.Version.{Covers, relation};
-ghost use Rattle.ak_clock.specs.declared.version.Relation.TheVariants as clock;
+ghost use Rattle.ak_clock.specs.Version.{Covers};
 ghost use Rattle.ak_detector.specs.Detector.{watching};
 ghost use Rattle.ak_gossip.specs.Gossip.{MayUpdate, is_known};
 ghost use Rattle.ak_member.specs.Standing as standing;
@@ -11,6 +10,7 @@ ghost use Rattle.ak_leader.specs.Leader as leads;
 ghost use Rattle.ak_membership.specs.Closing as closing;
 ghost use Rattle.ak_membership.specs.Membership as rules;
 ghost use Rattle.ak_membership.specs.MembershipContracts.{Makes, Answers, IsAccepted, Closes, IsWatching, KnowsItself, Receives, or_no_memory};
+ghost use Rattle.ak_membership.specs.Sight.{is_news};
 ghost use Rattle.ak_membership.specs.Tick as ticks;
 
 use crate::change::{Change, Closing, MemberFault, Reply};
@@ -92,8 +92,21 @@ fn or_no_memory(change: Result<Change, AllocError>) -> Result<Change, MemberFaul
     }
 }
 
+// A gossip that was received so may show other members than those that were known.
+fn is_news(received: Received) -> bool
+    ensures { result ≡ is_news received }
+{
+    match received {
+        Received::Same => false,
+        Received::Newer => true,
+        Received::Older => false,
+        Received::Merged => true,
+    }
+}
+
 fn is_other(old: &Version, new: &Version) -> bool
-    ensures { result ≡ closing.is_other old.now new.now }
+    ensures value { result ≡ closing.is_other old.now new.now }
+    ensures same { result ≡ false → new.now ≡ old.now }
 {
     match old.compare(new) {
         Relation::Same => false,
@@ -348,35 +361,8 @@ impl MembershipState {
         }
     }
 
-    // Accepts a gossip, unless it is refused. What moves is found without a copy, but where both are merged.
+    // Accepts a gossip, unless it is refused. What moves is found beside a copy, which shares all with what was known.
     fn receive(&mut self, alloc: Global, incoming: &Gossip) -> Result<Received, GossipFault>
-        ensures { Receives incoming.now self.old result self.new }
-    {
-        match self.gossip.version().compare(incoming.version()) {
-            Relation::Concurrent => return self.merge(alloc, incoming),
-            Relation::Before => return self.replace_by(alloc, incoming),
-            Relation::Same => return self.gossip.receive(alloc, &self.me, incoming),
-            Relation::After => return self.gossip.receive(alloc, &self.me, incoming),
-        }
-    }
-
-    // A newer gossip replaces what is known.
-    fn replace_by(&mut self, alloc: Global, incoming: &Gossip) -> Result<Received, GossipFault>
-        requires { relation self.old.gossip.version incoming.now.version ≡ clock.Before }
-        ensures { Receives incoming.now self.old result self.new }
-    {
-        let moved = moves(self.moved, &self.gossip, incoming);
-        match self.gossip.receive(alloc, &self.me, incoming) {
-            Ok(received) => {
-                self.moved = moved;
-                return Ok(received);
-            }
-            Err(fault) => return Err(fault),
-        }
-    }
-
-    // Each knows what the other does not.
-    fn merge(&mut self, alloc: Global, incoming: &Gossip) -> Result<Received, GossipFault>
         ensures { Receives incoming.now self.old result self.new }
     {
         let before = match self.gossip.copy(alloc) {
@@ -385,7 +371,9 @@ impl MembershipState {
         };
         match self.gossip.receive(alloc, &self.me, incoming) {
             Ok(received) => {
-                self.moved = moves(self.moved, &before, &self.gossip);
+                if is_news(received) {
+                    self.moved = moves(self.moved, &before, &self.gossip);
+                }
                 return Ok(received);
             }
             Err(fault) => return Err(fault),
@@ -463,7 +451,7 @@ impl MembershipState {
         ensures { result ≡ ticks.is_process self.now.me (leads.leader self.now.gossip.view) }
     {
         match leader(self.gossip.members(), self.gossip.rows()) {
-            Some(who) => who.compare(&self.me).is_eq(),
+            Some(who) => who.is(&self.me),
             None => false,
         }
     }
@@ -684,13 +672,10 @@ impl MembershipState {
     fn is_noted(&self) -> bool
         ensures { result ≡ closing.is_noted self.now }
     {
-        if !self.has_settled() {
+        if self.settled.exists() && !is_other(self.settled.version(), self.gossip.version()) {
             return false;
         }
-        if !self.settled.exists() {
-            return true;
-        }
-        is_other(self.settled.version(), self.gossip.version())
+        self.has_settled()
     }
 
     // Notes the settled view, where it is to be noted. An error leaves it as it was.
@@ -731,6 +716,18 @@ impl MembershipState {
         self.settled = Settled::none(alloc);
     }
 
+    // The version that is shown from now on, where it is another.
+    fn newly_shown(&self, alloc: Global, viewed: bool) -> Result<Option<Version>, AllocError>
+        requires { viewed ≡ false → self.now.gossip.version ≡ self.now.shown }
+        ensures { IfOk result (λ shown. MatchOption shown (self.now.gossip.version ≡ self.now.shown) (λ version. version ≡ self.now.gossip.version)) }
+    {
+        if !viewed {
+            return Ok(None);
+        }
+        let version = self.gossip.version().copy(alloc)?;
+        Ok(Some(version))
+    }
+
     pub(crate) fn close(&mut self, alloc: Global, stopping: bool) -> Result<Closing, AllocError>
         requires { Covers self.old.gossip.version (version_of self.old.settled.view) }
         ensures ok { IfOk result (λ due. Closes (closing.close stopping self.old) self.new due) }
@@ -739,7 +736,7 @@ impl MembershipState {
         let viewed = is_other(&self.shown, self.gossip.version());
         let stopped = stopping || self.is_gone();
         let settled = !stopped && self.is_noted();
-        let shown = shown_after(alloc, &self.shown, self.gossip.version())?;
+        let shown = self.newly_shown(alloc, viewed)?;
         let detector = self.watching(alloc)?;
         self.note(alloc, settled)?;
         self.detector = detector;
@@ -756,16 +753,4 @@ impl MembershipState {
             settled,
         })
     }
-}
-
-// The new version, where it is another.
-fn shown_after(alloc: Global, old: &Version, new: &Version) -> Result<Option<Version>, AllocError>
-    ensures { IfOk result (λ shown. MatchOption shown (new.now ≡ old.now) (λ version. version ≡ new.now)) }
-{
-    match old.compare(new) {
-        Relation::Same => return Ok(None),
-        _ => {}
-    }
-    let version = new.copy(alloc)?;
-    Ok(Some(version))
 }

@@ -538,7 +538,7 @@ fn push_due(due: Closing, actions: &mut Actions) -> Result<(), AllocError>
 pub fn is_for(me: &Unique, envelope: &Envelope) -> bool
     ensures { result ≡ rules.is_for me.now envelope.now }
 {
-    if !envelope.to.compare(&me.address).is_eq() {
+    if !envelope.to.is(&me.address) {
         return false;
     }
     envelope.uid == 0 || envelope.uid == me.uid

@@ -124,7 +124,7 @@ pub(crate) fn contains_address(listed: &[Address], at: &Address) -> bool
 fn is_among(listed: &[Address], at: &Address) -> bool
     ensures { result ≡ is_listed listed.now at.now }
 {
-    listed.iter().any(|each| each.compare(at).is_eq())
+    listed.iter().any(|each| each.is(at))
 }
 
 fn copy_addresses(alloc: Global, listed: &[Address]) -> Result<Vec<Address>, AllocError>

@@ -103,7 +103,7 @@ fn candidate_at_pair<'a>(
 fn is_reachable_other(members: &Members, rows: &Rows, me: &Unique, who: &Unique) -> bool
     ensures { result ≡ is_reachable_other (record { standings = members.now; rows = rows.now }) me.now who.now }
 {
-    !who.compare(me).is_eq() && !is_unreachable(members, rows, who)
+    !who.is(me) && !is_unreachable(members, rows, who)
 }
 
 fn is_passed_over(seen: Option<&Uniques>, who: &Unique) -> bool

@@ -58,6 +58,9 @@ fn print_head(number: u64, event: &Event, out: &mut Vec<u8>) -> Result<(), Alloc
     print_bytes(b"\n", out)
 }
 
+// So many bytes are set aside for the text of a step; most have fewer.
+const STEP_BYTES: usize = 512;
+
 /// Appends the text of a step: its number and event, what arrived, and an item for each action. The event is the last
 /// that the world accepted, and the step the one that it gave. An error leaves the text as it was; only memory can fail.
 pub fn print_step(
@@ -72,7 +75,7 @@ pub fn print_step(
         ≡ out.old.items ++ text.step_text step.now.first_packet step_number event.now (record { world = world.now.state; node = step.now.node; actions = step.now.actions })) }
     ensures err { OnErr result (out.new.items ≡ out.old.items) }
 {
-    let mut text = Vec::new(alloc);
+    let mut text = Vec::with_capacity(alloc, STEP_BYTES)?;
     let node = acting(world, step);
     print_head(step_number, event, &mut text)?;
     print_delivery(world, event, node, &mut text)?;

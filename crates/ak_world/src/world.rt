@@ -94,7 +94,7 @@ pub(crate) struct Scene {
 fn node_of(nodes: &[Node], who: &Unique) -> Option<usize>
     ensures { result ≡ position (λ (n : NodeModel). rules.is_process who.now n.state) nodes.now }
 {
-    nodes.iter().position(|node| node.me().compare(who).is_eq())
+    nodes.iter().position(|node| node.me().is(who))
 }
 
 // The node runs, and the packet is for it.
@@ -121,7 +121,7 @@ fn runs_at(node: &Node, address: &Address) -> bool
     if node.stopped() {
         return false;
     }
-    node.me().address.compare(address).is_eq()
+    node.me().address.is(address)
 }
 
 // A node runs at the address.
@@ -138,7 +138,7 @@ fn runs_as(node: &Node, who: &Unique) -> bool
     if node.stopped() {
         return false;
     }
-    node.me().compare(who).is_eq()
+    node.me().is(who)
 }
 
 // Which node the process is, where it runs.

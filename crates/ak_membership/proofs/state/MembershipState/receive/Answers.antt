@@ -1,12 +1,18 @@
 use Rattle.std.proofs.Common.{sym, ◌∙◌}
-use Rattle.ak_clock.specs.Version.{relation}
-use Rattle.ak_membership.proofs.SightLaws.{received_same, received_older}
+use Rattle.ak_membership.proofs.SightLaws.{received_no_news, received_news}
 use Rattle.ak_membership.proofs.state.MembershipState.receive.Goals as goal
+use Rattle.ak_membership.proofs.state.MembershipState.receive.Goals.{then-is_news, else-is_news}
 
-pub returns-in-Same : goal.returns-in-Same
-returns-in-Same c =
-    received_same c.args.incoming.now c.args.self.now c.receive.new.self (sym (c.in-Same.ensures.value ∙ (λ i. relation (c.version.ensures i) (c.version-2.ensures i)))) c.receive.result c.receive.ensures
-
-pub returns-in-After : goal.returns-in-After
-returns-in-After c =
-    received_older c.args.incoming.now c.args.self.now c.receive-in-After.new.self (sym (c.in-After.ensures.value ∙ (λ i. relation (c.version.ensures i) (c.version-2.ensures i)))) c.receive-in-After.result c.receive-in-After.ensures
+pub returns-in-Ok-receive : goal.returns-in-Ok-receive
+returns-in-Ok-receive c =
+    let heard = c.args.incoming.now in
+    let known = c.args.self.now in
+    let received = c.in-Ok-receive.received in
+    elim c.if-is_news.branch [
+      | then-is_news w ↦
+          let moved = received_news heard known c.receive.new.self received c.in-Ok.before w.moves-self.result c.in-Ok.ensures w.moves-self.ensures c.in-Ok-receive.ensures in
+          (moved.0, moved.1, w.self-is ∙ moved.2)
+      | else-is_news w ↦
+          let still = received_no_news heard known c.receive.new.self received (sym c.is_news.ensures ∙ w.if-is_news.false) c.in-Ok-receive.ensures in
+          (still.0, still.1, w.self-is ∙ still.2)
+    ]
