@@ -116,7 +116,7 @@ module _ (me : UniqueModel) (s : Standings) (deadline : ℕ) (c : Counters) (who
       let test : UniqueModel → Bool = λ u. is_silent deadline c u && is_member s u in
       finmap.get-retain_keys c test who (λ x tied. ap test (sym (same_key who x (ap is_eq tied))))
 
-  get-watching : finmap.get (watching me s deadline c) who ≡ cond (has (watch_ring me s) who) (Some (counter c who)) (cond (is_silent deadline c who && is_member s who) (finmap.get c who) None)
+  pub get-watching : finmap.get (watching me s deadline c) who ≡ cond (has (watch_ring me s) who) (Some (counter c who)) (cond (is_silent deadline c who && is_member s who) (finmap.get c who) None)
   get-watching =
       get-with_each c (in_order (watch_ring me s)) (finmap.retain_keys c (λ u. is_silent deadline c u && is_member s u)) who
       ∙ (λ i. cond (sym (finmap.contains_key-keys (watch_ring me s) who) i) (Some (counter c who)) (get-kept i))

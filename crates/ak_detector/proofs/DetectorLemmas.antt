@@ -14,19 +14,14 @@ use Rattle.ak_address.proofs.TableLaws.{same_key, same_table, get-empty, get-ins
 use Rattle.ak_address.proofs.UniquesLaws.{same_uniques}
 use Rattle.ak_address.proofs.ChangedLaws.{entries-changed, has-keys_of, changed-empty, changed-changed}
 use Rattle.ak_address.proofs.CountersLaws.{among, among-filter, has-set_of, set_of-in_order, has-walked, set_walked, get-with_each, keys-with_each, passes, among_passing}
-use Rattle.ak_member.specs.declared.status.Status.{Status}
 use Rattle.ak_member.specs.declared.standing.Standing.{Standing}
-use Rattle.ak_member.specs.Standing.{Standings, is_member, member_pairs}
-use Rattle.ak_member.proofs.MemberLemmas.{KeepsPairs, kept_pair, kept_at_end, keeps_members}
+use Rattle.ak_member.specs.Standing.{Standings, is_member}
+use Rattle.ak_member.proofs.MemberLemmas.{KeepsPairs, kept_pair, kept_at_end}
 use Rattle.ak_member.proofs.Folds.{keeps_all, keeps_filtered, keeps_mapped}
 use Rattle.ak_detector.specs.Detector.{most_watched, watch_ring, is_silent, silent, watching, heard, ticked}
-use Rattle.ak_detector.specs.Sides.{is_on_side, side_pairs, above_pairs}
+use Rattle.ak_detector.specs.Sides.{side_pairs, above_pairs}
 
 -- ---- what a walk keeps of each pair
-pub keeps_side : (is_after : Bool) (me : UniqueModel) → KeepsPairs (side_pairs is_after me)
-keeps_side is_after me =
-    keeps_filtered (λ pairs. map (λ (pair : UniqueModel × (Status × ℕ)). pair.0) (member_pairs pairs)) (keeps_mapped member_pairs keeps_members (λ pair. pair.0)) (is_on_side is_after me)
-
 pub keeps_above : (limit : ℕ) → KeepsPairs (above_pairs limit)
 keeps_above limit = keeps_mapped (filter (λ (e : UniqueModel × ℕ). nat_lt limit e.1)) (keeps_filtered (λ xs. xs) keeps_all (λ e. nat_lt limit e.1)) (λ e. e.0)
 
@@ -46,7 +41,7 @@ take-none : {X : Type 0} (n : ℕ) → take {A = X} n [] ≡ []
 take-none zero = refl
 take-none (suc n) = refl
 
-take-append : {X : Type 0} (n : ℕ) (xs ys : List X) → take n (xs ++ ys) ≡ take n xs ++ take (n - length xs) ys
+pub take-append : {X : Type 0} (n : ℕ) (xs ys : List X) → take n (xs ++ ys) ≡ take n xs ++ take (n - length xs) ys
 take-append zero xs ys = let none : 0 ≡ 0 - length xs = omega arith in ap (λ k. take k ys) none
 take-append (suc n) [] ys = let all : suc n ≡ suc n - 0 = omega arith in ap (λ k. take k ys) all
 take-append (suc n) (x ∷ xs) ys =

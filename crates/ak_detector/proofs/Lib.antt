@@ -1,2 +1,3 @@
 pub mod DetectorLaws
 pub mod DetectorLemmas
+pub mod RingLaws

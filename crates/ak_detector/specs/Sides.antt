@@ -1,7 +1,9 @@
 -- The members on one side of a node in the order of processes, as the ring is walked.
-use Rattle.std.specs.Prelude.{ℕ, Bool, true, false, List, map, nat_lt}
+use Rattle.std.specs.Prelude.{◌≡◌, ℕ, ◌-◌, Bool, true, false, List, Option, None, Some, map, take, drop, nat_lt}
 use Rattle.std.specs.List.{filter}
 use Rattle.std.specs.Ordering.{is_lt}
+use Rattle.std.specs.declared.cmp.Ordering.{Ordering}
+use Rattle.std.specs.declared.cmp.Ordering.TheVariants.{Less}
 use Rattle.ak_address.specs.Unique.{UniqueModel, unique_cmp}
 use Rattle.ak_member.specs.declared.status.Status.{Status}
 use Rattle.ak_member.specs.declared.standing.Standing.{Standing}
@@ -12,9 +14,26 @@ abbrev pub is_on_side : Bool → UniqueModel → UniqueModel → Bool
 is_on_side true me who = is_lt (unique_cmp me who)
 is_on_side false me who = is_lt (unique_cmp who me)
 
--- the members on that side among these pairs
+-- the members among these pairs, and those on that side
+abbrev pub names_of : List (UniqueModel × Standing) → List UniqueModel
+names_of pairs = map (λ (pair : UniqueModel × (Status × ℕ)). pair.0) (member_pairs pairs)
+
 abbrev pub side_pairs : Bool → UniqueModel → List (UniqueModel × Standing) → List UniqueModel
-side_pairs is_after me pairs = filter (is_on_side is_after me) (map (λ (pair : UniqueModel × (Status × ℕ)). pair.0) (member_pairs pairs))
+side_pairs is_after me pairs = filter (is_on_side is_after me) (names_of pairs)
+
+-- the pairs from one index on, up to before another
+abbrev pub run : ℕ → ℕ → List (UniqueModel × Standing) → List (UniqueModel × Standing)
+run from to pairs = drop from (take to pairs)
+
+-- how the node and the process at a pair are ordered; past the end, as before one
+abbrev pub order_at : UniqueModel → Option (UniqueModel × Standing) → Ordering
+order_at me None = Less
+order_at me (Some pair) = unique_cmp me pair.0
+
+-- how many are left to find after a pair, where the process that is found stands there too, if one is found
+abbrev pub Agrees : ℕ → ℕ → Option UniqueModel → Option UniqueModel → Type 0
+Agrees left next None other = next ≡ left
+Agrees left next (Some who) other = (next ≡ left - 1) × (other ≡ Some who)
 
 -- the processes of these pairs whose counter is above a limit
 abbrev pub above_pairs : ℕ → List (UniqueModel × ℕ) → List UniqueModel

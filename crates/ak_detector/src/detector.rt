@@ -1,4 +1,4 @@
-ghost use Rattle.std.specs.Prelude.{◌≡◌, ◌<◌, ◌≤◌, ◌-◌, ◌^◌, IfOk, OnOk, OnErr, slice_get, option_copied, option_map, option_to_list};
+ghost use Rattle.std.specs.Prelude.{◌≡◌, ◌<◌, ◌≤◌, ◌-◌, ◌^◌, ℕ, IfOk, OnOk, OnErr, IsTrue, slice_get, option_copied, option_map, option_to_list};
 ghost use Rattle.std.specs.List.{fold, filter};
 ghost use Rattle.std.specs.FinMap as map;
 ghost use Rattle.ak_address.specs.Changed.{keys_of};
@@ -8,7 +8,7 @@ ghost use Rattle.ak_member.specs.Standing.{is_member};
 ghost use Rattle.ak_detector.specs.Detector.{silent, watching, heard, ticked};
 ghost use Rattle.ak_detector.specs.Sides.{above_pairs};
 
-use crate::ring::watch_ring;
+use crate::ring::{is_ring, watch_ring};
 use ak_address::{Table, Unique, Uniques};
 use ak_member::Members;
 use std::alloc::{AllocError, Global};
@@ -65,6 +65,14 @@ impl Detector {
         Ok(Detector { watched, counters })
     }
 
+    /// Whether it is known, without a look at the counters, that the detector that watches by these members is this one: who
+    /// is watched is the ring. No answer but a yes says anything. Takes no memory.
+    pub fn watches_already(&self, me: &Unique, members: &Members) -> bool
+        ensures { (deadline : ℕ) → IsTrue result → watching me.now members.now deadline self.now ≡ self.now }
+    {
+        is_ring(me, members, &self.watched)
+    }
+
     /// Watches so from now on. After an error the detector is as it was; only memory can fail.
     pub fn watch(
         &mut self,
@@ -76,6 +84,9 @@ impl Detector {
         ensures ok { OnOk result (self.new ≡ watching me.now members.now deadline self.old) }
         ensures err { OnErr result (self.new ≡ self.old) }
     {
+        if self.watches_already(me, members) {
+            return Ok(());
+        }
         *self = self.watching(alloc, me, members, deadline)?;
         Ok(())
     }

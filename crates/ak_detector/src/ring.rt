@@ -1,13 +1,14 @@
-ghost use Rattle.std.specs.Prelude.{◌≡◌, ◌-◌, IfOk, length, take, slice_get, option_copied, option_to_list};
+ghost use Rattle.std.specs.Prelude.{◌≡◌, ◌-◌, ◌≤◌, true, false, IfOk, IsTrue, MatchOption, length, min, take, drop, slice_get, option_copied, option_to_list};
 ghost use Rattle.std.specs.List.{fold};
 ghost use Rattle.std.specs.FinMap as map;
-ghost use Rattle.ak_address.specs.Uniques.{with_one};
+ghost use Rattle.ak_address.specs.Uniques.{with_one, in_order};
 ghost use Rattle.ak_detector.specs.Detector.{watch_ring};
-ghost use Rattle.ak_detector.specs.Sides.{is_on_side, side_pairs};
+ghost use Rattle.ak_detector.specs.Sides.{Agrees, names_of, order_at, run, side_pairs};
 
 use ak_address::{Unique, Uniques};
 use ak_member::{Members, Standing};
 use std::alloc::{AllocError, Global};
+use std::cmp::Ordering;
 
 // A node watches this many members.
 const MOST_WATCHED: usize = 5;
@@ -19,57 +20,92 @@ pub fn watch_ring(alloc: Global, me: &Unique, members: &Members) -> Result<Uniqu
     ensures { IfOk result (λ ring. ring ≡ watch_ring me.now members.now) }
 {
     let mut ring = Uniques::empty(alloc);
-    let left = add_side(alloc, me, members, true, MOST_WATCHED, &mut ring)?;
-    add_side(alloc, me, members, false, left, &mut ring)?;
+    let (before, after) = sides(me, members);
+    let end = members.uniques();
+    let left = add_run(alloc, members, after, end, MOST_WATCHED, &mut ring)?;
+    add_run(alloc, members, 0, before, left, &mut ring)?;
     Ok(ring)
 }
 
-// Adds the first of the members on one side of the node, as many as are left to add; how many are left then.
-fn add_side(
-    alloc: Global,
-    me: &Unique,
-    members: &Members,
-    is_after: bool,
-    most: usize,
-    ring: &mut Uniques,
-) -> Result<usize, AllocError>
-    ensures { IfOk result (λ n. (n ≡ most - length (side_pairs is_after me.now (map.entries members.now))) × (ring.new ≡ fold with_one ring.old (take most (side_pairs is_after me.now (map.entries members.now))))) }
+// Whether these are whom the node watches; no answer but a yes says anything. Takes no memory.
+pub(crate) fn is_ring(me: &Unique, members: &Members, watched: &Uniques) -> bool
+    ensures { IsTrue result → watched.now ≡ watch_ring me.now members.now }
 {
-    let mut left = most;
-    'pairs: for pair in 0..members.uniques() {
-        left = add_next(alloc, other_at(members, pair, me, is_after), left, ring)?;
+    let (before, after) = sides(me, members);
+    let end = members.uniques();
+    let last = count_run(members, after, end, MOST_WATCHED);
+    let first = count_run(members, 0, before, MOST_WATCHED - last);
+    if watched.len() != first + last {
+        return false;
     }
-    Ok(left)
+    if !is_run(members, 0, before, watched, first, first) {
+        return false;
+    }
+    is_run(members, after, end, watched, first + last, last)
 }
 
-// The member at a pair, where there is one on that side of the node.
-fn other_at<'a>(
-    members: &'a Members,
-    pair: usize,
-    me: &Unique,
-    is_after: bool,
-) -> Option<&'a Unique>
-    ensures { option_to_list (option_copied result) ≡ side_pairs is_after me.now (option_to_list (slice_get (map.entries members.now) pair)) }
+// How many pairs stand before the node, and from which one on they stand after it: a search by halves.
+fn sides(me: &Unique, members: &Members) -> (usize, usize)
+    ensures before { side_pairs false me.now (map.entries members.now) ≡ names_of (take result.0 (map.entries members.now)) }
+    ensures after { side_pairs true me.now (map.entries members.now) ≡ names_of (drop result.1 (map.entries members.now)) }
+{
+    let mut low = 0;
+    let mut high = members.uniques();
+    'halves: while low < high {
+        let middle = low + (high - low) / 2;
+        let order = order_at(me, members, middle);
+        if order.is_eq() {
+            return (middle, middle + 1);
+        }
+        if order.is_lt() {
+            high = middle;
+        } else {
+            low = middle + 1;
+        }
+    }
+    (low, low)
+}
+
+// How the node and the process at a pair are ordered.
+fn order_at(me: &Unique, members: &Members, pair: usize) -> Ordering
+    ensures { result ≡ order_at me.now (slice_get (map.entries members.now) pair) }
 {
     match members.pair(pair) {
-        Some((who, Standing::Member(_, _))) => {
-            if is_on_side(is_after, me, who) {
-                return Some(who);
-            }
-            None
-        }
+        Some((who, _)) => me.compare(who),
+        None => Ordering::Less,
+    }
+}
+
+// The member at a pair, where there is one.
+fn member_at<'a>(members: &'a Members, pair: usize) -> Option<&'a Unique>
+    ensures { option_to_list (option_copied result) ≡ names_of (option_to_list (slice_get (map.entries members.now) pair)) }
+{
+    match members.pair(pair) {
+        Some((who, Standing::Member(_, _))) => Some(who),
         Some((_, Standing::Buried(_))) => None,
         None => None,
     }
 }
 
-fn is_on_side(is_after: bool, me: &Unique, who: &Unique) -> bool
-    ensures { result ≡ is_on_side is_after me.now who.now }
+// Adds the first of the members of a run of pairs, as many as are left to add; how many are left then.
+fn add_run(
+    alloc: Global,
+    members: &Members,
+    from: usize,
+    to: usize,
+    most: usize,
+    ring: &mut Uniques,
+) -> Result<usize, AllocError>
+    ensures { IfOk result (λ n. (n ≡ most - length (names_of (run from to (map.entries members.now)))) × (ring.new ≡ fold with_one ring.old (take most (names_of (run from to (map.entries members.now)))))) }
 {
-    if is_after {
-        return me.compare(who).is_lt();
+    let mut left = most;
+    'pairs: for pair in from..to {
+        if left == 0 {
+            return Ok(0);
+        }
+        left = add_next(alloc, member_at(members, pair), left, ring)?;
     }
-    who.compare(me).is_lt()
+    Ok(left)
 }
 
 // Adds the process, if there is one and one is left to add; how many are left then.
@@ -90,5 +126,81 @@ fn add_next(
             Ok(left - 1)
         }
         None => Ok(left),
+    }
+}
+
+// How many members a run of pairs has, counted up to the most.
+fn count_run(members: &Members, from: usize, to: usize, most: usize) -> usize
+    ensures { result ≡ min most (length (names_of (run from to (map.entries members.now)))) }
+{
+    let mut left = most;
+    'pairs: for pair in from..to {
+        if left == 0 {
+            return most;
+        }
+        left = left_after(member_at(members, pair), left);
+    }
+    most - left
+}
+
+// How many are left to count after this one, if there is one.
+fn left_after(who: Option<&Unique>, left: usize) -> usize
+    ensures { result ≡ left - length (option_to_list (option_copied who.entry)) }
+{
+    match who {
+        Some(_) => left.saturating_sub(1),
+        None => left,
+    }
+}
+
+// The first members of a run of pairs, as many as the most, are those of the set that stand before the end, as many.
+fn is_run(
+    members: &Members,
+    from: usize,
+    to: usize,
+    watched: &Uniques,
+    end: usize,
+    most: usize,
+) -> bool
+    requires { most ≤ end }
+    ensures { IsTrue result → take most (drop (end - most) (in_order watched.now)) ≡ take most (names_of (run from to (map.entries members.now))) }
+{
+    let mut left = most;
+    'pairs: for pair in from..to {
+        if left == 0 {
+            return true;
+        }
+        match next_left(member_at(members, pair), watched, end - left, left) {
+            Some(next) => {
+                left = next;
+            }
+            None => return false,
+        }
+    }
+    left == 0
+}
+
+// How many are left to find after this one, if there is one; none where the set has another one at the index.
+fn next_left(who: Option<&Unique>, watched: &Uniques, index: usize, left: usize) -> Option<usize>
+    ensures { MatchOption result (Unit {0}) (λ next. Agrees left next (option_copied who.entry) (slice_get (in_order watched.now) index)) }
+{
+    match who {
+        Some(who) => {
+            if is_at(watched, index, who) {
+                return Some(left.saturating_sub(1));
+            }
+            None
+        }
+        None => Some(left),
+    }
+}
+
+// The process stands at the index of the set.
+fn is_at(set: &Uniques, index: usize, who: &Unique) -> bool
+    ensures { IsTrue result → slice_get (in_order set.now) index ≡ Some who.now }
+{
+    match set.at(index) {
+        Some(other) => other.is(who),
+        None => false,
     }
 }

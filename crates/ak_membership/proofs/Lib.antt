@@ -1,3 +1,4 @@
+pub mod AlikeLaws
 pub mod Causes
 pub mod MayMake
 pub mod MayRise

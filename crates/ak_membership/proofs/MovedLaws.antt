@@ -62,7 +62,7 @@ and_both : (a b : Bool) → (a && b) ≡ true → (a ≡ true) × (b ≡ true)
 and_both true b is = (refl, is)
 and_both false b is = absurd (true≢false (sym is))
 
-same_sight : (one other : Option (Status × Bool)) → is_same_sight one other ≡ true → one ≡ other
+pub same_sight : (one other : Option (Status × Bool)) → is_same_sight one other ≡ true → one ≡ other
 same_sight None None is = refl
 same_sight None (Some other) is = absurd (true≢false (sym is))
 same_sight (Some one) None is = absurd (true≢false (sym is))

@@ -692,13 +692,17 @@ impl MembershipState {
         Ok(())
     }
 
-    // The detector that watches by what is known now.
-    fn watching(&self, alloc: Global) -> Result<Detector, AllocError>
-        ensures { IfOk result (λ detector. detector ≡ watching self.now.me self.now.gossip.view.standings self.now.settings.deadline self.now.detector) }
+    // The detector that watches by what is known now, where it is another.
+    fn watching(&self, alloc: Global) -> Result<Option<Detector>, AllocError>
+        ensures { IfOk result (λ detector. MatchOption detector (watching self.now.me self.now.gossip.view.standings self.now.settings.deadline self.now.detector ≡ self.now.detector) (λ other. other ≡ watching self.now.me self.now.gossip.view.standings self.now.settings.deadline self.now.detector)) }
     {
+        let members = self.gossip.members();
+        if self.detector.watches_already(&self.me, members) {
+            return Ok(None);
+        }
         let deadline = self.settings.deadline;
-        self.detector
-            .watching(alloc, &self.me, self.gossip.members(), deadline)
+        let detector = self.detector.watching(alloc, &self.me, members, deadline)?;
+        Ok(Some(detector))
     }
 
     pub(crate) fn forget(&mut self, alloc: Global)
@@ -739,7 +743,9 @@ impl MembershipState {
         let shown = self.newly_shown(alloc, viewed)?;
         let detector = self.watching(alloc)?;
         self.note(alloc, settled)?;
-        self.detector = detector;
+        if let Some(detector) = detector {
+            self.detector = detector;
+        }
         if let Some(shown) = shown {
             self.shown = shown;
         }

@@ -94,16 +94,30 @@ unreachable_means v who = (there, back)
           in_row = u.in_row;
         }))
 
--- the answer of the call, where the process is a member, and where it is none
+-- one is there where the other is
+pub same_there : {A B C : Type 0} (f : A → C) (g : B → C) (a : Option A) (b : Option B) → option_map f a ≡ option_map g b → is_some a ≡ is_some b
+same_there f g None None is = refl
+same_there f g None (Some y) is = ap is_some is
+same_there f g (Some x) None is = ap is_some is
+same_there f g (Some x) (Some y) is = refl
+
+-- the answer of the call, where somebody who is not Down has the process in its row, and where nobody has
 pub answer_means : (v : View) (who : UniqueModel) (b : Bool) → b ≡ has (unreachable_members v) who → IsTrue b ↔ IsUnreachable v who
 answer_means v who b is = (λ t. (unreachable_means v who).0 (sym is ∙ t), λ u. is ∙ (unreachable_means v who).1 u)
 
-pub answer_of_member : (v : View) (who : UniqueModel) (b : Bool) → is_member v.standings who ≡ true → b ≡ list_any (row_shows v.standings who) (map.entries v.rows) → b ≡ has (unreachable_members v) who
-answer_of_member v who b member is =
-    is ∙ shown_reported v.standings v.rows who ∙ sym (has-unreachable v who ∙ ap (λ t. t && reported v.rows (members_with observes v.standings) who) member)
+pub answer_if_observed : (v : View) (who : UniqueModel) (b : Bool) → true ≡ list_any (row_shows v.standings who) (map.entries v.rows) → b ≡ is_member v.standings who → b ≡ has (unreachable_members v) who
+answer_if_observed v who b observed is = is ∙ sym (has-unreachable v who ∙ ap (λ t. is_member v.standings who && t) (sym (observed ∙ shown_reported v.standings v.rows who)) ∙ and_true (is_member v.standings who))
+  where
+    and_true : (b : Bool) → (b && true) ≡ b
+    and_true true = refl
+    and_true false = refl
 
-pub answer_of_nobody : (v : View) (who : UniqueModel) → is_member v.standings who ≡ false → false ≡ has (unreachable_members v) who
-answer_of_nobody v who none = sym (has-unreachable v who ∙ ap (λ t. t && reported v.rows (members_with observes v.standings) who) none)
+pub answer_if_not : (v : View) (who : UniqueModel) → false ≡ list_any (row_shows v.standings who) (map.entries v.rows) → false ≡ has (unreachable_members v) who
+answer_if_not v who observed = sym (has-unreachable v who ∙ ap (λ t. is_member v.standings who && t) (sym (observed ∙ shown_reported v.standings v.rows who)) ∙ and_false (is_member v.standings who))
+  where
+    and_false : (b : Bool) → (b && false) ≡ false
+    and_false true = refl
+    and_false false = refl
 
 -- ---- the unreachable members as a set, along the pairs
 abbrev pub known_ones : Standings → List UniqueModel

@@ -18,10 +18,10 @@ pub fn is_unreachable(members: &Members, rows: &Rows, who: &Unique) -> bool
     ensures value { result ≡ has (unreachable_members (record { standings = members.now; rows = rows.now })) who.now }
     ensures meaning { IsTrue result ↔ IsUnreachable (record { standings = members.now; rows = rows.now }) who.now }
 {
-    match members.get(who) {
-        Some(_) => is_observed(members, rows, who),
-        None => false,
+    if is_observed(members, rows, who) {
+        return members.get(who).is_some();
     }
+    false
 }
 
 /// The unreachable members, as a set. Only memory can fail.
@@ -78,8 +78,8 @@ fn shows_at(members: &Members, rows: &Rows, index: usize, who: &Unique) -> bool
 {
     match rows.at(index) {
         Some((observer, row)) => {
-            if observes(members.get(observer)) {
-                return row.subjects.contains(who);
+            if row.subjects.contains(who) {
+                return observes(members.get(observer));
             }
             false
         }

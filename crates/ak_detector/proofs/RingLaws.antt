@@ -1,0 +1,263 @@
+-- The ring by halves and by runs of pairs, and that a detector which watches its ring already is the one that watches it.
+use Rattle.std.proofs.Common.{◌≡◌, ◌≢◌, ℕ, zero, suc, ◌+◌, ◌-◌, ◌<◌, ◌≤◌, ◌⊎◌, inl, inr, Bool, true, false, cond, ◌&&◌, ◌||◌, T, List, [], ◌∷◌, ◌++◌, length, min, take, drop, slice_get, Option, Some, None, is_some, unwrap_or, option_to_list, refl, sym, ap, ◌∙◌, arith, append-nil, take-append-drop}
+use Rattle.std.proofs.lemmas.Option.{same_Some}
+use Rattle.std.proofs.lemmas.List.{take_all, take_min, length-take, length-drop, length-append}
+use Rattle.std.proofs.lemmas.List.Elements.{filter-append}
+use Rattle.std.proofs.lemmas.List.Folds.{list_any-append}
+use Rattle.std.specs.List.{fold, filter}
+use Rattle.std.specs.declared.cmp.Ordering.{Ordering}
+use Rattle.std.specs.declared.cmp.Ordering.TheVariants.{Less, Equal, Greater}
+use Rattle.std.specs.Ordering.{is_lt, eq_by_cmp, ordering_reverse}
+use Rattle.std.specs.FinMap as finmap
+use Rattle.ak_address.specs.Unique.{UniqueModel, unique_cmp}
+use Rattle.ak_address.specs.Uniques.{UniqueSet, no_one, has, with_one, in_order, how_many, set_of}
+use Rattle.ak_address.specs.Changed.{keys_of}
+use Rattle.ak_address.specs.Counters.{Counters, counter}
+use Rattle.ak_address.proofs.OrderLemmas.{unique_total}
+use Rattle.ak_address.proofs.Pairs.{rises, not_None, IsAboveBefore, IsBelowFrom, above_before}
+use Rattle.ak_address.proofs.TableLaws.{same_table}
+use Rattle.ak_address.proofs.UniquesLaws.{same_uniques}
+use Rattle.ak_address.proofs.ChangedLaws.{has-keys_of}
+use Rattle.ak_address.proofs.CountersLaws.{among, has-set_of, set_of-in_order}
+use Rattle.ak_member.specs.declared.standing.Standing.{Standing}
+use Rattle.ak_member.specs.declared.standing.Standing.TheVariants.{Member, Buried}
+use Rattle.ak_member.specs.Standing.{Standings, is_member, member_pairs}
+use Rattle.ak_member.proofs.MemberLemmas.{KeepsPairs, kept_pair, kept_at_end, drop_from, keeps_members}
+use Rattle.ak_member.proofs.Folds.{keeps_mapped}
+use Rattle.ak_detector.specs.Detector.{most_watched, watch_ring, is_silent, watching}
+use Rattle.ak_detector.specs.Sides.{Agrees, is_on_side, names_of, order_at, run, side_pairs}
+use Rattle.ak_detector.proofs.DetectorLaws.{get-watching}
+use Rattle.ak_detector.proofs.DetectorLemmas.{take-append, length-in_order, ring_walked}
+
+pub keeps_names : KeepsPairs names_of
+keeps_names = keeps_mapped member_pairs keeps_members (λ pair. pair.0)
+
+-- ---- elements of parts of a list
+module _ {X : Type 0} where
+  got_of_take : (n i : ℕ) (xs : List X) (x : X) → slice_get (take n xs) i ≡ Some x → (i < n) × (slice_get xs i ≡ Some x)
+  got_of_take zero i xs x is = absurd (not_None x (sym is))
+  got_of_take (suc n) i [] x is = absurd (not_None x (sym is))
+  got_of_take (suc n) zero (y ∷ xs) x is = (omega arith, is)
+  got_of_take (suc n) (suc i) (y ∷ xs) x is = let rest = got_of_take n i xs x is in let lt = rest.0 in (omega arith, rest.1)
+
+  got_in_take : (n i : ℕ) (xs : List X) → i < n → slice_get (take n xs) i ≡ slice_get xs i
+  got_in_take zero i xs lt = absurd (omega arith)
+  got_in_take (suc n) i [] lt = refl
+  got_in_take (suc n) zero (y ∷ xs) lt = refl
+  got_in_take (suc n) (suc i) (y ∷ xs) lt = got_in_take n i xs (omega arith)
+
+  got_of_drop : (n i : ℕ) (xs : List X) → slice_get (drop n xs) i ≡ slice_get xs (n + i)
+  got_of_drop zero i xs = let same : i ≡ 0 + i = omega arith in ap (slice_get xs) same
+  got_of_drop (suc n) i [] = refl
+  got_of_drop (suc n) i (y ∷ xs) = let same : suc (n + i) ≡ suc n + i = omega arith in got_of_drop n i xs ∙ ap (slice_get (y ∷ xs)) same
+
+  pub past_take : (n i : ℕ) (xs : List X) → n ≤ i → length (take n xs) ≤ i
+  past_take n i xs le = let most = length-take n xs in omega arith
+
+pub past_end : {X : Type 0} (xs : List X) (i : ℕ) (x : X) → length xs ≤ i → slice_get xs i ≢ Some x
+past_end [] i x le is = not_None x (sym is)
+past_end (y ∷ xs) zero x le is = absurd (omega arith)
+past_end (y ∷ xs) (suc i) x le is = past_end xs i x (omega arith) is
+
+before_or : (i m : ℕ) → i ≤ m → (i < m) ⊎ (i ≡ m)
+before_or zero zero le = inr refl
+before_or zero (suc m) le = inl (omega arith)
+before_or (suc i) zero le = absurd (omega arith)
+before_or (suc i) (suc m) le = elim (before_or i m (omega arith)) [ inl less ↦ inl (omega arith) | inr same ↦ inr (ap suc same) ]
+
+-- ---- the two sides of the node
+module _ (p : UniqueModel → Bool) where
+  all_kept : (pairs : List (UniqueModel × Standing)) → ((i : ℕ) (e : UniqueModel × Standing) → slice_get pairs i ≡ Some e → p e.0 ≡ true) → filter p (names_of pairs) ≡ names_of pairs
+  all_kept [] all = refl
+  all_kept ((who, Member status number) ∷ pairs) all = (λ i. cond (all 0 (who, Member status number) refl i) (who ∷ filter p (names_of pairs)) (filter p (names_of pairs))) ∙ ap (λ l. who ∷ l) (all_kept pairs (λ i. all (suc i)))
+  all_kept ((who, Buried confirmed) ∷ pairs) all = all_kept pairs (λ i. all (suc i))
+
+  none_kept : (pairs : List (UniqueModel × Standing)) → ((i : ℕ) (e : UniqueModel × Standing) → slice_get pairs i ≡ Some e → p e.0 ≡ false) → filter p (names_of pairs) ≡ []
+  none_kept [] none = refl
+  none_kept ((who, Member status number) ∷ pairs) none = (λ i. cond (none 0 (who, Member status number) refl i) (who ∷ filter p (names_of pairs)) (filter p (names_of pairs))) ∙ none_kept pairs (λ i. none (suc i))
+  none_kept ((who, Buried confirmed) ∷ pairs) none = none_kept pairs (λ i. none (suc i))
+
+names_split : (n : ℕ) (pairs : List (UniqueModel × Standing)) → names_of pairs ≡ names_of (take n pairs) ++ names_of (drop n pairs)
+names_split zero pairs = refl
+names_split (suc n) [] = refl
+names_split (suc n) ((who, Member status number) ∷ pairs) = ap (λ l. who ∷ l) (names_split n pairs)
+names_split (suc n) ((who, Buried confirmed) ∷ pairs) = names_split n pairs
+
+-- how the node and the pairs around two indices are ordered
+pub record Sides (me : UniqueModel) (pairs : List (UniqueModel × Standing)) (before after : ℕ) : Type 0 where
+  pub above : IsAboveBefore unique_cmp me pairs before
+  pub not_above : (i : ℕ) (e : UniqueModel × Standing) → before ≤ i → slice_get pairs i ≡ Some e → is_lt (unique_cmp e.0 me) ≡ false
+  pub below : IsBelowFrom unique_cmp me pairs after
+  pub not_below : (i : ℕ) (e : UniqueModel × Standing) → i < after → slice_get pairs i ≡ Some e → is_lt (unique_cmp me e.0) ≡ false
+
+module _ (me : UniqueModel) (pairs : List (UniqueModel × Standing)) where
+  reversed : (who : UniqueModel) (r : Ordering) → unique_cmp me who ≡ r → unique_cmp who me ≡ ordering_reverse r
+  reversed who r is = unique_total.antisymm who me ∙ ap ordering_reverse is
+
+  pub side_before : (before after : ℕ) → Sides me pairs before after → side_pairs false me pairs ≡ names_of (take before pairs)
+  side_before before after s =
+      let p : UniqueModel → Bool = is_on_side false me in
+      ap (filter p) (names_split before pairs)
+      ∙ filter-append p (names_of (take before pairs)) (names_of (drop before pairs))
+      ∙ (λ j. all_kept p (take before pairs) (λ i e is. let got = got_of_take before i pairs e is in ap is_lt (reversed e.0 Greater (s.above i e got.0 got.1))) j
+      ++ none_kept p (drop before pairs) (λ i e is. s.not_above (before + i) e (omega arith) (sym (got_of_drop before i pairs) ∙ is)) j)
+      ∙ append-nil (names_of (take before pairs))
+
+  pub side_after : (before after : ℕ) → Sides me pairs before after → side_pairs true me pairs ≡ names_of (drop after pairs)
+  side_after before after s =
+      let p : UniqueModel → Bool = is_on_side true me in
+      ap (filter p) (names_split after pairs)
+      ∙ filter-append p (names_of (take after pairs)) (names_of (drop after pairs))
+      ∙ (λ j. none_kept p (take after pairs) (λ i e is. let got = got_of_take after i pairs e is in s.not_below i e got.0 got.1) j
+      ++ all_kept p (drop after pairs) (λ i e is. ap is_lt (s.below (after + i) e (omega arith) (sym (got_of_drop after i pairs) ∙ is))) j)
+
+  -- the node stands between two pairs
+  pub sides_between : (n : ℕ) → IsAboveBefore unique_cmp me pairs n → IsBelowFrom unique_cmp me pairs n → Sides me pairs n n
+  sides_between n above below = record {
+    above = above;
+    not_above = λ i e le is. ap is_lt (reversed e.0 Less (below i e le is));
+    below = below;
+    not_below = λ i e lt is. ap is_lt (above i e lt is);
+  }
+
+  -- it stands at a pair
+  pub sides_at : (n : ℕ) (e : UniqueModel × Standing) → T (finmap.is_sorted unique_cmp pairs) → slice_get pairs n ≡ Some e → unique_cmp me e.0 ≡ Equal → Sides me pairs n (n + 1)
+  sides_at n e sorted at tied = record {
+    above = above;
+    not_above = λ i d le is. elim (before_or n i le) [
+      | inl less ↦ ap is_lt (reversed d.0 Less (later i d less is))
+      | inr same ↦ ap is_lt (reversed d.0 Equal (here i d same is))
+    ];
+    below = λ i d le is. later i d (omega arith) is;
+    not_below = λ i d lt is. elim (before_or i n (omega arith)) [
+      | inl less ↦ ap is_lt (above i d less is)
+      | inr same ↦ ap is_lt (here i d (sym same) is)
+    ];
+  }
+    where
+      above : IsAboveBefore unique_cmp me pairs n
+      above = above_before unique_cmp me unique_total pairs sorted n e at tied
+
+      later : (i : ℕ) (d : UniqueModel × Standing) → n < i → slice_get pairs i ≡ Some d → unique_cmp me d.0 ≡ Less
+      later i d lt is = unique_total.congr me e.0 d.0 tied ∙ rises unique_cmp unique_total pairs n i e d sorted lt at is
+
+      here : (i : ℕ) (d : UniqueModel × Standing) → n ≡ i → slice_get pairs i ≡ Some d → unique_cmp me d.0 ≡ Equal
+      here i d same is = ap (λ (x : UniqueModel × Standing). unique_cmp me x.0) (same_Some d e (sym is ∙ sym (ap (slice_get pairs) same) ∙ at)) ∙ tied
+
+-- how the node and a pair that is there are ordered
+pub ordered_at : (me : UniqueModel) (pairs : List (UniqueModel × Standing)) (i : ℕ) (r : Ordering) → r ≡ order_at me (slice_get pairs i) → i < length pairs
+    → (e : UniqueModel × Standing) × (slice_get pairs i ≡ Some e) × (unique_cmp me e.0 ≡ r)
+ordered_at me [] i r is lt = absurd (omega arith)
+ordered_at me (e ∷ pairs) zero r is lt = (e, refl, sym is)
+ordered_at me (e ∷ pairs) (suc i) r is lt = ordered_at me pairs i r is (omega arith)
+
+-- ---- runs of members
+pub there_in : (to i : ℕ) (pairs : List (UniqueModel × Standing)) (o : Option UniqueModel) → i < to → option_to_list o ≡ names_of (option_to_list (slice_get pairs i)) → option_to_list o ≡ names_of (option_to_list (slice_get (take to pairs) i))
+there_in to i pairs o lt is = is ∙ ap (λ e. names_of (option_to_list e)) (sym (got_in_take to i pairs lt))
+
+run_next_length : (rest whole : List UniqueModel) (o : Option UniqueModel) (left next : ℕ) (all : ℕ) → whole ≡ option_to_list o ++ rest → next ≡ left - length (option_to_list o) → left - length whole ≡ all → next - length rest ≡ all
+run_next_length rest whole o left next all is fewer so_far =
+    let long : length whole ≡ length (option_to_list o) + length rest = ap length is ∙ length-append (option_to_list o) rest in
+    omega arith
+
+module _ (pairs : List (UniqueModel × Standing)) (i : ℕ) where
+  pub counted_next : (o : Option UniqueModel) (left next all : ℕ) → option_to_list o ≡ names_of (option_to_list (slice_get pairs i)) → next ≡ left - length (option_to_list o)
+      → left - length (names_of (drop i pairs)) ≡ all → next - length (names_of (drop (i + 1) pairs)) ≡ all
+  counted_next o left next all is fewer so_far = run_next_length _ _ o left next all (kept_pair names_of keeps_names pairs i o is) fewer so_far
+
+  pub counted_end : (left all : ℕ) → length pairs ≤ i → left - length (names_of (drop i pairs)) ≡ all → left ≡ all
+  counted_end left all past so_far = let none : length (names_of (drop i pairs)) ≡ 0 = ap length (kept_at_end names_of keeps_names pairs i past) in omega arith
+
+-- where the rest agrees, all of them do
+abbrev pub Agreeing : List UniqueModel → ℕ → ℕ → List UniqueModel → Type 0 → Type 0
+Agreeing set end left names all = take left (drop (end - left) set) ≡ take left names → all
+
+agreeing_one : (set : List UniqueModel) (end left next : ℕ) (o : Option UniqueModel) (rest : List UniqueModel) (all : Type 0)
+    → 1 ≤ left → left ≤ end → Agrees left next o (slice_get set (end - left))
+    → Agreeing set end left (option_to_list o ++ rest) all → Agreeing set end next rest all
+agreeing_one set end left next None rest all least fits same so_far = λ agree. so_far (ap (λ n. take n (drop (end - n) set)) (sym same) ∙ agree ∙ ap (λ n. take n rest) same)
+agreeing_one set end zero next (Some who) rest all least fits same so_far = absurd (omega arith)
+agreeing_one set end (suc left) next (Some who) rest all least fits (fewer, found) so_far = λ agree.
+    let is : next ≡ left = omega (arith, fewer) in
+    let index : end - suc left + 1 ≡ end - left = omega arith in
+    let whole : drop (end - suc left) set ≡ who ∷ drop (end - left) set = drop_from set (end - suc left) ∙ (λ i. option_to_list (found i) ++ drop (index i) set) in
+    so_far (ap (take (suc left)) whole ∙ ap (λ l. who ∷ l) (ap (λ n. take n (drop (end - n) set)) (sym is) ∙ agree ∙ ap (λ n. take n rest) is))
+
+pub agreeing_next : (set : List UniqueModel) (pairs : List (UniqueModel × Standing)) (i end left next : ℕ) (o : Option UniqueModel) (all : Type 0)
+    → 1 ≤ left → left ≤ end → option_to_list o ≡ names_of (option_to_list (slice_get pairs i)) → Agrees left next o (slice_get set (end - left))
+    → Agreeing set end left (names_of (drop i pairs)) all → Agreeing set end next (names_of (drop (i + 1) pairs)) all
+agreeing_next set pairs i end left next o all least fits is same so_far =
+    agreeing_one set end left next o (names_of (drop (i + 1) pairs)) all least fits same
+    (λ agree. so_far (agree ∙ ap (take left) (sym (kept_pair names_of keeps_names pairs i o is))))
+
+pub agrees_fewer : (left next : ℕ) (o other : Option UniqueModel) → Agrees left next o other → next ≤ left
+agrees_fewer left next None other is = omega (arith, is)
+agrees_fewer left next (Some who) other is = omega (arith, is.0)
+
+pub agreeing_end : (set : List UniqueModel) (end left : ℕ) (names : List UniqueModel) (all : Type 0) → left ≡ 0 → Agreeing set end left names all → all
+agreeing_end set end zero names all none so_far = so_far refl
+agreeing_end set end (suc left) names all none so_far = absurd (omega arith)
+
+-- ---- the ring
+or_turned : (a b : Bool) → (a || b) ≡ (b || a)
+or_turned true true = refl
+or_turned true false = refl
+or_turned false true = refl
+or_turned false false = refl
+
+set_turned : (xs ys : List UniqueModel) → set_of (xs ++ ys) ≡ set_of (ys ++ xs)
+set_turned xs ys = same_uniques _ _ (λ q.
+    has-set_of (xs ++ ys) q
+    ∙ list_any-append (eq_by_cmp unique_cmp q) xs ys
+    ∙ or_turned (among q xs) (among q ys)
+    ∙ sym (has-set_of (ys ++ xs) q ∙ list_any-append (eq_by_cmp unique_cmp q) ys xs))
+
+pub run_to_end : (s : Standings) (after end : ℕ) → end ≡ finmap.len s → run after end (finmap.entries s) ≡ drop after (finmap.entries s)
+run_to_end s after end is = ap (drop after) (take_all end (finmap.entries s) (let long = finmap.len-entries s in omega arith))
+
+least_of : (n : ℕ) (xs : List UniqueModel) (k : ℕ) → k ≡ min n (length xs) → take k xs ≡ take n xs
+least_of n xs k is = ap (λ m. take m xs) is ∙ take_min n xs
+
+module _ (me : UniqueModel) (s : Standings) where
+  -- a set that agrees with both runs, and has as many as both together, is the ring
+  pub ring_found : (set : UniqueSet) (before after : List UniqueModel) (first last : ℕ)
+      → side_pairs false me (finmap.entries s) ≡ before → side_pairs true me (finmap.entries s) ≡ after
+      → last ≡ min most_watched (length after) → first ≡ min (most_watched - last) (length before) → how_many set ≡ first + last
+      → take first (drop (first - first) (in_order set)) ≡ take first before → take last (drop (first + last - last) (in_order set)) ≡ take last after
+      → set ≡ watch_ring me s
+  ring_found set before after first last is_before is_after last_is first_is many first_same last_same =
+      let w = in_order set in
+      let long : length w ≡ first + last = length-in_order set ∙ many in
+      let from_start : first - first ≡ 0 = omega arith in
+      let from_first : first + last - last ≡ first = omega arith in
+      let tail : length (drop first w) ≤ last = (let d = length-drop first w in omega arith) in
+      let left : most_watched - last ≡ most_watched - length after = omega arith in
+      let firsts : take first w ≡ take (most_watched - length after) before = ap (λ n. take first (drop n w)) (sym from_start) ∙ first_same ∙ least_of (most_watched - last) before first first_is ∙ ap (λ n. take n before) left in
+      let lasts : drop first w ≡ take most_watched after = sym (take_all last (drop first w) tail) ∙ ap (λ n. take last (drop n w)) (sym from_first) ∙ last_same ∙ least_of most_watched after last last_is in
+      sym (set_of-in_order set)
+      ∙ ap set_of (sym (take-append-drop first w) ∙ (λ i. firsts i ++ lasts i))
+      ∙ set_turned (take (most_watched - length after) before) (take most_watched after)
+      ∙ ap set_of (sym (take-append most_watched after before) ∙ (λ i. take most_watched (sym is_after i ++ sym is_before i)))
+
+  -- it is made of both runs
+  pub ring_made : (before after left : ℕ) (end : ℕ) (ring both : UniqueSet)
+      → side_pairs false me (finmap.entries s) ≡ names_of (take before (finmap.entries s)) → side_pairs true me (finmap.entries s) ≡ names_of (drop after (finmap.entries s)) → end ≡ finmap.len s
+      → left ≡ most_watched - length (names_of (run after end (finmap.entries s))) → ring ≡ fold with_one no_one (take most_watched (names_of (run after end (finmap.entries s))))
+      → both ≡ fold with_one ring (take left (names_of (run 0 before (finmap.entries s)))) → both ≡ watch_ring me s
+  ring_made before after left end ring both is_before is_after is_end fewer first whole =
+      let same : names_of (run after end (finmap.entries s)) ≡ side_pairs true me (finmap.entries s) = ap names_of (run_to_end s after end is_end) ∙ sym is_after in
+      whole
+      ∙ ap (λ l. fold with_one ring (take left l)) (sym is_before)
+      ∙ ring_walked me s left ring (fewer ∙ ap (λ l. most_watched - length l) same) (first ∙ ap (λ l. fold with_one no_one (take most_watched l)) same)
+
+  -- whoever watches the ring, and nobody else, goes on so
+  pub watches_on : (deadline : ℕ) (c : Counters) (set : UniqueSet) → set ≡ keys_of c → set ≡ watch_ring me s → watching me s deadline c ≡ c
+  watches_on deadline c set keys ring = same_table _ _ (λ q.
+      get-watching me s deadline c q
+      ∙ ap (λ b. cond b (Some (counter c q)) (cond (is_silent deadline c q && is_member s q) (finmap.get c q) None)) (ap (λ t. has t q) (sym ring ∙ keys) ∙ has-keys_of c q)
+      ∙ by_case (finmap.get c q) (is_silent deadline c q && is_member s q))
+    where
+      by_case : (o : Option ℕ) (t : Bool) → cond (is_some o) (Some (unwrap_or o 0)) (cond t o None) ≡ o
+      by_case (Some n) t = refl
+      by_case None true = refl
+      by_case None false = refl

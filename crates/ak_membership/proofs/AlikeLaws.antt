@@ -1,0 +1,44 @@
+-- Two views that have the same processes at the same pairs, and show each alike.
+use Rattle.std.proofs.Common.{◌≡◌, ℕ, true, false, not, ◌||◌, [], ◌∷◌, option_map, slice_get, Some, option_to_list, refl, sym, ap, ◌∙◌}
+use Rattle.std.specs.List.{list_any}
+use Rattle.std.specs.FinMap as map
+use Rattle.ak_address.specs.Unique.{UniqueModel}
+use Rattle.ak_address.specs.Uniques.{has}
+use Rattle.ak_address.proofs.TableLaws.{get_at}
+use Rattle.ak_member.specs.declared.status.Status.{Status}
+use Rattle.ak_member.specs.declared.standing.Standing.{Standing}
+use Rattle.ak_member.specs.declared.standing.Standing.TheVariants.{Member, Buried}
+use Rattle.ak_member.specs.Standing.{member_of, member_pairs}
+use Rattle.ak_member.specs.View.{View}
+use Rattle.ak_reach.specs.Unreachable.{unreachable_members}
+use Rattle.ak_membership.specs.Sight.{sight, shown, is_same_sight, is_otherwise, is_otherwise_at}
+use Rattle.ak_membership.proofs.SightLaws.{sight_itself}
+use Rattle.ak_membership.proofs.MovedLaws.{same_sight}
+
+-- what a view shows of the process at a pair
+sight_shown : (v : View) (pair : ℕ) (who : UniqueModel) (standing : Standing) → slice_get (map.entries v.standings) pair ≡ Some (who, standing) → sight v who ≡ shown v who standing
+sight_shown v pair who standing is = ap (λ o. option_map (λ (m : Status × ℕ). (m.0, has (unreachable_members v) who)) (member_of o)) (get_at v.standings pair (who, standing) is)
+
+-- a process that both show alike is shown otherwise at no pair of it
+not_otherwise : (v w : View) (pair : ℕ) (who : UniqueModel) (standing : Standing) → slice_get (map.entries v.standings) pair ≡ Some (who, standing) → sight v who ≡ sight w who → false ≡ is_otherwise_at v w pair
+not_otherwise v w pair who standing is same =
+    sym (ap (λ o. list_any (λ (m : UniqueModel × (Status × ℕ)). is_otherwise v w m.0) (member_pairs (option_to_list o))) is ∙ by_standing standing)
+  where
+    alike : is_otherwise v w who ≡ false
+    alike = ap (λ o. not (is_same_sight (sight v who) o)) (sym same) ∙ ap not (sight_itself (sight v who))
+
+    by_standing : (standing : Standing) → list_any (λ (m : UniqueModel × (Status × ℕ)). is_otherwise v w m.0) (member_pairs ((who, standing) ∷ [])) ≡ false
+    by_standing (Member status number) = ap (λ b. b || false) alike
+    by_standing (Buried confirmed) = refl
+
+pub alike_at : (v w : View) (pair : ℕ) (who other : UniqueModel) (standing other_standing : Standing)
+    → slice_get (map.entries v.standings) pair ≡ Some (who, standing) → slice_get (map.entries w.standings) pair ≡ Some (other, other_standing) → who ≡ other
+    → is_same_sight (shown v who standing) (shown w who other_standing) ≡ true → (false ≡ is_otherwise_at v w pair) × (false ≡ is_otherwise_at w v pair)
+alike_at v w pair who other standing other_standing at other_at is alike =
+    (not_otherwise v w pair who standing at same, not_otherwise w v pair who other_standing there (sym same))
+  where
+    there : slice_get (map.entries w.standings) pair ≡ Some (who, other_standing)
+    there = other_at ∙ ap (λ (u : UniqueModel). Some (u, other_standing)) (sym is)
+
+    same : sight v who ≡ sight w who
+    same = same_sight (sight v who) (sight w who) ((λ i. is_same_sight (sight_shown v pair who standing at i) (sight_shown w pair who other_standing there i)) ∙ alike)
