@@ -1,4 +1,4 @@
-ghost use Rattle.std.specs.Prelude.{◌≡◌, [], ◌∷◌, ◌++◌, length, slice_get, OnOk, OnErr};
+ghost use Rattle.std.specs.Prelude.{◌≡◌, [], ◌∷◌, ◌++◌, length, slice_get, IfOk, OnOk, OnErr};
 ghost use Rattle.std.specs.Option.{option_copied};
 
 use ak_address::Unique;
@@ -76,6 +76,14 @@ impl Parts {
         Parts {
             list: Vec::new(alloc),
         }
+    }
+
+    /// No part, with memory for so many.
+    pub fn with_capacity(alloc: Global, many: usize) -> Result<Parts, AllocError>
+        ensures { IfOk result (λ parts. parts ≡ []) }
+    {
+        let list = Vec::with_capacity(alloc, many)?;
+        Ok(Parts { list })
     }
 
     /// Adds a part at the end. An error leaves the list as it was; only memory can fail.

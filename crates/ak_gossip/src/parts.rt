@@ -1,12 +1,13 @@
-ghost use Rattle.std.specs.Prelude.{◌≡◌, ◌↔◌, ◌≤◌, ℕ, [], Some, None, IsTrue, IfOk, OnOk, length, slice_get, option_copied, if◌then◌else◌};
+ghost use Rattle.std.specs.Prelude.{◌≡◌, ◌↔◌, ◌≤◌, ◌++◌, ℕ, [], Some, None, IsTrue, IfOk, OnOk, length, slice_get, option_copied, option_to_list, if◌then◌else◌};
 ghost use Rattle.std.specs.FinMap as map;
 ghost use Rattle.ak_address.specs.Uniques.{no_one, with_one};
 ghost use Rattle.ak_member.specs.Standing.{nobody};
 ghost use Rattle.ak_clock.specs.declared.version.TheConstants.{BOUND};
 ghost use Rattle.ak_gossip.specs.Gossip.{GossipState, IsGossip, IsNumber, most_uniques};
 ghost use Rattle.ak_gossip.specs.Parts.{state_of_status, state_of, number_of, row_number_of, indices_of, subjects_of, part_of, parts_of, IsState, IsPart, AreParts};
-ghost use Rattle.ak_gossip.specs.PartsWalk.{standing_of, ascend_from, is_above, ascend_after, has_there, with_counts, with_known, with_standings, with_seen, with_process, with_indices, with_part_row, with_part_rows};
+ghost use Rattle.ak_gossip.specs.PartsWalk.{standing_of, ascend_from, is_above, ascend_after, index_among, with_counts, with_known, with_standings, with_seen, with_process, with_indices, with_part_row, with_part_rows};
 
+use crate::cursor::{Cursor, index_of};
 use crate::gossip::{Gossip, MOST_UNIQUES};
 use crate::known::{Known, Tables};
 use crate::part::{Indices, Part, Parts};
@@ -23,10 +24,11 @@ impl Gossip {
         ensures valid { IfOk result (λ parts. AreParts parts) }
     {
         let members = self.known.members();
-        let mut parts = Parts::empty(alloc);
+        let mut parts = Parts::with_capacity(alloc, members.uniques())?;
+        let mut cursor = Cursor::start();
         'indices: for index in 0..members.uniques() {
             if let Some((who, standing)) = members.pair(index) {
-                let part = self.part_of(alloc, who, standing)?;
+                let part = self.part_of(alloc, who, standing, &mut cursor)?;
                 parts.push(part)?;
             }
         }
@@ -34,18 +36,24 @@ impl Gossip {
     }
 
     // The part of a process that has this standing.
-    fn part_of(&self, alloc: Global, who: &Unique, standing: Standing) -> Result<Part, AllocError>
+    fn part_of(
+        &self,
+        alloc: Global,
+        who: &Unique,
+        standing: Standing,
+        cursor: &mut Cursor,
+    ) -> Result<Part, AllocError>
         ensures { IfOk result (λ part. part ≡ part_of self.now (who.now, standing)) }
     {
         let unique = who.copy(alloc)?;
-        let row = self.known.rows().row(who);
+        let row = cursor.row(self.known.rows(), who);
         let subjects = subjects_of(alloc, row, self.known.members())?;
         Ok(Part {
             unique,
-            count: self.known.version().count(who),
+            count: cursor.count(self.known.version(), who),
             state: state_of(standing),
             up_number: number_of(standing),
-            seen: self.known.seen().contains(who),
+            seen: cursor.has_seen(self.known.seen(), who),
             row_number: row_number_of(row),
             subjects,
         })
@@ -252,22 +260,26 @@ fn indices_of(alloc: Global, set: &Uniques, everybody: &Members) -> Result<Indic
     requires { map.len everybody.now ≤ most_uniques }
     ensures { IfOk result (λ indices. indices ≡ indices_of set.now 0 (map.keys everybody.now)) }
 {
-    let mut indices = Vec::new(alloc);
-    'everybody: for index in 0..everybody.uniques() {
-        if has_at(set, everybody, index) {
-            indices.push(index as u8)?;
+    let mut indices = Vec::with_capacity(alloc, set.len())?;
+    'subjects: for place in 0..set.len() {
+        if let Some(who) = set.at(place) {
+            push_index(everybody, who, &mut indices)?;
         }
     }
     Ok(Indices::new(indices))
 }
 
-// Whether the process at an index is in the set.
-fn has_at(set: &Uniques, everybody: &Members, index: usize) -> bool
-    ensures { result ≡ has_there set.now (slice_get (map.keys everybody.now) index) }
+// Appends the index of a process among all that are known, where it is known.
+fn push_index(everybody: &Members, who: &Unique, indices: &mut Vec<u8>) -> Result<(), AllocError>
+    requires { map.len everybody.now ≤ most_uniques }
+    ensures { OnOk result (indices.new.items ≡ indices.old.items ++ option_to_list (index_among everybody.now who.now)) }
 {
-    match everybody.pair(index) {
-        Some((who, _)) => set.contains(who),
-        None => false,
+    match index_of(everybody, who) {
+        Some(index) => {
+            indices.push(index as u8)?;
+            Ok(())
+        }
+        None => Ok(()),
     }
 }
 
