@@ -26,7 +26,7 @@ impl<'a> Fields<'a> {
     fn some_parts(&mut self, alloc: Global, many: u8) -> Result<Parts, WireFault>
         ensures { Gives result self.new (items_at (part_at many) None many self.old) }
     {
-        let mut parts = Parts::empty(alloc);
+        let mut parts = Parts::with_capacity(alloc, usize::from(many))?;
         'parts: for _ in 0..many {
             self.add_part(alloc, many, &mut parts)?;
         }
@@ -119,7 +119,7 @@ impl<'a> Fields<'a> {
     fn some_indices(&mut self, alloc: Global, many: u8, length: u8) -> Result<Indices, WireFault>
         ensures { Gives result self.new (items_at (index_at many) None length self.old) }
     {
-        let mut list = Vec::new(alloc);
+        let mut list = Vec::with_capacity(alloc, usize::from(length))?;
         'list: for _ in 0..length {
             self.add_index(many, &mut list)?;
         }
