@@ -251,7 +251,7 @@ fn subjects_of(alloc: Global, row: Option<&Row>, everybody: &Members) -> Result<
 {
     match row {
         Some(row) => indices_of(alloc, &row.subjects, everybody),
-        None => Ok(Indices::new(Vec::new(alloc))),
+        None => Ok(Indices::empty(alloc)),
     }
 }
 
@@ -260,25 +260,22 @@ fn indices_of(alloc: Global, set: &Uniques, everybody: &Members) -> Result<Indic
     requires { map.len everybody.now ≤ most_uniques }
     ensures { IfOk result (λ indices. indices ≡ indices_of set.now 0 (map.keys everybody.now)) }
 {
-    let mut indices = Vec::with_capacity(alloc, set.len())?;
+    let mut indices = Indices::with_capacity(alloc, set.len())?;
     'subjects: for place in 0..set.len() {
         if let Some(who) = set.at(place) {
             push_index(everybody, who, &mut indices)?;
         }
     }
-    Ok(Indices::new(indices))
+    Ok(indices)
 }
 
 // Appends the index of a process among all that are known, where it is known.
-fn push_index(everybody: &Members, who: &Unique, indices: &mut Vec<u8>) -> Result<(), AllocError>
+fn push_index(everybody: &Members, who: &Unique, indices: &mut Indices) -> Result<(), AllocError>
     requires { map.len everybody.now ≤ most_uniques }
-    ensures { OnOk result (indices.new.items ≡ indices.old.items ++ option_to_list (index_among everybody.now who.now)) }
+    ensures { OnOk result (indices.new ≡ indices.old ++ option_to_list (index_among everybody.now who.now)) }
 {
     match index_of(everybody, who) {
-        Some(index) => {
-            indices.push(index as u8)?;
-            Ok(())
-        }
+        Some(index) => indices.push(index as u8),
         None => Ok(()),
     }
 }
@@ -336,25 +333,64 @@ fn add_seen(alloc: Global, part: &Part, seen: &mut Uniques) -> Result<(), AllocE
     Ok(())
 }
 
+// The subjects of the last row that was made, and their indices. Observers often have the same subjects, which are then not
+// made again.
+#[derive(Drop)]
+struct Subjects<'a> {
+    indices: &'a [u8],
+    them: Uniques,
+}
+
 fn rows_of(alloc: Global, parts: &[Part]) -> Result<Rows, AllocError>
     ensures { IfOk result (λ rows. rows ≡ with_part_rows parts.now map.empty parts.now) }
 {
     let mut rows = Rows::empty(alloc);
+    let mut last = Subjects {
+        indices: &[],
+        them: Uniques::empty(alloc),
+    };
     'parts: for part in parts {
-        add_row(alloc, parts, part, &mut rows)?;
+        add_row(alloc, parts, part, &mut last, &mut rows)?;
     }
     Ok(rows)
 }
 
 // Adds the row of the part, where it has one.
-fn add_row(alloc: Global, parts: &[Part], part: &Part, rows: &mut Rows) -> Result<(), AllocError>
-    ensures { OnOk result (rows.new ≡ with_part_row parts.now rows.old part.now) }
+fn add_row<'a>(
+    alloc: Global,
+    parts: &[Part],
+    part: &'a Part,
+    last: &mut Subjects<'a>,
+    rows: &mut Rows,
+) -> Result<(), AllocError>
+    requires { last.old.them ≡ with_indices parts.now no_one last.old.indices.now }
+    ensures row { OnOk result (rows.new ≡ with_part_row parts.now rows.old part.now) }
+    ensures last { OnOk result (last.new.them ≡ with_indices parts.now no_one last.new.indices.now) }
 {
     if part.row_number == 0 {
         return Ok(());
     }
-    let subjects = those_at(alloc, parts, part.subjects.as_slice())?;
-    rows.set_row(alloc, &part.unique, part.row_number, &subjects)
+    turn_to(alloc, parts, part.subjects.as_slice(), last)?;
+    rows.set_row(alloc, &part.unique, part.row_number, &last.them)
+}
+
+// The last subjects become the processes of the parts at these indices.
+fn turn_to<'a>(
+    alloc: Global,
+    parts: &[Part],
+    indices: &'a [u8],
+    last: &mut Subjects<'a>,
+) -> Result<(), AllocError>
+    requires { last.old.them ≡ with_indices parts.now no_one last.old.indices.now }
+    ensures them { OnOk result (last.new.them ≡ with_indices parts.now no_one indices.now) }
+    ensures indices { OnOk result (last.new.indices.now ≡ indices.now) }
+{
+    if last.indices == indices {
+        return Ok(());
+    }
+    last.them = those_at(alloc, parts, indices)?;
+    last.indices = indices;
+    Ok(())
 }
 
 // The processes of the parts at these indices.

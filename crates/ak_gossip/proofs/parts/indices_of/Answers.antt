@@ -12,16 +12,15 @@ subjects-preserved c =
     let them = in_order c.args.set.now in
     elim c.match-at.branch [
       | in-Some+in_ok-push_index w ↦
-          ap (λ l. l ++ indices_among everybody (drop (c.subjects.place + 1) them)) (ap (λ v. v.items) w.indices-is ∙ w.in_ok-push_index.ensures)
-          ∙ walked everybody them c.subjects.place c.subjects.indices.items _ c.subjects.invariant w.in-Some.who.now (sym w.in-Some.ensures)
+          ap (λ l. l ++ indices_among everybody (drop (c.subjects.place + 1) them)) (w.indices-is ∙ w.in_ok-push_index.ensures)
+          ∙ walked everybody them c.subjects.place c.subjects.indices _ c.subjects.invariant w.in-Some.who.now (sym w.in-Some.ensures)
       | in_default w ↦
-          ap (λ v. v.items ++ indices_among everybody (drop (c.subjects.place + 1) them)) w.indices-is
-          ∙ passed everybody them c.subjects.place c.subjects.indices.items _ c.subjects.invariant (sym w.in_default.ensures)
+          ap (λ l. l ++ indices_among everybody (drop (c.subjects.place + 1) them)) w.indices-is
+          ∙ passed everybody them c.subjects.place c.subjects.indices _ c.subjects.invariant (sym w.in_default.ensures)
     ]
 
 pub returns : goal.returns
 returns c =
-    c.new.ensures
-    ∙ walked_all c.args.everybody.now (in_order c.args.set.now) c.subjects.place c.subjects.indices.items _ c.subjects.invariant
+    walked_all c.args.everybody.now (in_order c.args.set.now) c.subjects.place c.subjects.indices _ c.subjects.invariant
     (omega (arith, length-keys c.args.set.now, c.len-place-end.ensures, c.subjects-test.false))
     ∙ are_indices c.args.everybody.now c.args.set.now
