@@ -26,7 +26,7 @@ impl<'a> Fields<'a> {
     fn some_parts(&mut self, alloc: Global, many: u8) -> Result<Parts, WireFault>
         ensures { Gives result self.new (items_at (part_at many) None many self.old) }
     {
-        let mut parts = Parts::empty(alloc);
+        let mut parts = Parts::with_capacity(alloc, usize::from(many))?;
         'parts: for _ in 0..many {
             self.add_part(alloc, many, &mut parts)?;
         }
@@ -103,7 +103,7 @@ impl<'a> Fields<'a> {
         ensures { Gives result self.new (subjects_at many number self.old) }
     {
         if number == 0 {
-            return Ok(Indices::new(Vec::new(alloc)));
+            return Ok(Indices::empty(alloc));
         }
         self.indices(alloc, many)
     }
@@ -119,17 +119,17 @@ impl<'a> Fields<'a> {
     fn some_indices(&mut self, alloc: Global, many: u8, length: u8) -> Result<Indices, WireFault>
         ensures { Gives result self.new (items_at (index_at many) None length self.old) }
     {
-        let mut list = Vec::new(alloc);
+        let mut list = Indices::with_capacity(alloc, usize::from(length))?;
         'list: for _ in 0..length {
             self.add_index(many, &mut list)?;
         }
-        Ok(Indices::new(list))
+        Ok(list)
     }
 
-    fn add_index(&mut self, many: u8, list: &mut Vec<u8>) -> Result<(), WireFault>
-        ensures { Adds result list.old.items list.new.items self.new (index_at many (last_of list.old.items) self.old) }
+    fn add_index(&mut self, many: u8, list: &mut Indices) -> Result<(), WireFault>
+        ensures { Adds result list.old list.new self.new (index_at many (last_of list.old) self.old) }
     {
-        let index = self.index(many, list.last())?;
+        let index = self.index(many, list.as_slice().last())?;
         list.push(index)?;
         Ok(())
     }

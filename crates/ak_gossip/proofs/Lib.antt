@@ -4,6 +4,7 @@ pub mod MayUpdates
 pub mod PartsBack
 pub mod PartsLaws
 pub mod PartsOrder
+pub mod PartsPlaces
 pub mod PartsIndices
 pub mod PartsSteps
 pub mod PartsLemmas

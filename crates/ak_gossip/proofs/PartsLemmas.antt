@@ -1,39 +1,13 @@
 -- Walks along the processes of a gossip, and along the indices of a part.
-use Rattle.std.proofs.Common.{◌≡◌, ℕ, ◌+◌, ◌<◌, ◌≤◌, true, false, if◌then◌else◌, List, [], ◌∷◌, ◌++◌, length, drop, get_or, slice_get, option_to_list, Option, Some, None, refl, sym, ap, ◌∙◌, true≢false, append_assoc, append-nil, drop_of_length-le, add-one, drop-cons}
+use Rattle.std.proofs.Common.{◌≡◌, ℕ, ◌+◌, ◌<◌, ◌≤◌, List, [], ◌∷◌, ◌++◌, length, drop, get_or, slice_get, option_to_list, Option, Some, sym, ap, ◌∙◌, append_assoc, append-nil, drop_of_length-le, add-one, drop-cons}
 use Rattle.std.specs.Prelude as list
 use Rattle.std.specs.FinMap as table
 use Rattle.std.proofs.lemmas.List.{length-map}
-use Rattle.ak_address.specs.Unique.{UniqueModel, unique_cmp}
+use Rattle.ak_address.specs.Unique.{unique_cmp}
 use Rattle.ak_address.specs.Uniques.{UniqueSet}
 use Rattle.ak_member.proofs.MemberLemmas.{drop_from}
 use Rattle.ak_gossip.specs.declared.part.Part.{Part}
-use Rattle.ak_gossip.specs.Parts.{indices_of}
-use Rattle.ak_gossip.specs.PartsWalk.{has_there, with_process, with_indices}
-use Rattle.ak_gossip.proofs.SeenLemmas.{not_none}
-
--- ---- indices of a set
-index_here : (set : UniqueSet) (o : Option UniqueModel) (i : ℕ) (rest : List UniqueModel) → has_there set o ≡ true → indices_of set i (option_to_list o ++ rest) ≡ i ∷ indices_of set (i + 1) rest
-index_here set None i rest h = absurd (true≢false (sym h))
-index_here set (Some who) i rest h = ap (λ b. if b then i ∷ indices_of set (i + 1) rest else indices_of set (i + 1) rest) h
-
-no_index_here : (set : UniqueSet) (o : Option UniqueModel) (i : ℕ) (rest : List UniqueModel) → (o ≡ None → ⊥) → has_there set o ≡ false → indices_of set i (option_to_list o ++ rest) ≡ indices_of set (i + 1) rest
-no_index_here set None i rest some h = absurd (some refl)
-no_index_here set (Some who) i rest some h = ap (λ b. if b then i ∷ indices_of set (i + 1) rest else indices_of set (i + 1) rest) h
-
-module _ (set : UniqueSet) (es : List UniqueModel) (i : ℕ) (done all : List ℕ) (before : done ++ indices_of set i (drop i es) ≡ all) where
-  pub index_more : has_there set (slice_get es i) ≡ true → (done ++ i ∷ []) ++ indices_of set (i + 1) (drop (i + 1) es) ≡ all
-  index_more h =
-      append_assoc done (i ∷ []) (indices_of set (i + 1) (drop (i + 1) es))
-      ∙ ap (λ l. done ++ l) (sym (ap (indices_of set i) (drop_from es i) ∙ index_here set (slice_get es i) i (drop (i + 1) es) h))
-      ∙ before
-
-  pub index_passed : i < length es → has_there set (slice_get es i) ≡ false → done ++ indices_of set (i + 1) (drop (i + 1) es) ≡ all
-  index_passed lt h =
-      ap (λ l. done ++ l) (sym (ap (indices_of set i) (drop_from es i) ∙ no_index_here set (slice_get es i) i (drop (i + 1) es) (not_none es i lt) h))
-      ∙ before
-
-  pub indices_end : length es ≤ i → done ≡ all
-  indices_end le = sym (append-nil done) ∙ ap (λ l. done ++ indices_of set i l) (sym (drop_of_length-le es le)) ∙ before
+use Rattle.ak_gossip.specs.PartsWalk.{with_process, with_indices}
 
 -- ---- processes at indices
 pub processes_left : (parts : List Part) (indices : List ℕ) (i : ℕ) (them next all : UniqueSet) → i < length indices → with_indices parts them (drop i indices) ≡ all → next ≡ with_process them (slice_get parts (get_or indices i 0)) → with_indices parts next (drop (i + 1) indices) ≡ all

@@ -1,9 +1,12 @@
 -- Tests of parts, and what is made of them, as the calls walk a list of parts.
-use Rattle.std.specs.Prelude.{ℕ, ◌+◌, ◌==◌, nat_le, nat_lt, Bool, true, false, ◌&&◌, List, [], ◌∷◌, Option, None, Some, if◌then◌else◌}
+use Rattle.std.specs.Prelude.{ℕ, ◌+◌, ◌==◌, nat_le, nat_lt, Bool, true, false, ◌&&◌, List, [], ◌∷◌, ◌++◌, Option, None, Some, option_to_list, if◌then◌else◌}
 use Rattle.std.specs.Ordering.{is_lt}
 use Rattle.std.specs.Prelude.{slice_get}
+use Rattle.std.specs.FinMap as table
+use Rattle.std.specs.Result.{result_ok}
+use Rattle.ak_address.specs.Pairs.{index}
 use Rattle.ak_address.specs.Unique.{UniqueModel, unique_cmp}
-use Rattle.ak_address.specs.Uniques.{UniqueSet, no_one, has, with_one}
+use Rattle.ak_address.specs.Uniques.{UniqueSet, no_one, with_one}
 use Rattle.ak_clock.specs.Version.{Counts, reaching}
 use Rattle.ak_member.specs.declared.standing.Standing.{Standing}
 use Rattle.ak_member.specs.declared.standing.Standing.TheVariants.{Member, Buried}
@@ -40,10 +43,14 @@ abbrev pub ascend_after : Option UniqueModel → List Part → Bool
 ascend_after last [] = true
 ascend_after last (part ∷ rest) = is_above last part.unique && ascend_after (Some part.unique) rest
 
--- the process, if there is one, is in the set
-abbrev pub has_there : UniqueSet → Option UniqueModel → Bool
-has_there set None = false
-has_there set (Some who) = has set who
+-- the index of a process among all that are known; none where it is not known
+abbrev pub index_among : Standings → UniqueModel → Option ℕ
+index_among everybody who = result_ok (index unique_cmp who (table.entries everybody))
+
+-- the indices of those in a list that are known
+abbrev pub indices_among : Standings → List UniqueModel → List ℕ
+indices_among everybody [] = []
+indices_among everybody (who ∷ rest) = option_to_list (index_among everybody who) ++ indices_among everybody rest
 
 -- at least so many entries of each process as its part counts
 abbrev pub with_counts : Counts → List Part → Counts

@@ -1,6 +1,7 @@
 //! What a node knows of its cluster, and what it makes of what others know.
 #![tactic(auto)]
 
+mod cursor;
 mod gossip;
 mod known;
 mod laws;

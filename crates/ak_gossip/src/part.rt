@@ -1,14 +1,14 @@
-ghost use Rattle.std.specs.Prelude.{◌≡◌, [], ◌∷◌, ◌++◌, length, slice_get, OnOk, OnErr};
+ghost use Rattle.std.specs.Prelude.{◌≡◌, [], ◌∷◌, ◌++◌, length, slice_get, IfOk, OnOk, OnErr};
 ghost use Rattle.std.specs.Option.{option_copied};
 
 use ak_address::Unique;
+use smallvec::SmallVec;
 use std::alloc::{AllocError, Global};
 use std::marker::Model;
 
-/// Indices in a list of parts.
-#[derive(Drop)]
+/// Indices in a list of parts. Up to 16 of them, as most rows have, stand in the value itself and take no memory.
 pub struct Indices {
-    list: Vec<u8>,
+    list: SmallVec<u8, 16>,
 }
 
 impl Model for Indices {
@@ -24,14 +24,48 @@ impl Indices {
     pub fn new(list: Vec<u8>) -> Indices
         ensures { result ≡ list.items }
     {
+        let list = SmallVec::from_vec(list);
         Indices { list }
+    }
+
+    /// No index. Takes no memory.
+    pub fn empty(alloc: Global) -> Indices
+        ensures { result ≡ [] }
+    {
+        let list = SmallVec::new(alloc);
+        Indices { list }
+    }
+
+    /// No index, with memory for so many.
+    pub fn with_capacity(alloc: Global, many: usize) -> Result<Indices, AllocError>
+        ensures { IfOk result (λ indices. indices ≡ []) }
+    {
+        let list = SmallVec::with_capacity(alloc, many)?;
+        Ok(Indices { list })
+    }
+
+    /// Adds an index at the end. An error leaves the indices as they were; only memory can fail.
+    pub fn push(&mut self, index: u8) -> Result<(), AllocError>
+        ensures ok { OnOk result (self.new ≡ self.old ++ index ∷ []) }
+        ensures err { OnErr result (self.new ≡ self.old) }
+    {
+        self.list.push(index)?;
+        Ok(())
     }
 
     /// The indices, in order.
     pub fn as_slice(&self) -> &[u8]
         ensures { result.now ≡ self.now }
     {
-        &self.list
+        self.list.as_slice()
+    }
+}
+
+// By hand, so that for a proof a drop is one step, wherever the indices stand.
+impl Drop for Indices {
+    fn drop(self) {
+        let Indices { list } = self;
+        drop(list);
     }
 }
 
@@ -76,6 +110,14 @@ impl Parts {
         Parts {
             list: Vec::new(alloc),
         }
+    }
+
+    /// No part, with memory for so many.
+    pub fn with_capacity(alloc: Global, many: usize) -> Result<Parts, AllocError>
+        ensures { IfOk result (λ parts. parts ≡ []) }
+    {
+        let list = Vec::with_capacity(alloc, many)?;
+        Ok(Parts { list })
     }
 
     /// Adds a part at the end. An error leaves the list as it was; only memory can fail.

@@ -1,12 +1,13 @@
-ghost use Rattle.std.specs.Prelude.{◌≡◌, ◌↔◌, ◌≤◌, ℕ, [], Some, None, IsTrue, IfOk, OnOk, length, slice_get, option_copied, if◌then◌else◌};
+ghost use Rattle.std.specs.Prelude.{◌≡◌, ◌↔◌, ◌≤◌, ◌++◌, ℕ, [], Some, None, IsTrue, IfOk, OnOk, length, slice_get, option_copied, option_to_list, if◌then◌else◌};
 ghost use Rattle.std.specs.FinMap as map;
 ghost use Rattle.ak_address.specs.Uniques.{no_one, with_one};
 ghost use Rattle.ak_member.specs.Standing.{nobody};
 ghost use Rattle.ak_clock.specs.declared.version.TheConstants.{BOUND};
 ghost use Rattle.ak_gossip.specs.Gossip.{GossipState, IsGossip, IsNumber, most_uniques};
 ghost use Rattle.ak_gossip.specs.Parts.{state_of_status, state_of, number_of, row_number_of, indices_of, subjects_of, part_of, parts_of, IsState, IsPart, AreParts};
-ghost use Rattle.ak_gossip.specs.PartsWalk.{standing_of, ascend_from, is_above, ascend_after, has_there, with_counts, with_known, with_standings, with_seen, with_process, with_indices, with_part_row, with_part_rows};
+ghost use Rattle.ak_gossip.specs.PartsWalk.{standing_of, ascend_from, is_above, ascend_after, index_among, with_counts, with_known, with_standings, with_seen, with_process, with_indices, with_part_row, with_part_rows};
 
+use crate::cursor::{Cursor, index_of};
 use crate::gossip::{Gossip, MOST_UNIQUES};
 use crate::known::{Known, Tables};
 use crate::part::{Indices, Part, Parts};
@@ -23,10 +24,11 @@ impl Gossip {
         ensures valid { IfOk result (λ parts. AreParts parts) }
     {
         let members = self.known.members();
-        let mut parts = Parts::empty(alloc);
+        let mut parts = Parts::with_capacity(alloc, members.uniques())?;
+        let mut cursor = Cursor::start();
         'indices: for index in 0..members.uniques() {
             if let Some((who, standing)) = members.pair(index) {
-                let part = self.part_of(alloc, who, standing)?;
+                let part = self.part_of(alloc, who, standing, &mut cursor)?;
                 parts.push(part)?;
             }
         }
@@ -34,18 +36,24 @@ impl Gossip {
     }
 
     // The part of a process that has this standing.
-    fn part_of(&self, alloc: Global, who: &Unique, standing: Standing) -> Result<Part, AllocError>
+    fn part_of(
+        &self,
+        alloc: Global,
+        who: &Unique,
+        standing: Standing,
+        cursor: &mut Cursor,
+    ) -> Result<Part, AllocError>
         ensures { IfOk result (λ part. part ≡ part_of self.now (who.now, standing)) }
     {
         let unique = who.copy(alloc)?;
-        let row = self.known.rows().row(who);
+        let row = cursor.row(self.known.rows(), who);
         let subjects = subjects_of(alloc, row, self.known.members())?;
         Ok(Part {
             unique,
-            count: self.known.version().count(who),
+            count: cursor.count(self.known.version(), who),
             state: state_of(standing),
             up_number: number_of(standing),
-            seen: self.known.seen().contains(who),
+            seen: cursor.has_seen(self.known.seen(), who),
             row_number: row_number_of(row),
             subjects,
         })
@@ -243,7 +251,7 @@ fn subjects_of(alloc: Global, row: Option<&Row>, everybody: &Members) -> Result<
 {
     match row {
         Some(row) => indices_of(alloc, &row.subjects, everybody),
-        None => Ok(Indices::new(Vec::new(alloc))),
+        None => Ok(Indices::empty(alloc)),
     }
 }
 
@@ -252,22 +260,23 @@ fn indices_of(alloc: Global, set: &Uniques, everybody: &Members) -> Result<Indic
     requires { map.len everybody.now ≤ most_uniques }
     ensures { IfOk result (λ indices. indices ≡ indices_of set.now 0 (map.keys everybody.now)) }
 {
-    let mut indices = Vec::new(alloc);
-    'everybody: for index in 0..everybody.uniques() {
-        if has_at(set, everybody, index) {
-            indices.push(index as u8)?;
+    let mut indices = Indices::with_capacity(alloc, set.len())?;
+    'subjects: for place in 0..set.len() {
+        if let Some(who) = set.at(place) {
+            push_index(everybody, who, &mut indices)?;
         }
     }
-    Ok(Indices::new(indices))
+    Ok(indices)
 }
 
-// Whether the process at an index is in the set.
-fn has_at(set: &Uniques, everybody: &Members, index: usize) -> bool
-    ensures { result ≡ has_there set.now (slice_get (map.keys everybody.now) index) }
+// Appends the index of a process among all that are known, where it is known.
+fn push_index(everybody: &Members, who: &Unique, indices: &mut Indices) -> Result<(), AllocError>
+    requires { map.len everybody.now ≤ most_uniques }
+    ensures { OnOk result (indices.new ≡ indices.old ++ option_to_list (index_among everybody.now who.now)) }
 {
-    match everybody.pair(index) {
-        Some((who, _)) => set.contains(who),
-        None => false,
+    match index_of(everybody, who) {
+        Some(index) => indices.push(index as u8),
+        None => Ok(()),
     }
 }
 
@@ -324,25 +333,64 @@ fn add_seen(alloc: Global, part: &Part, seen: &mut Uniques) -> Result<(), AllocE
     Ok(())
 }
 
+// The subjects of the last row that was made, and their indices. Observers often have the same subjects, which are then not
+// made again.
+#[derive(Drop)]
+struct Subjects<'a> {
+    indices: &'a [u8],
+    them: Uniques,
+}
+
 fn rows_of(alloc: Global, parts: &[Part]) -> Result<Rows, AllocError>
     ensures { IfOk result (λ rows. rows ≡ with_part_rows parts.now map.empty parts.now) }
 {
     let mut rows = Rows::empty(alloc);
+    let mut last = Subjects {
+        indices: &[],
+        them: Uniques::empty(alloc),
+    };
     'parts: for part in parts {
-        add_row(alloc, parts, part, &mut rows)?;
+        add_row(alloc, parts, part, &mut last, &mut rows)?;
     }
     Ok(rows)
 }
 
 // Adds the row of the part, where it has one.
-fn add_row(alloc: Global, parts: &[Part], part: &Part, rows: &mut Rows) -> Result<(), AllocError>
-    ensures { OnOk result (rows.new ≡ with_part_row parts.now rows.old part.now) }
+fn add_row<'a>(
+    alloc: Global,
+    parts: &[Part],
+    part: &'a Part,
+    last: &mut Subjects<'a>,
+    rows: &mut Rows,
+) -> Result<(), AllocError>
+    requires { last.old.them ≡ with_indices parts.now no_one last.old.indices.now }
+    ensures row { OnOk result (rows.new ≡ with_part_row parts.now rows.old part.now) }
+    ensures last { OnOk result (last.new.them ≡ with_indices parts.now no_one last.new.indices.now) }
 {
     if part.row_number == 0 {
         return Ok(());
     }
-    let subjects = those_at(alloc, parts, part.subjects.as_slice())?;
-    rows.set_row(alloc, &part.unique, part.row_number, &subjects)
+    turn_to(alloc, parts, part.subjects.as_slice(), last)?;
+    rows.set_row(alloc, &part.unique, part.row_number, &last.them)
+}
+
+// The last subjects become the processes of the parts at these indices.
+fn turn_to<'a>(
+    alloc: Global,
+    parts: &[Part],
+    indices: &'a [u8],
+    last: &mut Subjects<'a>,
+) -> Result<(), AllocError>
+    requires { last.old.them ≡ with_indices parts.now no_one last.old.indices.now }
+    ensures them { OnOk result (last.new.them ≡ with_indices parts.now no_one indices.now) }
+    ensures indices { OnOk result (last.new.indices.now ≡ indices.now) }
+{
+    if last.indices == indices {
+        return Ok(());
+    }
+    last.them = those_at(alloc, parts, indices)?;
+    last.indices = indices;
+    Ok(())
 }
 
 // The processes of the parts at these indices.

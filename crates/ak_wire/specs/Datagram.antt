@@ -64,7 +64,7 @@ placed b s n = ballot b ++ (shard s ++ eight_bytes n)
 abbrev pub payload : List ℕ → ℕ → List ℕ
 payload name bits = entity name ++ eight_bytes bits
 
--- what is spelled behind the receiver
+-- what is spelled after the receiver
 abbrev pub body : Message → List ℕ
 body Join = []
 body (Welcome g) = parts (parts_of g)

@@ -1,8 +1,8 @@
 use Rattle.std.proofs.Common.{◌≡◌, ◌++◌, drop}
-use Rattle.std.specs.FinMap as map
-use Rattle.ak_gossip.specs.Parts.{indices_of}
+use Rattle.ak_address.specs.Uniques.{in_order}
+use Rattle.ak_gossip.specs.PartsWalk.{indices_among}
 use Rattle.ak_gossip.proofs.parts.indices_of.Given as goal
 
--- with the indices among the others it comes to all indices
-abbrev pub invariant-everybody : goal.invariant-everybody
-invariant-everybody l = l.indices.items ++ indices_of l.set l.index (drop l.index (map.keys l.everybody)) ≡ indices_of l.set 0 (map.keys l.everybody)
+-- with the indices of the others it comes to those of all subjects
+abbrev pub invariant-subjects : goal.invariant-subjects
+invariant-subjects l = l.indices ++ indices_among l.everybody (drop l.place (in_order l.set)) ≡ indices_among l.everybody (in_order l.set)

@@ -8,7 +8,7 @@ use Rattle.ak_field.proofs.fields.Fields.some_parts.Goals as goal
 pub returns-in_err-add_part : goal.returns-in_err-add_part
 returns-in_err-add_part c =
     let item = part_at c.args.many in
-    let p = err_from_is_err_and c.from_residual.result c.from_residual.ensures.1 in
+    let p = err_from_is_err_and c.from_residual-in_err-add_part.result c.from_residual-in_err-add_part.ensures.1 in
     rw (p.1, p.2) (ends item c.in_err-add_part.field-0.0 c.parts.parts c.args.many c.parts.counter c.parts.self (items_at item None c.args.many c.args.self.now) c.parts-test.true c.in_err-add_part.ensures c.parts.invariant)
 
 pub parts-preserved : goal.parts-preserved
