@@ -43,22 +43,35 @@ fn set_of(alloc: Global, letters: &[u8]) -> Result<Uniques, Fail> {
     Ok(set)
 }
 
+fn stand(
+    alloc: Global,
+    members: &mut Members,
+    letter: u8,
+    standing: &Standing,
+) -> Result<(), Fail> {
+    let who = process(alloc, letter)?;
+    match standing {
+        Standing::Member(status, number) => Ok(members.raise(alloc, &who, *status, *number)?),
+        Standing::Buried(confirmed) => Ok(members.bury(alloc, &who, *confirmed)?),
+    }
+}
+
+fn settled_at(alloc: Global, members: &Members) -> Result<Settled, Fail> {
+    let mut settled = Settled::none(alloc);
+    let version = Version::empty(alloc);
+    if version.covers(settled.version()) {
+        settled.note(alloc, &version, members)?;
+    }
+    Ok(settled)
+}
+
 // The settled view in which a, b and so on stand so.
 fn settled(alloc: Global, standings: &[Standing]) -> Result<Settled, Fail> {
     let mut members = Members::empty(alloc);
     for (letter, standing) in b"abcd".iter().zip(standings.iter()) {
-        let who = process(alloc, *letter)?;
-        match standing {
-            Standing::Member(status, number) => members.raise(alloc, &who, *status, *number)?,
-            Standing::Buried(confirmed) => members.bury(alloc, &who, *confirmed)?,
-        }
+        stand(alloc, &mut members, *letter, standing)?;
     }
-    let mut settled = Settled::none(alloc);
-    let version = Version::empty(alloc);
-    if version.covers(settled.version()) {
-        settled.note(alloc, &version, &members)?;
-    }
-    Ok(settled)
+    settled_at(alloc, &members)
 }
 
 const HEADERS: [&str; 9] = [
@@ -198,22 +211,58 @@ fn shown(order: &Order) -> (u8, u32, u64, u8) {
     }
 }
 
-// Whether a tick of a, b and c, which have granted, gives these orders.
+fn are(orders: &[Order], wanted: &[(u8, u32, u64, u8)]) -> bool {
+    for (order, other) in orders.iter().zip(wanted.iter()) {
+        if shown(order) != *other {
+            return false;
+        }
+    }
+    orders.len() == wanted.len()
+}
+
+// What a coordinator is asked with.
+#[derive(Drop)]
+struct Cluster {
+    granted: Uniques,
+    settled: Settled,
+    settings: Settings,
+}
+
+// a, b and c have granted, and a, b and so on stand so.
+fn make_cluster(alloc: Global, standings: &[Standing]) -> Result<Cluster, Fail> {
+    let granted = set_of(alloc, b"abc")?;
+    let settled = settled(alloc, standings)?;
+    let settings = settings(alloc)?;
+    Ok(Cluster {
+        granted,
+        settled,
+        settings,
+    })
+}
+
+fn tick(
+    alloc: Global,
+    table: &mut Coordinator,
+    cluster: &Cluster,
+    wanted: &[(u8, u32, u64, u8)],
+) -> Result<bool, Fail> {
+    let Cluster {
+        granted,
+        settled,
+        settings,
+    } = cluster;
+    Ok(are(&table.on_tick(alloc, granted, settled, settings)?, wanted))
+}
+
+// Whether a tick gives these orders.
 fn ticks(
     alloc: Global,
     table: &mut Coordinator,
     standings: &[Standing],
     wanted: &[(u8, u32, u64, u8)],
 ) -> Result<bool, Fail> {
-    let granted = set_of(alloc, b"abc")?;
-    let settled = settled(alloc, standings)?;
-    let settings = settings(alloc)?;
-    let orders = table.on_tick(alloc, &granted, &settled, &settings)?;
-    let mut found = Vec::new(alloc);
-    for order in &orders {
-        found.push(shown(order))?;
-    }
-    Ok(found.as_slice() == wanted)
+    let cluster = make_cluster(alloc, standings)?;
+    tick(alloc, table, &cluster, wanted)
 }
 
 // The second one who asks is told the same home, and a stop that nobody waits for changes nothing.
@@ -360,32 +409,37 @@ fn load_at(loads: &[Load], index: usize) -> (u8, u32) {
     }
 }
 
-// The first loads where a, b and c have granted.
-fn counted(
+fn first_loads(loads: &[Load]) -> [(u8, u32); 4] {
+    [
+        load_at(loads, 0),
+        load_at(loads, 1),
+        load_at(loads, 2),
+        load_at(loads, 3),
+    ]
+}
+
+// Whether the first loads are these where a, b and c have granted.
+fn loads_are(
     alloc: Global,
     table: &Coordinator,
     standings: &[Standing],
-) -> Result<[(u8, u32); 4], Fail> {
-    let granted = set_of(alloc, b"abc")?;
-    let settled = settled(alloc, standings)?;
-    let loads = table.loads(alloc, &granted, &settled)?;
-    Ok([
-        load_at(&loads, 0),
-        load_at(&loads, 1),
-        load_at(&loads, 2),
-        load_at(&loads, 3),
-    ])
+    wanted: [(u8, u32); 4],
+) -> Result<bool, Fail> {
+    let cluster = make_cluster(alloc, standings)?;
+    let loads = table.loads(alloc, &cluster.granted, &cluster.settled)?;
+    Ok(first_loads(&loads) == wanted)
 }
+
+const NO_LOAD: (u8, u32) = (b'-', 0);
 
 #[test]
 fn a_load_counts_the_shards_of_an_up_member(rt: HostRuntime) -> Result<(), Fail> {
     let alloc = rt.alloc();
     let table = with_four_homes(alloc)?;
-    let all = counted(alloc, &table, &[UP, UP, UP, UP])?;
-    assert_eq!(rt; all, [(b'a', 1), (b'b', 2), (b'c', 0), (b'-', 0)]);
-    let others = counted(alloc, &table, &[EXITING, UP, UP, UP])?;
-    assert_eq!(rt; others, [(b'b', 2), (b'c', 0), (b'-', 0), (b'-', 0)]);
-    let nobody = counted(alloc, &table, &[])?;
-    assert_eq!(rt; nobody[0], (b'-', 0));
+    let all = [(b'a', 1), (b'b', 2), (b'c', 0), NO_LOAD];
+    assert!(rt; loads_are(alloc, &table, &[UP, UP, UP, UP], all)?);
+    let others = [(b'b', 2), (b'c', 0), NO_LOAD, NO_LOAD];
+    assert!(rt; loads_are(alloc, &table, &[EXITING, UP, UP, UP], others)?);
+    assert!(rt; loads_are(alloc, &table, &[], [NO_LOAD; 4])?);
     Ok(())
 }
