@@ -43,22 +43,35 @@ fn set_of(alloc: Global, letters: &[u8]) -> Result<Uniques, Fail> {
     Ok(set)
 }
 
+fn stand(
+    alloc: Global,
+    members: &mut Members,
+    letter: u8,
+    standing: &Standing,
+) -> Result<(), Fail> {
+    let who = process(alloc, letter)?;
+    match standing {
+        Standing::Member(status, number) => Ok(members.raise(alloc, &who, *status, *number)?),
+        Standing::Buried(confirmed) => Ok(members.bury(alloc, &who, *confirmed)?),
+    }
+}
+
+fn settled_at(alloc: Global, members: &Members) -> Result<Settled, Fail> {
+    let mut settled = Settled::none(alloc);
+    let version = Version::empty(alloc);
+    if version.covers(settled.version()) {
+        settled.note(alloc, &version, members)?;
+    }
+    Ok(settled)
+}
+
 // The settled view in which a, b and so on stand so.
 fn settled(alloc: Global, standings: &[Standing]) -> Result<Settled, Fail> {
     let mut members = Members::empty(alloc);
     for (letter, standing) in b"abcd".iter().zip(standings.iter()) {
-        let who = process(alloc, *letter)?;
-        match standing {
-            Standing::Member(status, number) => members.raise(alloc, &who, *status, *number)?,
-            Standing::Buried(confirmed) => members.bury(alloc, &who, *confirmed)?,
-        }
+        stand(alloc, &mut members, *letter, standing)?;
     }
-    let mut settled = Settled::none(alloc);
-    let version = Version::empty(alloc);
-    if version.covers(settled.version()) {
-        settled.note(alloc, &version, &members)?;
-    }
-    Ok(settled)
+    settled_at(alloc, &members)
 }
 
 const HEADERS: [&str; 9] = [
@@ -175,6 +188,20 @@ fn take(alloc: Global, table: &mut Coordinator, turn: Turn) -> Result<(u8, u64),
     }
 }
 
+// Whether each turn is answered so, one after another.
+fn all_go(
+    alloc: Global,
+    table: &mut Coordinator,
+    turns: &[(Turn, (u8, u64))],
+) -> Result<bool, Fail> {
+    'turns: for (turn, wanted) in turns {
+        if take(alloc, table, *turn)? != *wanted {
+            return Ok(false);
+        }
+    }
+    Ok(true)
+}
+
 // An order as a letter, shard, number and the first letter of whom it is for.
 fn shown(order: &Order) -> (u8, u32, u64, u8) {
     match order {
@@ -184,54 +211,92 @@ fn shown(order: &Order) -> (u8, u32, u64, u8) {
     }
 }
 
-// Whether a tick of a, b and c, which have granted, gives these orders.
+fn are(orders: &[Order], wanted: &[(u8, u32, u64, u8)]) -> bool {
+    for (order, other) in orders.iter().zip(wanted.iter()) {
+        if shown(order) != *other {
+            return false;
+        }
+    }
+    orders.len() == wanted.len()
+}
+
+// What a coordinator is asked with.
+#[derive(Drop)]
+struct Cluster {
+    granted: Uniques,
+    settled: Settled,
+    settings: Settings,
+}
+
+// a, b and c have granted, and a, b and so on stand so.
+fn make_cluster(alloc: Global, standings: &[Standing]) -> Result<Cluster, Fail> {
+    let granted = set_of(alloc, b"abc")?;
+    let settled = settled(alloc, standings)?;
+    let settings = settings(alloc)?;
+    Ok(Cluster {
+        granted,
+        settled,
+        settings,
+    })
+}
+
+fn tick(
+    alloc: Global,
+    table: &mut Coordinator,
+    cluster: &Cluster,
+    wanted: &[(u8, u32, u64, u8)],
+) -> Result<bool, Fail> {
+    let Cluster {
+        granted,
+        settled,
+        settings,
+    } = cluster;
+    Ok(are(&table.on_tick(alloc, granted, settled, settings)?, wanted))
+}
+
+// Whether a tick gives these orders.
 fn ticks(
     alloc: Global,
     table: &mut Coordinator,
     standings: &[Standing],
     wanted: &[(u8, u32, u64, u8)],
 ) -> Result<bool, Fail> {
-    let granted = set_of(alloc, b"abc")?;
-    let settled = settled(alloc, standings)?;
-    let settings = settings(alloc)?;
-    let orders = table.on_tick(alloc, &granted, &settled, &settings)?;
-    let mut found = Vec::new(alloc);
-    for order in &orders {
-        found.push(shown(order))?;
-    }
-    Ok(found.as_slice() == wanted)
+    let cluster = make_cluster(alloc, standings)?;
+    tick(alloc, table, &cluster, wanted)
 }
+
+// The second one who asks is told the same home, and a stop that nobody waits for changes nothing.
+const PLACED_ONCE: [(Turn, (u8, u64)); 4] = [
+    (Turn::GetHome(6), (b'b', 1)),
+    (Turn::GetHome(6), (b'b', 0)),
+    (Turn::Stopped(b'b', 6, 1), (b'-', 0)),
+    (Turn::GetHome(6), (b'b', 0)),
+];
 
 #[test]
 fn a_free_shard_is_placed_once(rt: HostRuntime) -> Result<(), Fail> {
     let alloc = rt.alloc();
     let mut table = Coordinator::new(alloc, 10)?;
-    for (turn, wanted) in [
-        (Turn::GetHome(6), (b'b', 1)),
-        (Turn::GetHome(6), (b'b', 0)),
-        (Turn::Stopped(b'b', 6, 1), (b'-', 0)),
-        (Turn::GetHome(6), (b'b', 0)),
-    ] {
-        assert_eq!(rt; take(alloc, &mut table, turn)?, wanted);
-    }
+    assert!(rt; all_go(alloc, &mut table, &PLACED_ONCE)?);
     Ok(())
 }
+
+// Reports, and the home that is known after each.
+const REPORTS: [(Turn, (u8, u64)); 7] = [
+    (Turn::Learn(b'b', 6, 3, true), (b'b', 3)),
+    (Turn::Learn(b'c', 6, 2, true), (b'b', 3)),
+    (Turn::Learn(b'a', 6, 3, true), (b'b', 3)),
+    (Turn::Learn(b'c', 6, 3, true), (b'c', 3)),
+    (Turn::Learn(b'd', 6, 4, false), (b'c', 3)),
+    (Turn::Learn(b'a', 6, 4, true), (b'a', 4)),
+    (Turn::Learn(b'd', 7, 9, false), (b'd', 9)),
+];
 
 #[test]
 fn the_greater_report_is_the_home(rt: HostRuntime) -> Result<(), Fail> {
     let alloc = rt.alloc();
     let mut table = Coordinator::new(alloc, 10)?;
-    for (turn, wanted) in [
-        (Turn::Learn(b'b', 6, 3, true), (b'b', 3)),
-        (Turn::Learn(b'c', 6, 2, true), (b'b', 3)),
-        (Turn::Learn(b'a', 6, 3, true), (b'b', 3)),
-        (Turn::Learn(b'c', 6, 3, true), (b'c', 3)),
-        (Turn::Learn(b'd', 6, 4, false), (b'c', 3)),
-        (Turn::Learn(b'a', 6, 4, true), (b'a', 4)),
-        (Turn::Learn(b'd', 7, 9, false), (b'd', 9)),
-    ] {
-        assert_eq!(rt; take(alloc, &mut table, turn)?, wanted);
-    }
+    assert!(rt; all_go(alloc, &mut table, &REPORTS)?);
     Ok(())
 }
 
@@ -249,6 +314,25 @@ fn no_number_passes_the_bound(rt: HostRuntime) -> Result<(), Fail> {
     Ok(())
 }
 
+// The last of the three that are waited for ends the first stage.
+const ACKS: [(Turn, (u8, u64)); 7] = [
+    (Turn::GetHome(6), (b'm', 0)),
+    (Turn::Ack(b'a', 6, 1), (b'-', 0)),
+    (Turn::Ack(b'a', 6, 1), (b'-', 0)),
+    (Turn::Ack(b'b', 6, 2), (b'-', 0)),
+    (Turn::Ack(b'b', 6, 1), (b'-', 0)),
+    (Turn::Ack(b'c', 6, 1), (b'l', 0)),
+    (Turn::Ack(b'c', 6, 1), (b'-', 0)),
+];
+
+// The home that the coordinator waits for stops once.
+const STOPS: [(Turn, (u8, u64)); 4] = [
+    (Turn::Stopped(b'a', 6, 1), (b'-', 0)),
+    (Turn::Stopped(b'b', 6, 2), (b'-', 0)),
+    (Turn::Stopped(b'b', 6, 1), (b'b', 2)),
+    (Turn::Stopped(b'b', 6, 1), (b'-', 0)),
+];
+
 #[test]
 fn a_shard_is_handed_off_in_stages(rt: HostRuntime) -> Result<(), Fail> {
     let alloc = rt.alloc();
@@ -262,26 +346,9 @@ fn a_shard_is_handed_off_in_stages(rt: HostRuntime) -> Result<(), Fail> {
     assert!(rt; ticks(alloc, &mut table, &[UP, UP, UP], &[])?);
     let begun = [(b'b', 6, 1, b'a'), (b'b', 6, 1, b'b'), (b'b', 6, 1, b'c')];
     assert!(rt; ticks(alloc, &mut table, &[UP, EXITING, UP], &begun)?);
-    for (turn, wanted) in [
-        (Turn::GetHome(6), (b'm', 0)),
-        (Turn::Ack(b'a', 6, 1), (b'-', 0)),
-        (Turn::Ack(b'a', 6, 1), (b'-', 0)),
-        (Turn::Ack(b'b', 6, 2), (b'-', 0)),
-        (Turn::Ack(b'b', 6, 1), (b'-', 0)),
-        (Turn::Ack(b'c', 6, 1), (b'l', 0)),
-        (Turn::Ack(b'c', 6, 1), (b'-', 0)),
-    ] {
-        assert_eq!(rt; take(alloc, &mut table, turn)?, wanted);
-    }
+    assert!(rt; all_go(alloc, &mut table, &ACKS)?);
     assert!(rt; ticks(alloc, &mut table, &[UP, EXITING, UP], &[(b'o', 6, 1, b'b')])?);
-    for (turn, wanted) in [
-        (Turn::Stopped(b'a', 6, 1), (b'-', 0)),
-        (Turn::Stopped(b'b', 6, 2), (b'-', 0)),
-        (Turn::Stopped(b'b', 6, 1), (b'b', 2)),
-        (Turn::Stopped(b'b', 6, 1), (b'-', 0)),
-    ] {
-        assert_eq!(rt; take(alloc, &mut table, turn)?, wanted);
-    }
+    assert!(rt; all_go(alloc, &mut table, &STOPS)?);
     Ok(())
 }
 
@@ -315,5 +382,64 @@ fn an_overloaded_node_gives_a_shard_away(rt: HostRuntime) -> Result<(), Fail> {
     let begun = [(b'b', 3, 1, b'a'), (b'b', 3, 1, b'b'), (b'b', 3, 1, b'c')];
     assert!(rt; ticks(alloc, &mut table, &[UP, UP], &begun)?);
     assert!(rt; ticks(alloc, &mut table, &[UP, UP], &begun)?);
+    Ok(())
+}
+
+// b is the home of two shards, a of one, and d, which has not granted, of one.
+const FOUR_HOMES: [(Turn, (u8, u64)); 4] = [
+    (Turn::Learn(b'b', 1, 1, true), (b'b', 1)),
+    (Turn::Learn(b'b', 2, 1, true), (b'b', 1)),
+    (Turn::Learn(b'a', 3, 1, true), (b'a', 1)),
+    (Turn::Learn(b'd', 4, 1, true), (b'd', 1)),
+];
+
+fn with_four_homes(alloc: Global) -> Result<Coordinator, Fail> {
+    let mut table = Coordinator::new(alloc, 10)?;
+    if all_go(alloc, &mut table, &FOUR_HOMES)? {
+        return Ok(table);
+    }
+    Err("a home is not learnt")?
+}
+
+// The first letter and the shards of a load; - past the last one.
+fn load_at(loads: &[Load], index: usize) -> (u8, u32) {
+    match loads.get(index) {
+        Some(load) => (letter(&load.unique), load.shards),
+        None => (b'-', 0),
+    }
+}
+
+fn first_loads(loads: &[Load]) -> [(u8, u32); 4] {
+    [
+        load_at(loads, 0),
+        load_at(loads, 1),
+        load_at(loads, 2),
+        load_at(loads, 3),
+    ]
+}
+
+// Whether the first loads are these where a, b and c have granted.
+fn loads_are(
+    alloc: Global,
+    table: &Coordinator,
+    standings: &[Standing],
+    wanted: [(u8, u32); 4],
+) -> Result<bool, Fail> {
+    let cluster = make_cluster(alloc, standings)?;
+    let loads = table.loads(alloc, &cluster.granted, &cluster.settled)?;
+    Ok(first_loads(&loads) == wanted)
+}
+
+const NO_LOAD: (u8, u32) = (b'-', 0);
+
+#[test]
+fn a_load_counts_the_shards_of_an_up_member(rt: HostRuntime) -> Result<(), Fail> {
+    let alloc = rt.alloc();
+    let table = with_four_homes(alloc)?;
+    let all = [(b'a', 1), (b'b', 2), (b'c', 0), NO_LOAD];
+    assert!(rt; loads_are(alloc, &table, &[UP, UP, UP, UP], all)?);
+    let others = [(b'b', 2), (b'c', 0), NO_LOAD, NO_LOAD];
+    assert!(rt; loads_are(alloc, &table, &[EXITING, UP, UP, UP], others)?);
+    assert!(rt; loads_are(alloc, &table, &[], [NO_LOAD; 4])?);
     Ok(())
 }
