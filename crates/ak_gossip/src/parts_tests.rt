@@ -218,6 +218,31 @@ fn has_the_seen_set(gossip: &Gossip) -> bool {
     has_uid(gossip.seen(), 0) == 1 && has_uid(gossip.seen(), 1) == 4
 }
 
+const MANY: &[u8] = &[0, 1, 2, 3, 4, 5, 6, 7, 8, 9, 10, 11, 12, 13, 14, 15, 16];
+
+// Observers of which two have the same subjects, and so many that are only counted after them.
+fn observed_lines(alloc: Global, counted_too: u32) -> Result<Vec<Line>, AllocError> {
+    let mut lines = Vec::new(alloc);
+    lines.push(observer(1, 2, MANY))?;
+    lines.push(observer(2, 1, &[0]))?;
+    lines.push(observer(3, 3, MANY))?;
+    lines.push(observer(4, 1, &[]))?;
+    for more in 0..counted_too {
+        lines.push(counted(more.wrapping_add(5), 1))?;
+    }
+    Ok(lines)
+}
+
+#[test]
+fn parts_with_many_subjects_come_back(rt: HostRuntime) -> Result<(), Fail> {
+    let alloc = rt.alloc();
+    let lines = observed_lines(alloc, 14)?;
+    let gossip = gossip(alloc, &lines)?;
+    let parts = gossip.to_parts(alloc)?;
+    assert!(rt; are_lines(&parts, &lines));
+    Ok(())
+}
+
 #[test]
 fn a_gossip_is_made_of_parts(rt: HostRuntime) -> Result<(), Fail> {
     let gossip = gossip(rt.alloc(), &lines())?;
