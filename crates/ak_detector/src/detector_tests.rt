@@ -119,3 +119,26 @@ fn silent_members_stay_watched(rt: HostRuntime) -> Result<(), Fail> {
     }
     Ok(())
 }
+
+// Whether b, which watched by some members, watches by others already.
+fn goes_on(alloc: Global, members: &[u8], others: &[u8]) -> Result<bool, Fail> {
+    let mut detector = Detector::new(alloc);
+    watch(alloc, &mut detector, members)?;
+    let me = process(alloc, b'b')?;
+    Ok(detector.watches_already(&me, &members_of(alloc, others)?))
+}
+
+#[test]
+fn who_watches_its_ring_goes_on(rt: HostRuntime) -> Result<(), Fail> {
+    for (members, others, on) in [
+        (b"abc".as_slice(), b"abc".as_slice(), true),
+        (b"abcdefg".as_slice(), b"bcdefgh".as_slice(), true),
+        (b"abc".as_slice(), b"abcd".as_slice(), false),
+        (b"abcd".as_slice(), b"abc".as_slice(), false),
+        (b"abc".as_slice(), b"abd".as_slice(), false),
+        (b"bc".as_slice(), b"ab".as_slice(), false),
+    ] {
+        assert!(rt; goes_on(rt.alloc(), members, others)? == on);
+    }
+    Ok(())
+}
