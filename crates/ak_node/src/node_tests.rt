@@ -108,7 +108,7 @@ fn few_steps(node: &Node) -> Result<(), Fail>
     Ok(())
 }
 
-// What the node does at an event. The event is owned on one path, and so it is made after all else that may fail.
+// What the node does at an event, which is made after all else that may fail: so it is let go on one path alone.
 fn step(alloc: Global, node: &mut Node, event: NodeEvent) -> Result<Actions, Fail>
     requires { node.old.state.steps < 1000 }
 {
@@ -439,8 +439,8 @@ fn goes_so(alloc: Global, node: &mut Node, story: Story) -> Result<bool, Fail> {
     }
 }
 
-// Whether the story of the node of this letter goes so. It alone owns a node: each end of a function that does costs a proof
-// of what becomes of it.
+// Whether the story of the node of this letter goes so. A function that owns a node is proved to let it go at each of its
+// ends, so the others borrow it.
 fn is_so(alloc: Global, letter: u8, story: Story) -> Result<bool, Fail> {
     let mut node = start(alloc, letter)?;
     goes_so(alloc, &mut node, story)
