@@ -108,9 +108,10 @@ fn few_steps(node: &Node) -> Result<(), Fail>
     Ok(())
 }
 
-// What the node does at an event.
-fn step(alloc: Global, node: &mut Node, event: NodeEvent) -> Result<Actions, Fail> {
-    few_steps(node)?;
+// What the node does at an event, which is made after all else that may fail: so it is let go on one path alone.
+fn step(alloc: Global, node: &mut Node, event: NodeEvent) -> Result<Actions, Fail>
+    requires { node.old.state.steps < 1000 }
+{
     Ok(node.step(alloc, event)?)
 }
 
@@ -122,36 +123,36 @@ fn ways(alloc: Global, node: &Node, from: u8) -> Result<(Unique, Address), Fail>
 }
 
 // The event that a message comes.
-fn packet(from: Unique, to: Address, message: Message) -> NodeEvent {
+fn packet(ways: (Unique, Address), message: Message) -> NodeEvent {
     NodeEvent::Packet(Envelope {
-        from,
-        to,
+        from: ways.0,
+        to: ways.1,
         uid: 0,
         message,
     })
 }
 
-// What the node does where the message of the process of this letter reaches it.
-fn given(alloc: Global, node: &mut Node, from: u8, message: Message) -> Result<Actions, Fail> {
-    let (from, to) = ways(alloc, node, from)?;
-    step(alloc, node, packet(from, to, message))
-}
-
 // What it does where the process of this letter asks to join.
 fn asked(alloc: Global, node: &mut Node, from: u8) -> Result<Actions, Fail> {
-    given(alloc, node, from, Message::Join)
+    few_steps(node)?;
+    let ways = ways(alloc, node, from)?;
+    step(alloc, node, packet(ways, Message::Join))
 }
 
 // What it does at a gossip of these lines that the process of this letter sends.
 fn told(alloc: Global, node: &mut Node, from: u8, lines: &[(u8, u64)]) -> Result<Actions, Fail> {
+    few_steps(node)?;
+    let ways = ways(alloc, node, from)?;
     let gossip = gossip(alloc, lines)?;
-    given(alloc, node, from, Message::Gossip(gossip))
+    step(alloc, node, packet(ways, Message::Gossip(gossip)))
 }
 
 // What it does at the gossip of a crowd that c sends.
 fn told_of_crowd(alloc: Global, node: &mut Node, others: u32) -> Result<Actions, Fail> {
+    few_steps(node)?;
+    let ways = ways(alloc, node, b'c')?;
     let gossip = crowd(alloc, others)?;
-    given(alloc, node, b'c', Message::Gossip(gossip))
+    step(alloc, node, packet(ways, Message::Gossip(gossip)))
 }
 
 fn is_refusal(actions: &Actions, code: u8) -> bool {
@@ -221,97 +222,65 @@ fn is_answer_with_nobody(alloc: Global, actions: &Actions, from: u8, to: u8) -> 
     Ok(answers_with_nobody(actions, &from, &to))
 }
 
-// A node that knows nothing and is not founded is told of itself alone, with no update counted: it knows the same, so it
-// answers with what it knows, which is nobody, and its view is not another.
-#[test]
-fn an_empty_node_answers_a_gossip_that_names_it(rt: HostRuntime) -> Result<(), Fail> {
-    let mut node = start(rt.alloc(), b'b')?;
-    let actions = told(rt.alloc(), &mut node, b'a', &[(b'b', 0)])?;
-    assert!(rt; is_answer_with_nobody(rt.alloc(), &actions, b'b', b'a')?);
-    Ok(())
+// b answers so where a tells it of b alone, of which no update is counted.
+fn answers_with_what_it_knows(alloc: Global, node: &mut Node) -> Result<bool, Fail> {
+    let actions = told(alloc, node, b'a', &[(b'b', 0)])?;
+    is_answer_with_nobody(alloc, &actions, b'b', b'a')
 }
 
-// What a founder, a, whose own count is 1, does when the process of this letter asks to join.
-fn founder_asked(alloc: Global, from: u8) -> Result<Actions, Fail> {
-    let mut node = founder(alloc)?;
-    asked(alloc, &mut node, from)
-}
-
-fn founder_told(alloc: Global, from: u8, lines: &[(u8, u64)]) -> Result<Actions, Fail> {
-    let mut node = founder(alloc)?;
-    told(alloc, &mut node, from, lines)
-}
-
-fn founder(alloc: Global) -> Result<Node, Fail> {
-    let mut node = start(alloc, b'a')?;
-    let actions = step(alloc, &mut node, NodeEvent::Found)?;
-    if is_founding(&actions) {
-        return Ok(node);
+// The node founds the cluster: its own count is 1.
+fn found(alloc: Global, node: &mut Node) -> Result<(), Fail> {
+    few_steps(node)?;
+    if is_founding(&step(alloc, node, NodeEvent::Found)?) {
+        return Ok(());
     }
     Err("it does not found")?
 }
 
-// A member refuses a process at an address that is not listed.
-#[test]
-fn unlisted_processes_are_refused(rt: HostRuntime) -> Result<(), Fail> {
-    assert!(rt; is_refusal(&founder_asked(rt.alloc(), b'z')?, 4));
-    Ok(())
+fn refuses_the_unlisted(alloc: Global, node: &mut Node) -> Result<bool, Fail> {
+    found(alloc, node)?;
+    Ok(is_refusal(&asked(alloc, node, b'z')?, 4))
 }
 
-// A node refuses a gossip that counts more of its updates than it made.
-#[test]
-fn foreign_counts_are_refused(rt: HostRuntime) -> Result<(), Fail> {
+fn refuses_foreign_counts(alloc: Global, node: &mut Node) -> Result<bool, Fail> {
+    found(alloc, node)?;
     let lines = [(b'a', 2), (b'b', 0)];
-    assert!(rt; is_refusal(&founder_told(rt.alloc(), b'b', &lines)?, 5));
-    Ok(())
+    Ok(is_refusal(&told(alloc, node, b'b', &lines)?, 5))
 }
 
-// The node a, which took in the gossip of a crowd with so many others.
-fn in_crowd(alloc: Global, others: u32) -> Result<Node, Fail> {
-    let mut node = start(alloc, b'a')?;
-    let actions = told_of_crowd(alloc, &mut node, others)?;
-    if is_answer_with_view(&actions) {
-        return Ok(node);
+// The node a takes in the gossip of a crowd with so many others, and then b asks to join.
+fn asked_in_crowd(alloc: Global, node: &mut Node, others: u32) -> Result<Actions, Fail> {
+    if is_answer_with_view(&told_of_crowd(alloc, node, others)?) {
+        return asked(alloc, node, b'b');
     }
     Err("it does not take the gossip in")?
 }
 
-// What it does when b asks to join.
-fn crowd_asked(alloc: Global, others: u32) -> Result<Actions, Fail> {
-    let mut node = in_crowd(alloc, others)?;
-    asked(alloc, &mut node, b'b')
+fn refuses_another(alloc: Global, node: &mut Node, others: u32) -> Result<bool, Fail> {
+    Ok(is_refusal(&asked_in_crowd(alloc, node, others)?, 6))
 }
 
-// Where 64 are known nobody more is admitted; where 63 are, one is.
-#[test]
-fn at_most_64_admit_another(rt: HostRuntime) -> Result<(), Fail> {
-    assert!(rt; is_refusal(&crowd_asked(rt.alloc(), 63)?, 6));
-    assert!(rt; is_admission(&crowd_asked(rt.alloc(), 62)?));
-    Ok(())
+fn admits_another(alloc: Global, node: &mut Node, others: u32) -> Result<bool, Fail> {
+    Ok(is_admission(&asked_in_crowd(alloc, node, others)?))
 }
 
-// The node a, which knows itself and b.
-fn of_two(alloc: Global) -> Result<Node, Fail> {
-    let mut node = start(alloc, b'a')?;
-    let actions = told(alloc, &mut node, b'b', &[(b'a', 0), (b'b', 1)])?;
-    if is_answer_with_view(&actions) {
-        return Ok(node);
+// A gossip of a and b, of which one update of b is counted.
+const TWO: [(u8, u64); 2] = [(b'a', 0), (b'b', 1)];
+
+// The node a comes to know itself and b, and then is told of a crowd in which b is not.
+fn told_after_two(alloc: Global, node: &mut Node, others: u32) -> Result<Actions, Fail> {
+    if is_answer_with_view(&told(alloc, node, b'b', &TWO)?) {
+        return told_of_crowd(alloc, node, others);
     }
     Err("it does not take the gossip in")?
 }
 
-// What it does at the gossip of a crowd in which b is not.
-fn two_told_of_crowd(alloc: Global, others: u32) -> Result<Actions, Fail> {
-    let mut node = of_two(alloc)?;
-    told_of_crowd(alloc, &mut node, others)
+fn refuses_a_crowd(alloc: Global, node: &mut Node, others: u32) -> Result<bool, Fail> {
+    Ok(is_refusal(&told_after_two(alloc, node, others)?, 6))
 }
 
-// A gossip is refused where more than 128 would be known: a and b here, a and 127 others there.
-#[test]
-fn at_most_128_are_known(rt: HostRuntime) -> Result<(), Fail> {
-    assert!(rt; is_refusal(&two_told_of_crowd(rt.alloc(), 127)?, 6));
-    assert!(rt; is_answer_with_view(&two_told_of_crowd(rt.alloc(), 126)?));
-    Ok(())
+fn takes_a_crowd_in(alloc: Global, node: &mut Node, others: u32) -> Result<bool, Fail> {
+    Ok(is_answer_with_view(&told_after_two(alloc, node, others)?))
 }
 
 // A gossip of a and b, both Up, of which one update of b is counted; neither has seen it.
@@ -341,27 +310,36 @@ fn push_up(
     })
 }
 
-// The node a, which knows itself and b, both Up.
-fn of_two_up(alloc: Global) -> Result<Node, Fail> {
-    let mut node = start(alloc, b'a')?;
+// What the node does at the gossip of two that b sends.
+fn told_of_two_up(alloc: Global, node: &mut Node) -> Result<Actions, Fail> {
+    few_steps(node)?;
+    let ways = ways(alloc, node, b'b')?;
     let gossip = gossip_of_two_up(alloc)?;
-    let actions = given(alloc, &mut node, b'b', Message::Gossip(gossip))?;
-    if is_answer_with_view(&actions) {
-        return Ok(node);
+    step(alloc, node, packet(ways, Message::Gossip(gossip)))
+}
+
+// The node a comes to know itself and b, both Up.
+fn take_two_up_in(alloc: Global, node: &mut Node) -> Result<(), Fail> {
+    if is_answer_with_view(&told_of_two_up(alloc, node)?) {
+        return Ok(());
     }
     Err("it does not take the gossip in")?
 }
 
 // What the node does where a packet of z, who is no member and at no listed address, asks that the process of this letter leaves.
 fn asked_to_leave(alloc: Global, node: &mut Node, who: u8) -> Result<Actions, Fail> {
+    few_steps(node)?;
+    let ways = ways(alloc, node, b'z')?;
     let who = process(alloc, who)?;
-    given(alloc, node, b'z', Message::Leave(who))
+    step(alloc, node, packet(ways, Message::Leave(who)))
 }
 
 // What it does where a packet of z asks to down the process of this letter.
 fn asked_to_down(alloc: Global, node: &mut Node, who: u8) -> Result<Actions, Fail> {
+    few_steps(node)?;
+    let ways = ways(alloc, node, b'z')?;
     let who = process(alloc, who)?;
-    given(alloc, node, b'z', Message::Down(who))
+    step(alloc, node, packet(ways, Message::Down(who)))
 }
 
 // The effects are that this process rises to this status, with no number.
@@ -382,35 +360,31 @@ fn is_raise(actions: &Actions, number: u64, who: &Unique, to: Status) -> bool {
     }
 }
 
-// A member raises an Up member to Leaving, and a Leaving one to Down, as packets ask it, from whomever they come.
-#[test]
-fn packets_ask_to_leave_and_to_down(rt: HostRuntime) -> Result<(), Fail> {
-    let other = process(rt.alloc(), b'b')?;
-    let mut node = of_two_up(rt.alloc())?;
-    let left = asked_to_leave(rt.alloc(), &mut node, b'b')?;
-    assert!(rt; is_raise(&left, 1, &other, Status::Leaving));
-    let downed = asked_to_down(rt.alloc(), &mut node, b'b')?;
-    assert!(rt; is_raise(&downed, 2, &other, Status::Down));
-    Ok(())
+fn raises_as_packets_ask(alloc: Global, node: &mut Node) -> Result<bool, Fail> {
+    take_two_up_in(alloc, node)?;
+    let other = process(alloc, b'b')?;
+    let left = is_raise(
+        &asked_to_leave(alloc, node, b'b')?,
+        1,
+        &other,
+        Status::Leaving,
+    );
+    let downed = is_raise(&asked_to_down(alloc, node, b'b')?, 2, &other, Status::Down);
+    Ok(left && downed)
 }
 
-// A founder, which is Joining, refuses that it leaves itself, and that a process that it does not know leaves or is downed.
-#[test]
-fn members_refuse_as_at_local_events(rt: HostRuntime) -> Result<(), Fail> {
-    let mut node = founder(rt.alloc())?;
-    assert!(rt; is_refusal(&asked_to_leave(rt.alloc(), &mut node, b'a')?, 1));
-    assert!(rt; is_refusal(&asked_to_leave(rt.alloc(), &mut node, b'b')?, 2));
-    assert!(rt; is_refusal(&asked_to_down(rt.alloc(), &mut node, b'b')?, 2));
-    Ok(())
+fn refuses_as_a_founder(alloc: Global, node: &mut Node) -> Result<bool, Fail> {
+    found(alloc, node)?;
+    let itself = is_refusal(&asked_to_leave(alloc, node, b'a')?, 1);
+    let unknown = is_refusal(&asked_to_leave(alloc, node, b'b')?, 2);
+    let downed = is_refusal(&asked_to_down(alloc, node, b'b')?, 2);
+    Ok(itself && unknown && downed)
 }
 
-// A node that is no member refuses both, also of itself.
-#[test]
-fn others_refuse_to_leave_and_to_down(rt: HostRuntime) -> Result<(), Fail> {
-    let mut node = start(rt.alloc(), b'a')?;
-    assert!(rt; is_refusal(&asked_to_leave(rt.alloc(), &mut node, b'a')?, 3));
-    assert!(rt; is_refusal(&asked_to_down(rt.alloc(), &mut node, b'a')?, 3));
-    Ok(())
+fn refuses_as_no_member(alloc: Global, node: &mut Node) -> Result<bool, Fail> {
+    let left = is_refusal(&asked_to_leave(alloc, node, b'a')?, 3);
+    let downed = is_refusal(&asked_to_down(alloc, node, b'a')?, 3);
+    Ok(left && downed)
 }
 
 // It knows one process, of which it counts one update, and has not stopped.
@@ -419,12 +393,121 @@ fn knows_one(node: &Node) -> bool {
     gossip.uniques() == 1 && gossip.version().len() == 1 && !node.stopped()
 }
 
+// What the node does at a message for an entity, which b forwards.
+fn forwarded(alloc: Global, node: &mut Node) -> Result<Actions, Fail> {
+    few_steps(node)?;
+    let ways = ways(alloc, node, b'b')?;
+    let entity = Text::from_bytes(alloc, b"e")?;
+    step(alloc, node, packet(ways, Message::Forward(entity, 5)))
+}
+
+fn ignores_what_has_no_rule(alloc: Global, node: &mut Node) -> Result<bool, Fail> {
+    found(alloc, node)?;
+    let done = forwarded(alloc, node)?.len();
+    Ok(done == 0 && knows_one(node))
+}
+
+// What a node goes through that has just started.
+#[derive(Clone, Copy)]
+enum Story {
+    AnswersWithWhatItKnows,
+    RefusesTheUnlisted,
+    RefusesForeignCounts,
+    RefusesAnother(u32),
+    AdmitsAnother(u32),
+    RefusesACrowd(u32),
+    TakesACrowdIn(u32),
+    RaisesAsPacketsAsk,
+    RefusesAsAFounder,
+    RefusesAsNoMember,
+    IgnoresWhatHasNoRule,
+}
+
+fn goes_so(alloc: Global, node: &mut Node, story: Story) -> Result<bool, Fail> {
+    match story {
+        Story::AnswersWithWhatItKnows => answers_with_what_it_knows(alloc, node),
+        Story::RefusesTheUnlisted => refuses_the_unlisted(alloc, node),
+        Story::RefusesForeignCounts => refuses_foreign_counts(alloc, node),
+        Story::RefusesAnother(others) => refuses_another(alloc, node, others),
+        Story::AdmitsAnother(others) => admits_another(alloc, node, others),
+        Story::RefusesACrowd(others) => refuses_a_crowd(alloc, node, others),
+        Story::TakesACrowdIn(others) => takes_a_crowd_in(alloc, node, others),
+        Story::RaisesAsPacketsAsk => raises_as_packets_ask(alloc, node),
+        Story::RefusesAsAFounder => refuses_as_a_founder(alloc, node),
+        Story::RefusesAsNoMember => refuses_as_no_member(alloc, node),
+        Story::IgnoresWhatHasNoRule => ignores_what_has_no_rule(alloc, node),
+    }
+}
+
+// Whether the story of the node of this letter goes so. A function that owns a node is proved to let it go at each of its
+// ends, so the others borrow it.
+fn is_so(alloc: Global, letter: u8, story: Story) -> Result<bool, Fail> {
+    let mut node = start(alloc, letter)?;
+    goes_so(alloc, &mut node, story)
+}
+
+// A node that knows nothing and is not founded is told of itself alone, with no update counted: it knows the same, so it
+// answers with what it knows, which is nobody, and its view is not another.
+#[test]
+fn an_empty_node_answers_a_gossip_that_names_it(rt: HostRuntime) -> Result<(), Fail> {
+    assert!(rt; is_so(rt.alloc(), b'b', Story::AnswersWithWhatItKnows)?);
+    Ok(())
+}
+
+// A member refuses a process at an address that is not listed.
+#[test]
+fn unlisted_processes_are_refused(rt: HostRuntime) -> Result<(), Fail> {
+    assert!(rt; is_so(rt.alloc(), b'a', Story::RefusesTheUnlisted)?);
+    Ok(())
+}
+
+// A node refuses a gossip that counts more of its updates than it made.
+#[test]
+fn foreign_counts_are_refused(rt: HostRuntime) -> Result<(), Fail> {
+    assert!(rt; is_so(rt.alloc(), b'a', Story::RefusesForeignCounts)?);
+    Ok(())
+}
+
+// Where 64 are known nobody more is admitted; where 63 are, one is.
+#[test]
+fn at_most_64_admit_another(rt: HostRuntime) -> Result<(), Fail> {
+    assert!(rt; is_so(rt.alloc(), b'a', Story::RefusesAnother(63))?);
+    assert!(rt; is_so(rt.alloc(), b'a', Story::AdmitsAnother(62))?);
+    Ok(())
+}
+
+// A gossip is refused where more than 128 would be known: a and b here, a and 127 others there.
+#[test]
+fn at_most_128_are_known(rt: HostRuntime) -> Result<(), Fail> {
+    assert!(rt; is_so(rt.alloc(), b'a', Story::RefusesACrowd(127))?);
+    assert!(rt; is_so(rt.alloc(), b'a', Story::TakesACrowdIn(126))?);
+    Ok(())
+}
+
+// A member raises an Up member to Leaving, and a Leaving one to Down, as packets ask it, from whomever they come.
+#[test]
+fn packets_ask_to_leave_and_to_down(rt: HostRuntime) -> Result<(), Fail> {
+    assert!(rt; is_so(rt.alloc(), b'a', Story::RaisesAsPacketsAsk)?);
+    Ok(())
+}
+
+// A founder, which is Joining, refuses that it leaves itself, and that a process that it does not know leaves or is downed.
+#[test]
+fn members_refuse_as_at_local_events(rt: HostRuntime) -> Result<(), Fail> {
+    assert!(rt; is_so(rt.alloc(), b'a', Story::RefusesAsAFounder)?);
+    Ok(())
+}
+
+// A node that is no member refuses both, also of itself.
+#[test]
+fn others_refuse_to_leave_and_to_down(rt: HostRuntime) -> Result<(), Fail> {
+    assert!(rt; is_so(rt.alloc(), b'a', Story::RefusesAsNoMember)?);
+    Ok(())
+}
+
 // A message whose rule is not built is ignored by a member: no action, and it knows what it knew.
 #[test]
 fn messages_without_a_rule_are_ignored(rt: HostRuntime) -> Result<(), Fail> {
-    let mut node = founder(rt.alloc())?;
-    let entity = Text::from_bytes(rt.alloc(), b"e")?;
-    let actions = given(rt.alloc(), &mut node, b'b', Message::Forward(entity, 5))?;
-    assert!(rt; actions.len() == 0 && knows_one(&node));
+    assert!(rt; is_so(rt.alloc(), b'a', Story::IgnoresWhatHasNoRule)?);
     Ok(())
 }

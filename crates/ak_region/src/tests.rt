@@ -101,6 +101,16 @@ fn take(alloc: Global, region: &mut Region, turn: Turn) -> Result<u8, Fail> {
     }
 }
 
+// Whether each turn is answered so, one after another.
+fn all_go(alloc: Global, region: &mut Region, turns: &[(Turn, u8)]) -> Result<bool, Fail> {
+    'turns: for (turn, wanted) in turns {
+        if take(alloc, region, *turn)? != *wanted {
+            return Ok(false);
+        }
+    }
+    Ok(true)
+}
+
 fn reports(alloc: Global, region: &Region, wanted: &[(u32, u64, bool)]) -> Result<bool, Fail> {
     let mut found = Vec::new(alloc);
     for report in &region.reports(alloc)? {
@@ -113,88 +123,114 @@ fn wants(alloc: Global, region: &Region, shards: &[u32]) -> Result<bool, Fail> {
     Ok(region.wanted(alloc)?.as_slice() == shards)
 }
 
+// A shard is hosted again only with a greater number than it was handed off with.
+const LATE_ORDERS: [(Turn, u8); 9] = [
+    (Turn::Host(6, 1), b'n'),
+    (Turn::HandOff(6, 1), b'g'),
+    (Turn::Host(6, 1), b'i'),
+    (Turn::HandOff(7, 3), b'-'),
+    (Turn::Host(7, 3), b'i'),
+    (Turn::Host(7, 4), b'n'),
+    (Turn::Host(7, 4), b'a'),
+    (Turn::Host(7, 5), b'i'),
+    (Turn::HandOff(7, 3), b'-'),
+];
+
 #[test]
 fn late_orders_are_ignored(rt: HostRuntime) -> Result<(), Fail> {
     let alloc = rt.alloc();
     let mut region = Region::new(alloc, 10, 2)?;
-    for (turn, wanted) in [
-        (Turn::Host(6, 1), b'n'),
-        (Turn::HandOff(6, 1), b'g'),
-        (Turn::Host(6, 1), b'i'),
-        (Turn::HandOff(7, 3), b'-'),
-        (Turn::Host(7, 3), b'i'),
-        (Turn::Host(7, 4), b'n'),
-        (Turn::Host(7, 4), b'a'),
-        (Turn::Host(7, 5), b'i'),
-        (Turn::HandOff(7, 3), b'-'),
-    ] {
-        assert_eq!(rt; take(alloc, &mut region, turn)?, wanted);
-    }
+    assert!(rt; all_go(alloc, &mut region, &LATE_ORDERS)?);
     assert!(rt; reports(alloc, &region, &[(6, 1, false), (7, 4, true)])?);
     assert!(rt; region.hosts_any());
     Ok(())
 }
 
+// Two may wait from the beginning of the hand-off until the shard is hosted again.
+const HANDED_OFF: [(Turn, u8); 12] = [
+    (Turn::Host(CART, 1), b'n'),
+    (Turn::Offer("cart", 5), b'd'),
+    (Turn::Begin(CART), b'-'),
+    (Turn::Offer("cart", 6), b'w'),
+    (Turn::Offer("cart", 7), b'w'),
+    (Turn::Offer("cart", 8), b'x'),
+    (Turn::Flush(CART), 0),
+    (Turn::HandOff(CART, 1), b'g'),
+    (Turn::Flush(CART), 0),
+    (Turn::Host(CART, 2), b'n'),
+    (Turn::Flush(CART), 67),
+    (Turn::Flush(CART), 0),
+];
+
 #[test]
 fn messages_wait_during_a_hand_off(rt: HostRuntime) -> Result<(), Fail> {
     let alloc = rt.alloc();
     let mut region = Region::new(alloc, 10, 2)?;
-    for (turn, wanted) in [
-        (Turn::Host(CART, 1), b'n'),
-        (Turn::Offer("cart", 5), b'd'),
-        (Turn::Begin(CART), b'-'),
-        (Turn::Offer("cart", 6), b'w'),
-        (Turn::Offer("cart", 7), b'w'),
-        (Turn::Offer("cart", 8), b'x'),
-        (Turn::Flush(CART), 0),
-        (Turn::HandOff(CART, 1), b'g'),
-        (Turn::Flush(CART), 0),
-        (Turn::Host(CART, 2), b'n'),
-        (Turn::Flush(CART), 67),
-        (Turn::Flush(CART), 0),
-    ] {
-        assert_eq!(rt; take(alloc, &mut region, turn)?, wanted);
-    }
+    assert!(rt; all_go(alloc, &mut region, &HANDED_OFF)?);
     assert!(rt; wants(alloc, &region, &[])?);
     Ok(())
+}
+
+// Messages of two shards, what each turn answers, and the shards whose home is wanted after it.
+const UNKNOWN_HOMES: [(Turn, u8, &[u32]); 12] = [
+    (Turn::Offer("cart", 1), b'w', &[CART]),
+    (Turn::Offer("zzzzzz", 2), b'w', &[CART, OTHER]),
+    (Turn::Offer("cart", 3), b'w', &[CART, OTHER]),
+    (Turn::Offer("zzzzzz", 4), b'w', &[CART, OTHER]),
+    (Turn::Home(OTHER, "b:1#1"), b'-', &[CART, OTHER]),
+    (Turn::Flush(OTHER), 24, &[CART]),
+    (Turn::Offer("zzzzzz", 5), b'b', &[CART]),
+    (Turn::Home(CART, "a:1#1"), b'-', &[CART]),
+    (Turn::Flush(CART), 0, &[CART]),
+    (Turn::Offer("cart", 6), b'w', &[CART]),
+    (Turn::Host(CART, 1), b'n', &[]),
+    (Turn::Flush(CART), 136, &[]),
+];
+
+// Whether each turn is answered so, and leaves these shards wanted.
+fn all_go_and_want(
+    alloc: Global,
+    region: &mut Region,
+    turns: &[(Turn, u8, &[u32])],
+) -> Result<bool, Fail> {
+    'turns: for (turn, wanted, shards) in turns {
+        if take(alloc, region, *turn)? != *wanted || !wants(alloc, region, shards)? {
+            return Ok(false);
+        }
+    }
+    Ok(true)
 }
 
 #[test]
 fn messages_wait_until_the_home_is_known(rt: HostRuntime) -> Result<(), Fail> {
     let alloc = rt.alloc();
     let mut region = Region::new(alloc, 10, 100)?;
-    for (turn, wanted, shards) in [
-        (Turn::Offer("cart", 1), b'w', [CART].as_slice()),
-        (Turn::Offer("zzzzzz", 2), b'w', [CART, OTHER].as_slice()),
-        (Turn::Offer("cart", 3), b'w', [CART, OTHER].as_slice()),
-        (Turn::Offer("zzzzzz", 4), b'w', [CART, OTHER].as_slice()),
-        (Turn::Home(OTHER, "b:1#1"), b'-', [CART, OTHER].as_slice()),
-        (Turn::Flush(OTHER), 24, [CART].as_slice()),
-        (Turn::Offer("zzzzzz", 5), b'b', [CART].as_slice()),
-        (Turn::Home(CART, "a:1#1"), b'-', [CART].as_slice()),
-        (Turn::Flush(CART), 0, [CART].as_slice()),
-        (Turn::Offer("cart", 6), b'w', [CART].as_slice()),
-        (Turn::Host(CART, 1), b'n', [].as_slice()),
-        (Turn::Flush(CART), 136, [].as_slice()),
-    ] {
-        assert_eq!(rt; take(alloc, &mut region, turn)?, wanted);
-        assert!(rt; wants(alloc, &region, shards)?);
-    }
+    assert!(rt; all_go_and_want(alloc, &mut region, &UNKNOWN_HOMES)?);
     Ok(())
+}
+
+// Both shards have their home at b:1; only its first process is a member.
+fn forgets(alloc: Global, region: &mut Region, members: &Members) -> Result<bool, Fail> {
+    home(alloc, region, CART, "b:1#1")?;
+    home(alloc, region, OTHER, "b:1#2")?;
+    region.forget(members);
+    let known = offer(alloc, region, "cart", 1)? == b'b';
+    let forgotten = offer(alloc, region, "zzzzzz", 1)? == b'w';
+    Ok(known && forgotten)
+}
+
+fn members_with(alloc: Global, who: &str) -> Result<Members, Fail> {
+    let mut members = Members::empty(alloc);
+    members.raise(alloc, &process(alloc, who)?, Status::Up, 1)?;
+    Ok(members)
 }
 
 #[test]
 fn homes_that_are_no_members_are_forgotten(rt: HostRuntime) -> Result<(), Fail> {
     let alloc = rt.alloc();
+    let members = members_with(alloc, "b:1#1")?;
     let mut region = Region::new(alloc, 10, 1)?;
-    let mut members = Members::empty(alloc);
-    members.raise(alloc, &process(alloc, "b:1#1")?, Status::Up, 1)?;
-    home(alloc, &mut region, CART, "b:1#1")?;
-    home(alloc, &mut region, OTHER, "b:1#2")?;
-    region.forget(&members);
-    for (entity, wanted) in [("cart", b'b'), ("zzzzzz", b'w')] {
-        assert_eq!(rt; offer(alloc, &mut region, entity, 1)?, wanted);
-    }
+    assert!(rt; forgets(alloc, &mut region, &members)?);
     Ok(())
 }
 

@@ -3,7 +3,7 @@ ghost use Rattle.std.specs.Prelude.{◌≡◌, ◌+◌, ◌<◌, length, OnOk};
 use crate::world::World;
 use ak_gossip::Gossip;
 use ak_history::View;
-use ak_schedule::{Draft, Settings, read_line};
+use ak_schedule::{Draft, Event, LineFault, Settings, read_line};
 use ak_wire::Message;
 use std::alloc::{AllocError, Global};
 use std::test::Fail;
@@ -78,58 +78,82 @@ pub(crate) fn apply_line(alloc: Global, world: &mut World, line: &str) -> Result
     requires { length world.old.events < 1000 }
     ensures { OnOk result (length world.new.events ≡ length world.old.events + 1) }
 {
-    let event = read_line(alloc, line.as_bytes())?;
-    match world.apply(alloc, &event) {
-        Ok(_) => Ok(()),
-        Err(_) => Err("an event was refused")?,
+    apply_read(alloc, world, &read_line(alloc, line.as_bytes()))
+}
+
+fn apply_read(alloc: Global, world: &mut World, read: &Result<Event, LineFault>) -> Result<(), Fail>
+    requires { length world.old.events < 1000 }
+    ensures { OnOk result (length world.new.events ≡ length world.old.events + 1) }
+{
+    match read {
+        Ok(event) => apply_event(alloc, world, event),
+        Err(_) => Err("a line is malformed")?,
     }
 }
 
-// How many updates there are after these events, each of which leaves every node with the fold of the history.
-fn updates_after(alloc: Global, lines: &[&str]) -> Result<usize, Fail>
-    requires { length lines.now < 1000 }
+fn apply_event(alloc: Global, world: &mut World, event: &Event) -> Result<(), Fail>
+    requires { length world.old.events < 1000 }
+    ensures { OnOk result (length world.new.events ≡ length world.old.events + 1) }
 {
-    let mut world = World::new(alloc, settings(alloc)?);
+    if world.apply(alloc, event).is_ok() {
+        return Ok(());
+    }
+    Err("an event was refused")?
+}
+
+// How many updates there are after some more events, each of which leaves every node with the fold of the history.
+fn updates_in(alloc: Global, world: &mut World, lines: &[&str]) -> Result<usize, Fail>
+    requires { length world.old.events + length lines.now < 1000 }
+{
     'lines: for line in lines {
-        apply_line(alloc, &mut world, *line)?;
-        if !folds(alloc, &world)? {
+        apply_line(alloc, world, *line)?;
+        if !folds(alloc, world)? {
             return Err("a node is not at the fold of the history")?;
         }
     }
     Ok(world.history().len())
 }
 
+// The same of a new world. A function that owns a world is proved to let it go at each of its ends, so the others borrow it.
+fn updates_after(alloc: Global, lines: &[&str]) -> Result<usize, Fail>
+    requires { length lines.now < 1000 }
+{
+    let mut world = World::new(alloc, settings(alloc)?);
+    updates_in(alloc, &mut world, lines)
+}
+
+const FIRST_JOIN: [&str; 7] = [
+    "start a:1#1",
+    "start b:1#1",
+    "found a:1#1",
+    "join b:1#1 a:1",
+    "deliver 1",
+    "deliver 2",
+    "deliver 3",
+];
+
+// c is admitted by a and by b, neither of which knows the other's update; then a merges both.
+const TWO_UPDATES_MERGE: [&str; 14] = [
+    "start a:1#1",
+    "start b:1#1",
+    "start c:1#1",
+    "found a:1#1",
+    "join b:1#1 a:1",
+    "deliver 1",
+    "deliver 2",
+    "join c:1#1 a:1",
+    "join c:1#1 b:1",
+    "deliver 4",
+    "deliver 5",
+    "deliver 2",
+    "deliver 8",
+    "deliver 9",
+];
+
 #[test]
 fn nodes_know_the_fold_of_the_history(rt: HostRuntime) -> Result<(), Fail> {
     let alloc = rt.alloc();
-    let first_join = [
-        "start a:1#1",
-        "start b:1#1",
-        "found a:1#1",
-        "join b:1#1 a:1",
-        "deliver 1",
-        "deliver 2",
-        "deliver 3",
-    ];
-    assert_eq!(rt; updates_after(alloc, &first_join)?, 2);
-
-    // c is admitted by a and by b, neither of which knows the other's update; then a merges both.
-    let two_updates_merge = [
-        "start a:1#1",
-        "start b:1#1",
-        "start c:1#1",
-        "found a:1#1",
-        "join b:1#1 a:1",
-        "deliver 1",
-        "deliver 2",
-        "join c:1#1 a:1",
-        "join c:1#1 b:1",
-        "deliver 4",
-        "deliver 5",
-        "deliver 2",
-        "deliver 8",
-        "deliver 9",
-    ];
-    assert_eq!(rt; updates_after(alloc, &two_updates_merge)?, 4);
+    assert!(rt; updates_after(alloc, &FIRST_JOIN)? == 2);
+    assert!(rt; updates_after(alloc, &TWO_UPDATES_MERGE)? == 4);
     Ok(())
 }

@@ -1,10 +1,10 @@
-ghost use Rattle.std.specs.Prelude.{◌≡◌, ◌+◌, ◌<◌, ◌≤◌, length, IfOk, OnOk};
+ghost use Rattle.std.specs.Prelude.{◌≡◌, ◌+◌, ◌<◌, ◌≤◌, length, OnOk};
 
 use crate::fold_tests::settings_of;
 use crate::world::{Reason, Refused, World};
 use ak_address::{Unique, parse_unique};
 use ak_member::{Standing, Status};
-use ak_schedule::read_line;
+use ak_schedule::{Event, LineFault, read_line};
 use std::alloc::Global;
 use std::test::Fail;
 
@@ -119,8 +119,28 @@ fn acting_at(alloc: Global, world: &mut World, line: &str) -> Result<Option<u32>
     requires { length world.old.events < 1000 }
     ensures { OnOk result (length world.new.events ≡ length world.old.events + 1) }
 {
-    let event = read_line(alloc, line.as_bytes())?;
-    match world.apply(alloc, &event) {
+    acting_at_read(alloc, world, &read_line(alloc, line.as_bytes()))
+}
+
+fn acting_at_read(
+    alloc: Global,
+    world: &mut World,
+    read: &Result<Event, LineFault>,
+) -> Result<Option<u32>, Fail>
+    requires { length world.old.events < 1000 }
+    ensures { OnOk result (length world.new.events ≡ length world.old.events + 1) }
+{
+    match read {
+        Ok(event) => acting_at_event(alloc, world, event),
+        Err(_) => Err("a line is malformed")?,
+    }
+}
+
+fn acting_at_event(alloc: Global, world: &mut World, event: &Event) -> Result<Option<u32>, Fail>
+    requires { length world.old.events < 1000 }
+    ensures { OnOk result (length world.new.events ≡ length world.old.events + 1) }
+{
+    match world.apply(alloc, event) {
         Ok(step) => Ok(step.node),
         Err(_) => Err("an event was refused")?,
     }
@@ -150,15 +170,32 @@ fn rows_that_go(alloc: Global, world: &mut World, rows: &[Row]) -> Result<usize,
     Ok(rows.len())
 }
 
-// A world in which a and b are Up.
-fn founded(alloc: Global) -> Result<World, Fail>
-    ensures { IfOk result (λ world. length world.events ≤ 8) }
+// a founds and b joins, and all rows of that go as they say.
+fn found(alloc: Global, world: &mut World) -> Result<(), Fail>
+    requires { length world.old.events < 10 }
+    ensures { OnOk result (length world.new.events < 20) }
 {
-    let mut world = World::new(alloc, settings_of(alloc, HEADERS)?);
-    if rows_that_go(alloc, &mut world, &FOUNDED)? < FOUNDED.len() {
+    if rows_that_go(alloc, world, &FOUNDED)? < FOUNDED.len() {
         return Err("the cluster is not founded")?;
     }
-    Ok(world)
+    Ok(())
+}
+
+// Whether all these rows go as they say in a founded world.
+fn all_go_in(alloc: Global, world: &mut World, rows: &[Row]) -> Result<bool, Fail>
+    requires small { length world.old.events < 10 }
+    requires few { length rows.now < 900 }
+    ensures { OnOk result (length world.new.events < 20 + length rows.now) }
+{
+    found(alloc, world)?;
+    Ok(rows_that_go(alloc, world, rows)? == rows.len())
+}
+
+fn all_go(alloc: Global, rows: &[Row]) -> Result<bool, Fail>
+    requires { length rows.now < 900 }
+{
+    let mut world = World::new(alloc, settings_of(alloc, HEADERS)?);
+    all_go_in(alloc, &mut world, rows)
 }
 
 // Why an event is refused.
@@ -166,46 +203,72 @@ fn reason_for(alloc: Global, world: &mut World, line: &str) -> Result<Reason, Fa
     requires { length world.old.events < 1000 }
     ensures { OnOk result (length world.new.events ≡ length world.old.events) }
 {
-    let event = read_line(alloc, line.as_bytes())?;
-    match world.apply(alloc, &event) {
+    reason_for_read(alloc, world, &read_line(alloc, line.as_bytes()))
+}
+
+fn reason_for_read(
+    alloc: Global,
+    world: &mut World,
+    read: &Result<Event, LineFault>,
+) -> Result<Reason, Fail>
+    requires { length world.old.events < 1000 }
+    ensures { OnOk result (length world.new.events ≡ length world.old.events) }
+{
+    match read {
+        Ok(event) => reason_for_event(alloc, world, event),
+        Err(_) => Err("a line is malformed")?,
+    }
+}
+
+fn reason_for_event(alloc: Global, world: &mut World, event: &Event) -> Result<Reason, Fail>
+    requires { length world.old.events < 1000 }
+    ensures { OnOk result (length world.new.events ≡ length world.old.events) }
+{
+    match world.apply(alloc, event) {
         Err(Refused::Invalid(why)) => Ok(why),
         Err(Refused::NoMemory) => Err("out of memory")?,
         Ok(_) => Err("an event was accepted")?,
     }
 }
 
+// b, which has stopped, does nothing and does not start again, and nobody else starts where its successor runs.
+fn refuses_what_is_over(alloc: Global, world: &mut World) -> Result<bool, Fail>
+    requires { length world.old.events < 1000 }
+{
+    let stopped = reason_for(alloc, world, "tick b:1#1 0")? == Reason::NodeStopped;
+    let used = reason_for(alloc, world, "start b:1#1")? == Reason::UniqueUsed;
+    let taken = reason_for(alloc, world, "start b:1#3")? == Reason::AddressInUse;
+    Ok(stopped && used && taken)
+}
+
+fn leaves_in(alloc: Global, world: &mut World) -> Result<bool, Fail>
+    requires { length world.old.events < 10 }
+{
+    if all_go_in(alloc, world, &LEAVES)? {
+        return refuses_what_is_over(alloc, world);
+    }
+    Ok(false)
+}
+
+fn leaves(alloc: Global) -> Result<bool, Fail> {
+    let mut world = World::new(alloc, settings_of(alloc, HEADERS)?);
+    leaves_in(alloc, &mut world)
+}
+
 #[test]
 fn a_member_leaves_and_another_takes_its_address(rt: HostRuntime) -> Result<(), Fail> {
-    let alloc = rt.alloc();
-    let mut world = founded(alloc)?;
-    assert_eq!(rt; rows_that_go(alloc, &mut world, &LEAVES)?, LEAVES.len());
-    assert_eq!(rt;
-        reason_for(alloc, &mut world, "tick b:1#1 0")?,
-        Reason::NodeStopped
-    );
-    assert_eq!(rt;
-        reason_for(alloc, &mut world, "start b:1#1")?,
-        Reason::UniqueUsed
-    );
-    assert_eq!(rt;
-        reason_for(alloc, &mut world, "start b:1#3")?,
-        Reason::AddressInUse
-    );
+    assert!(rt; leaves(rt.alloc())?);
     Ok(())
 }
 
 #[test]
 fn a_successor_downs_the_process_before_it(rt: HostRuntime) -> Result<(), Fail> {
-    let alloc = rt.alloc();
-    let mut world = founded(alloc)?;
-    assert_eq!(rt; rows_that_go(alloc, &mut world, &REPLACED)?, REPLACED.len());
+    assert!(rt; all_go(rt.alloc(), &REPLACED)?);
     Ok(())
 }
 
 #[test]
 fn a_downed_process_stops(rt: HostRuntime) -> Result<(), Fail> {
-    let alloc = rt.alloc();
-    let mut world = founded(alloc)?;
-    assert_eq!(rt; rows_that_go(alloc, &mut world, &DOWNED)?, DOWNED.len());
+    assert!(rt; all_go(rt.alloc(), &DOWNED)?);
     Ok(())
 }

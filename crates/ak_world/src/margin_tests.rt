@@ -59,34 +59,72 @@ fn margin_after(alloc: Global, world: &mut World, lines: &[&str]) -> Result<Marg
     Ok(world.margin())
 }
 
+const BROKEN: Margin = Margin::Broken {
+    step: 16,
+    node: 1,
+    member: 0,
+};
+
+fn ends_too_early(alloc: Global, world: &mut World) -> Result<bool, Fail>
+    requires { length world.old.events < 10 }
+{
+    let first = world.margin() == Margin::Kept;
+    let downed = margin_after(alloc, world, &DOWNED)? == Margin::Kept;
+    let removed = margin_after(alloc, world, &REMOVED)? == Margin::Kept;
+    let waited = margin_after(alloc, world, &WAITED)? == BROKEN;
+    let late = margin_after(alloc, world, &LATE)? == BROKEN;
+    Ok(first && downed && removed && waited && late)
+}
+
+fn stops_in_time(alloc: Global, world: &mut World) -> Result<bool, Fail>
+    requires { length world.old.events < 10 }
+{
+    margin_after(alloc, world, &DOWNED)?;
+    margin_after(alloc, world, &REMOVED)?;
+    Ok(margin_after(alloc, world, &IN_TIME)? == Margin::Kept)
+}
+
+fn is_told(alloc: Global, world: &mut World) -> Result<bool, Fail>
+    requires { length world.old.events < 10 }
+{
+    margin_after(alloc, world, &DOWNED)?;
+    margin_after(alloc, world, &TOLD)?;
+    margin_after(alloc, world, &REMOVED)?;
+    Ok(margin_after(alloc, world, &WAITED)? == Margin::Kept)
+}
+
+// What happens in a new world.
+#[derive(Clone, Copy)]
+enum Story {
+    EndsTooEarly,
+    StopsInTime,
+    IsTold,
+}
+
+fn goes_so(alloc: Global, world: &mut World, story: Story) -> Result<bool, Fail>
+    requires { length world.old.events < 10 }
+{
+    match story {
+        Story::EndsTooEarly => ends_too_early(alloc, world),
+        Story::StopsInTime => stops_in_time(alloc, world),
+        Story::IsTold => is_told(alloc, world),
+    }
+}
+
+fn is_so(alloc: Global, story: Story) -> Result<bool, Fail> {
+    let mut world = World::new(alloc, settings_of(alloc, HEADERS)?);
+    goes_so(alloc, &mut world, story)
+}
+
 #[test]
 fn a_margin_that_ends_before_a_member_is_told_is_broken(rt: HostRuntime) -> Result<(), Fail> {
-    let alloc = rt.alloc();
-    let mut world = World::new(alloc, settings_of(alloc, HEADERS)?);
-    assert_eq!(rt; world.margin(), Margin::Kept);
-    assert_eq!(rt; margin_after(alloc, &mut world, &DOWNED)?, Margin::Kept);
-    assert_eq!(rt; margin_after(alloc, &mut world, &REMOVED)?, Margin::Kept);
-    let broken = Margin::Broken {
-        step: 16,
-        node: 1,
-        member: 0,
-    };
-    assert_eq!(rt; margin_after(alloc, &mut world, &WAITED)?, broken);
-    assert_eq!(rt; margin_after(alloc, &mut world, &LATE)?, broken);
+    assert!(rt; is_so(rt.alloc(), Story::EndsTooEarly)?);
     Ok(())
 }
 
 #[test]
 fn a_margin_that_ends_after_a_member_has_stopped_is_kept(rt: HostRuntime) -> Result<(), Fail> {
-    let alloc = rt.alloc();
-    let mut world = World::new(alloc, settings_of(alloc, HEADERS)?);
-    margin_after(alloc, &mut world, &DOWNED)?;
-    margin_after(alloc, &mut world, &REMOVED)?;
-    assert_eq!(rt; margin_after(alloc, &mut world, &IN_TIME)?, Margin::Kept);
-    let mut told = World::new(alloc, settings_of(alloc, HEADERS)?);
-    margin_after(alloc, &mut told, &DOWNED)?;
-    margin_after(alloc, &mut told, &TOLD)?;
-    margin_after(alloc, &mut told, &REMOVED)?;
-    assert_eq!(rt; margin_after(alloc, &mut told, &WAITED)?, Margin::Kept);
+    assert!(rt; is_so(rt.alloc(), Story::StopsInTime)?);
+    assert!(rt; is_so(rt.alloc(), Story::IsTold)?);
     Ok(())
 }
