@@ -14,7 +14,8 @@ use Rattle.ak_address.proofs.OrderLemmas.{unique_total}
 use Rattle.ak_address.proofs.TableLaws.{key_itself, same_key}
 use Rattle.ak_address.proofs.UniquesLaws.{has-with_one, has-those, has-union, same_uniques, with_present, has_at, index_of_has}
 use Rattle.ak_member.specs.Standing.{Standings, is_member}
-use Rattle.ak_gossip.specs.GossipContracts.{excess_of}
+use Rattle.ak_clock.specs.Version.{Counts, count, IsBelow}
+use Rattle.ak_gossip.specs.GossipContracts.{excess_of, foreign_of}
 use Rattle.ak_gossip.specs.Gossip.{GossipState, most_uniques, seen_by}
 
 -- whether a process is among these
@@ -168,6 +169,17 @@ len-merged_tables-most f m n = omega (arith, len-with_pairs f m (map.entries n),
 -- few enough are no excess
 pub few_of : (n : ℕ) → n ≤ most_uniques → None ≡ excess_of n
 few_of n few = sym (ap (λ b. if b then Some n else None) (le-ltb _ _ few))
+
+-- a gossip whose version is covered counts no more of anybody
+module _ (v w : Counts) (me : UniqueModel) where
+  not_foreign : count w me ≤ count v me → None ≡ foreign_of (count v me) (count w me)
+  not_foreign le = sym (ap (λ b. if b then Some (count v me, count w me) else None) (le-ltb _ _ le))
+
+  pub not_foreign_same : v ≡ w → None ≡ foreign_of (count v me) (count w me)
+  not_foreign_same same = let counts : count v me ≡ count w me = ap (λ (x : Counts). count x me) same in not_foreign (omega (arith, counts))
+
+  pub not_foreign_after : IsBelow w v → None ≡ foreign_of (count v me) (count w me)
+  not_foreign_after below = not_foreign (below.0 me)
 
 -- ---- nobody is added
 -- who is there already is not added

@@ -16,3 +16,7 @@ Receives me old incoming (Err NoMemory) new = new ≡ old
 -- a number of uniques that a gossip may not hold
 abbrev pub excess_of : ℕ → Option ℕ
 excess_of n = if nat_lt most_uniques n then Some n else None
+
+-- what is counted of a node, its own count and that of a gossip, where the gossip counts more
+abbrev pub foreign_of : ℕ → ℕ → Option (ℕ × ℕ)
+foreign_of own theirs = if nat_lt own theirs then Some (own, theirs) else None

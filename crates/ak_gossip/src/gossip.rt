@@ -2,12 +2,12 @@ ghost use Rattle.std.specs.Prelude.{◌≡◌, ◌+◌, ◌≤◌, if◌then◌e
 ghost use Rattle.std.specs.FinMap as map;
 ghost use Rattle.ak_address.specs.Unique.{UniqueModel};
 ghost use Rattle.ak_address.specs.Uniques.{has, with_one, those, union};
-ghost use Rattle.ak_clock.specs.Version.{count};
+ghost use Rattle.ak_clock.specs.Version.{count, Relates};
 ghost use Rattle.ak_member.specs.Standing.{is_member, merged_standings};
 ghost use Rattle.ak_member.specs.View.{observed, after_observed};
 ghost use Rattle.ak_reach.specs.Reach.{is_as_new};
 ghost use Rattle.ak_gossip.specs.Gossip.{GossipState, IsGossip, most_uniques, nothing_known, MayUpdate, updated, seen_by, same, both};
-ghost use Rattle.ak_gossip.specs.GossipContracts.{Receives, excess_of};
+ghost use Rattle.ak_gossip.specs.GossipContracts.{Receives, excess_of, foreign_of};
 
 use crate::known::{Known, Tables};
 use ak_address::{Unique, Uniques};
@@ -166,15 +166,14 @@ impl Gossip {
     ) -> Result<Received, GossipFault>
         ensures { Receives me.now self.old incoming.now result self.new }
     {
-        let own = self.known.version().count(me);
-        let theirs = incoming.known.version().count(me);
-        if own < theirs {
+        let relation = self.known.version().compare(incoming.known.version());
+        if let Some((own, theirs)) = self.foreign(me, incoming, relation) {
             return Err(GossipFault::ForeignCount { own, theirs });
         }
         if let Some(union) = self.excess(alloc, incoming)? {
             return Err(GossipFault::TooManyUniques { union });
         }
-        match self.known.version().compare(incoming.known.version()) {
+        match relation {
             Relation::Same => Ok(self.take_same(alloc, me, incoming)?),
             Relation::Before => Ok(self.take_newer(alloc, me, incoming)?),
             Relation::After => Ok(Received::Older),
@@ -258,6 +257,25 @@ impl Gossip {
         let known = Known::of_tables(alloc, tables, seen)?;
         *self = Gossip { known };
         Ok(Received::Merged)
+    }
+
+    // What is counted of the node here and there, where the gossip counts more of it. One that brings nothing new does not.
+    fn foreign(&self, me: &Unique, incoming: &Gossip, relation: Relation) -> Option<(u64, u64)>
+        requires { Relates relation self.now.version incoming.now.version }
+        ensures { result ≡ foreign_of (count self.now.version me.now) (count incoming.now.version me.now) }
+    {
+        match relation {
+            Relation::Same => return None,
+            Relation::Before => {}
+            Relation::After => return None,
+            Relation::Concurrent => {}
+        }
+        let own = self.known.version().count(me);
+        let theirs = incoming.known.version().count(me);
+        if own < theirs {
+            return Some((own, theirs));
+        }
+        None
     }
 
     // How many processes both know together, where a gossip may not hold so many.
