@@ -10,6 +10,6 @@ returns-clause-ok c =
     (printed_as _ (c.deref.ensures.value ∙ step_printed c.args.step.now.first_packet c.args.step_number c.args.event.now
     (record { world = c.args.world.now.state; node = c.args.step.now.node; actions = c.args.step.now.actions })
     _ _ _ _ _
-    c.acting-node.ensures c.new-text.ensures.items
+    c.acting-node.ensures c.in_ok-text.ensures.items
     c.in_ok-print_head.ensures c.in_ok-print_delivery.ensures c.in_ok-print_done.ensures))
     c.print_bytes.ensures.ok
