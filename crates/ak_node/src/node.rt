@@ -515,23 +515,20 @@ impl State {
     }
 }
 
-// Adds the action, where it is so.
-fn push_if(so: bool, action: Action, actions: &mut Actions) -> Result<(), AllocError>
-    ensures { OnOk result (actions.new ≡ actions.old ++ rules.if_so so action) }
-{
-    if so {
-        return actions.push(action);
-    }
-    Ok(())
-}
-
 // Adds what is due at a closing.
 fn push_due(due: Closing, actions: &mut Actions) -> Result<(), AllocError>
     ensures { OnOk result (actions.new ≡ actions.old ++ rules.due due) }
 {
-    push_if(due.viewed, Action::View, actions)?;
-    push_if(due.stopped, Action::Stopped, actions)?;
-    push_if(due.settled, Action::Settled, actions)
+    if due.viewed {
+        actions.push(Action::View)?;
+    }
+    if due.stopped {
+        actions.push(Action::Stopped)?;
+    }
+    if due.settled {
+        actions.push(Action::Settled)?;
+    }
+    Ok(())
 }
 
 /// A packet is for this process, or for whichever is at its address.
