@@ -10,18 +10,18 @@ use Rattle.ak_gossip.proofs.gossip.are_among.Goals.{then-is_the_same, else-is_th
 pub seen-preserved : goal.seen-preserved
 seen-preserved c = elim c.if-is_the_same.branch [
   | then-is_the_same w ↦ record {
-      few = omega (arith, w.found-is, c.seen.invariant.few);
-      each = λ k who lt is. elim (before_or k c.seen.found (omega (arith, lt, w.found-is))) [
-        | inl before ↦ c.seen.invariant.each k who before is
-        | inr same ↦
-            has_at c.args.seen.now c.seen.index who
-            (sym c.at-in-seen.ensures ∙ c.is_the_same.ensures w.if-is_the_same.true who (c.at.ensures ∙ ap (slice_get (in_order c.args.others.now)) (sym same) ∙ is))
-      ];
-    }
+    few = omega (arith, w.found-is, c.seen.invariant.few);
+    each = λ k who lt is. elim (before_or k c.seen.found (omega (arith, lt, w.found-is))) [
+      | inl before ↦ c.seen.invariant.each k who before is
+      | inr same ↦
+          has_at c.args.seen.now c.seen.index who
+          (sym c.at-in-seen.ensures ∙ c.is_the_same.ensures w.if-is_the_same.true who (c.at.ensures ∙ ap (slice_get (in_order c.args.others.now)) (sym same) ∙ is))
+    ];
+  }
   | else-is_the_same w ↦ record {
-      few = omega (arith, w.found-is, c.seen.invariant.few);
-      each = λ k who lt is. c.seen.invariant.each k who (omega (arith, lt, w.found-is)) is;
-    }
+    few = omega (arith, w.found-is, c.seen.invariant.few);
+    each = λ k who lt is. c.seen.invariant.each k who (omega (arith, lt, w.found-is)) is;
+  }
 ]
 
 pub returns : goal.returns
