@@ -224,15 +224,16 @@ impl State {
         told(alloc, change)
     }
 
-    fn join(&mut self, alloc: Global, target: Address) -> Result<Actions, AllocError>
-        ensures does { IfOk result (λ actions. Does (rules.join target self.old) self.new actions) }
+    fn join(&mut self, alloc: Global, target: &Address) -> Result<Actions, AllocError>
+        ensures does { IfOk result (λ actions. Does (rules.join target.now self.old) self.new actions) }
         ensures same { IsSameProcess self.old self.new }
     {
         if self.membership.is_member() {
             return Ok(Actions::empty(alloc));
         }
-        let actions = self.asks(alloc, &target)?;
-        self.membership.join(target);
+        let kept = target.copy(alloc)?;
+        let actions = self.asks(alloc, target)?;
+        self.membership.join(kept);
         Ok(actions)
     }
 
@@ -447,19 +448,19 @@ impl State {
         }
     }
 
-    fn rule(&mut self, alloc: Global, event: NodeEvent) -> Result<Actions, AllocError>
+    fn rule(&mut self, alloc: Global, event: &NodeEvent) -> Result<Actions, AllocError>
         requires ticks { self.old.membership.ticks < 2 ^ 62 }
         requires watching { IsWatching self.old.membership }
-        ensures does { IfOk result (λ actions. Does (rules.rule event self.old) self.new actions) }
+        ensures does { IfOk result (λ actions. Does (rules.rule event.now self.old) self.new actions) }
         ensures same { IsSameProcess self.old self.new }
     {
         match event {
             NodeEvent::Found => self.found(alloc),
             NodeEvent::Join(target) => self.join(alloc, target),
-            NodeEvent::Tick(word) => self.tick(alloc, word),
-            NodeEvent::Packet(envelope) => self.on_packet(alloc, &envelope),
-            NodeEvent::Leave(who) => self.leave(alloc, &who),
-            NodeEvent::Down(who) => self.down(alloc, &who),
+            NodeEvent::Tick(word) => self.tick(alloc, *word),
+            NodeEvent::Packet(envelope) => self.on_packet(alloc, envelope),
+            NodeEvent::Leave(who) => self.leave(alloc, who),
+            NodeEvent::Down(who) => self.down(alloc, who),
             NodeEvent::Stop => self.stop(alloc),
         }
     }
@@ -476,11 +477,11 @@ impl State {
     }
 
     // One event: its rule and then the closing. A node that has stopped does nothing, and a packet for another process is dead.
-    fn step(&mut self, alloc: Global, event: NodeEvent) -> Result<Actions, AllocError>
+    fn step(&mut self, alloc: Global, event: &NodeEvent) -> Result<Actions, AllocError>
         requires steps { self.old.steps < 2 ^ 62 }
         requires ticked { self.old.membership.ticks ≤ self.old.steps }
         requires watching { IsWatching self.old.membership }
-        ensures does { IfOk result (λ actions. Does (rules.step event self.old) self.new actions) }
+        ensures does { IfOk result (λ actions. Does (rules.step event.now self.old) self.new actions) }
         ensures same { IsSameProcess self.old self.new }
     {
         if !self.runs {
@@ -491,22 +492,22 @@ impl State {
     }
 
     // The event of a node that runs.
-    fn running_step(&mut self, alloc: Global, event: NodeEvent) -> Result<Actions, AllocError>
+    fn running_step(&mut self, alloc: Global, event: &NodeEvent) -> Result<Actions, AllocError>
         requires ticks { self.old.membership.ticks < 2 ^ 62 }
         requires watching { IsWatching self.old.membership }
-        ensures does { IfOk result (λ actions. Does (rules.running_step event self.old) self.new actions) }
+        ensures does { IfOk result (λ actions. Does (rules.running_step event.now self.old) self.new actions) }
         ensures same { IsSameProcess self.old self.new }
     {
-        if is_dead(self.me(), &event) {
+        if is_dead(self.me(), event) {
             return one(alloc, Action::Dead);
         }
         self.acts(alloc, event)
     }
 
-    fn acts(&mut self, alloc: Global, event: NodeEvent) -> Result<Actions, AllocError>
+    fn acts(&mut self, alloc: Global, event: &NodeEvent) -> Result<Actions, AllocError>
         requires ticks { self.old.membership.ticks < 2 ^ 62 }
         requires watching { IsWatching self.old.membership }
-        ensures does { IfOk result (λ actions. Does (rules.and_then rules.closes (rules.rule event self.old)) self.new actions) }
+        ensures does { IfOk result (λ actions. Does (rules.and_then rules.closes (rules.rule event.now self.old)) self.new actions) }
         ensures same { IsSameProcess self.old self.new }
     {
         let mut actions = self.rule(alloc, event)?;
@@ -627,10 +628,25 @@ impl Node {
         ensures alive { OnOk result (self.old.spent ≡ false) × OnOk result (self.new.spent ≡ false) }
         ensures spent { OnErr result ((self.new.spent ≡ true) × IsLeftOver self.old.state self.new.state) }
     {
+        let done = self.take(alloc, &event);
+        drop(event);
+        done
+    }
+
+    // The event is taken, and stays with whoever gave it.
+    fn take(&mut self, alloc: Global, event: &NodeEvent) -> Result<Actions, AllocError>
+        requires { self.old.state.steps < 2 ^ 62 }
+        ensures ok { IfOk result (λ actions. Does (rules.step event.now self.old.state) self.new.state actions) }
+        ensures valid { IfOk result (λ actions. AreValid actions) }
+        ensures silent { IfOk result (λ actions. IsSilent self.old.state self.new.state actions) }
+        ensures serves { OnOk result (ServesWhileItRuns self.new.state) }
+        ensures alive { OnOk result (self.old.spent ≡ false) × OnOk result (self.new.spent ≡ false) }
+        ensures spent { OnErr result ((self.new.spent ≡ true) × IsLeftOver self.old.state self.new.state) }
+    {
         if self.spent {
             return Err(AllocError);
         }
-        said(&event);
+        said(event);
         self.state.process();
         match self.state.step(alloc, event) {
             Ok(actions) => {

@@ -3,11 +3,11 @@ use Rattle.ak_membership.specs.declared.state.MembershipState.{MembershipState}
 use Rattle.ak_membership.specs.Membership.{started}
 use Rattle.ak_node.proofs.NodeLemmas.{step_keeps_node, starts_as_node, serves}
 use Rattle.ak_node.proofs.SendsValid.{names_of, no_names, step_sends}
-use Rattle.ak_node.proofs.node.Node.step.Goals as goal
+use Rattle.ak_node.proofs.node.Node.take.Goals as goal
 
 pub invariant_of-self : goal.invariant_of-self
 invariant_of-self c = (
-  step_keeps_node c.args.event c.self.inside.state c.step.new.self c.self.invariant.0 c.in-Ok.ensures.does.state_after,
+  step_keeps_node c.args.event.now c.self.inside.state c.step.new.self c.self.invariant.0 c.in-Ok.ensures.does.state_after,
   λ spent. absurd (true≢false (sym spent ∙ c.if-self.false)),
   names_of c.step.new.self c.gossip.result.now c.gossip.ensures c.sendable.ensures,
 )
@@ -22,10 +22,10 @@ invariant_of-self-in-Err c =
 
 pub returns-in-Ok-clause-valid : goal.returns-in-Ok-clause-valid
 returns-in-Ok-clause-valid c =
-    step_sends c.args.event c.self.inside.state c.step.new.self c.in-Ok.actions c.gossip.result.now c.said.ensures c.self.invariant.2 c.process.ensures c.self.invariant.0
+    step_sends c.args.event.now c.self.inside.state c.step.new.self c.in-Ok.actions c.gossip.result.now c.said.ensures c.self.invariant.2 c.process.ensures c.self.invariant.0
     c.in-Ok.ensures.does.state_after c.in-Ok.ensures.does.actions_done c.gossip.ensures c.sendable.ensures
 
 pub returns-in-Ok-clause-serves : goal.returns-in-Ok-clause-serves
 returns-in-Ok-clause-serves c =
     serves c.step.new.self c.invariant.ensures.itself
-    (step_keeps_node c.args.event c.self.inside.state c.step.new.self c.self.invariant.0 c.in-Ok.ensures.does.state_after)
+    (step_keeps_node c.args.event.now c.self.inside.state c.step.new.self c.self.invariant.0 c.in-Ok.ensures.does.state_after)
