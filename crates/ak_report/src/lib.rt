@@ -5,4 +5,4 @@ mod report;
 #[cfg(test)]
 mod report_tests;
 
-pub use report::{print_actions, print_bytes};
+pub use report::{append_actions, print_actions, print_bytes};

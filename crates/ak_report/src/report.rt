@@ -357,6 +357,20 @@ pub fn print_actions(
     ensures err { OnErr result (out.new.items ≡ out.old.items) }
 {
     let mut items = Vec::with_capacity(alloc, actions.len().saturating_mul(ITEM_BYTES))?;
-    print_items(gossip, first_packet, actions.as_slice(), &mut items)?;
+    append_actions(gossip, first_packet, actions, &mut items)?;
     print_bytes(&items, out)
+}
+
+/// Appends the items of actions as `print_actions` does, for whoever prints into a text of its own: where memory runs out, a
+/// part of the items may stand at its end.
+pub fn append_actions(
+    gossip: &Gossip,
+    first_packet: u128,
+    actions: &Actions,
+    out: &mut Vec<u8>,
+) -> Result<(), AllocError>
+    requires { first_packet < 2 ^ 127 }
+    ensures { OnOk result (out.new.items ≡ out.old.items ++ text.actions_text gossip.now first_packet actions.now) }
+{
+    print_items(gossip, first_packet, actions.as_slice(), out)
 }

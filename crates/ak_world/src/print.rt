@@ -13,7 +13,7 @@ use crate::world::{Step, World};
 use ak_address::{Unique, print_number};
 use ak_gossip::Gossip;
 use ak_node::Node;
-use ak_report::{print_actions, print_bytes};
+use ak_report::{append_actions, print_bytes};
 use ak_schedule::{Event, print_event};
 use ak_wire::Envelope;
 use std::alloc::{AllocError, Global};
@@ -111,8 +111,8 @@ fn print_done(
 {
     let first = u128::from(step.first_packet);
     match node {
-        Some(node) => print_actions(alloc, node.gossip(), first, &step.actions, out),
-        None => print_actions(alloc, &Gossip::empty(alloc), first, &step.actions, out),
+        Some(node) => append_actions(node.gossip(), first, &step.actions, out),
+        None => append_actions(&Gossip::empty(alloc), first, &step.actions, out),
     }
 }
 
