@@ -122,7 +122,7 @@ fn updates_after(alloc: Global, lines: &[&str]) -> Result<usize, Fail>
     updates_in(alloc, &mut world, lines)
 }
 
-const FIRST_JOIN: [&str; 7] = [
+pub(crate) const FIRST_JOIN: [&str; 7] = [
     "start a:1#1",
     "start b:1#1",
     "found a:1#1",
@@ -133,7 +133,7 @@ const FIRST_JOIN: [&str; 7] = [
 ];
 
 // c is admitted by a and by b, neither of which knows the other's update; then a merges both.
-const TWO_UPDATES_MERGE: [&str; 14] = [
+pub(crate) const TWO_UPDATES_MERGE: [&str; 14] = [
     "start a:1#1",
     "start b:1#1",
     "start c:1#1",

@@ -1,6 +1,6 @@
 ghost use Rattle.std.specs.Prelude.{◌+◌, ◌<◌, length};
 
-use crate::fold_tests::{apply_line, settings};
+use crate::fold_tests::{FIRST_JOIN, TWO_UPDATES_MERGE, apply_line, settings};
 use crate::world::World;
 use ak_address::{Unique, Uniques, parse_unique};
 use ak_clock::{Relation, Version};
@@ -119,34 +119,6 @@ fn seen_after(alloc: Global, lines: &[&str]) -> Result<[usize; 3], Fail>
     seen_in(alloc, &mut world, lines)
 }
 
-const FIRST_JOIN: [&str; 7] = [
-    "start a:1#1",
-    "start b:1#1",
-    "found a:1#1",
-    "join b:1#1 a:1",
-    "deliver 1",
-    "deliver 2",
-    "deliver 3",
-];
-
-// a and b each admit c, and a merges: nobody but a is known to know both updates, until b hears of it.
-const TWO_UPDATES_MERGE: [&str; 14] = [
-    "start a:1#1",
-    "start b:1#1",
-    "start c:1#1",
-    "found a:1#1",
-    "join b:1#1 a:1",
-    "deliver 1",
-    "deliver 2",
-    "join c:1#1 a:1",
-    "join c:1#1 b:1",
-    "deliver 4",
-    "deliver 5",
-    "deliver 2",
-    "deliver 8",
-    "deliver 9",
-];
-
 // Packets come again, and after a admitted c an old gossip that both a and b have seen changes nothing at a.
 const OLD_GOSSIP_COMES_AGAIN: [&str; 14] = [
     "start a:1#1",
@@ -170,6 +142,7 @@ fn who_is_in_a_seen_set_held_the_version(rt: HostRuntime) -> Result<(), Fail> {
     let alloc = rt.alloc();
     let first = seen_after(alloc, &FIRST_JOIN)?;
     assert!(rt; first == [2, 2, 0]);
+    // Where a and b each admitted c and a merged, nobody but a is known to know both updates, until b hears of it.
     let merged = seen_after(alloc, &TWO_UPDATES_MERGE)?;
     assert!(rt; merged == [1, 2, 0]);
     let again = seen_after(alloc, &OLD_GOSSIP_COMES_AGAIN)?;
