@@ -1,5 +1,5 @@
 -- What a change of the sorted list that underlies a table makes of the table.
-use Rattle.std.proofs.Common.{◌≡◌, ℕ, Bool, true, false, cond, not, T, IsTrue, List, [], ◌∷◌, ◌<◌, length, set, get_or, option_map, is_some, None, Result, Ok, Err, MatchResult, refl, sym, ap, ◌∙◌, subst, arith}
+use Rattle.std.proofs.Common.{◌≡◌, ℕ, Bool, true, false, cond, not, T, IsTrue, List, [], ◌∷◌, ◌<◌, length, set, get_or, slice_get, option_map, is_some, None, Result, Ok, Err, MatchResult, refl, sym, ap, ◌∙◌, subst, arith}
 use Rattle.std.proofs.lemmas.Option.{slice_get-get_or}
 use Rattle.std.specs.Ordering.{is_eq, eq_by_cmp}
 use Rattle.std.specs.Cmp.{alike_right, eq_by_cmp_equiv}
@@ -85,3 +85,23 @@ module _ {X : Type 0} where
     where
       in_order_of : (m n : map.FinMap unique_cmp X) → IsTrue (map.is_sorted unique_cmp (woven unique_cmp f (map.entries m) (map.entries n)))
       in_order_of m n = true_is _ (sorted_woven unique_cmp f unique_total (map.entries m) (map.entries_sorted m) (map.entries n) (map.entries_sorted n))
+
+  -- ---- what the place of a key in a table says of it
+  module _ (m : map.FinMap unique_cmp X) (q : UniqueModel) (n : ℕ) where
+    pub stands_in : Ok n ≡ index unique_cmp q (map.entries m) → Stands unique_cmp q (map.entries m) n
+    stands_in is = known unique_cmp unique_total unique_exact q (map.entries m) (map.entries_sorted m) (Ok n) is
+
+    pub goes_in : Err n ≡ index unique_cmp q (map.entries m) → Goes unique_cmp q (map.entries m) n
+    goes_in is = known unique_cmp unique_total unique_exact q (map.entries m) (map.entries_sorted m) (Err n) is
+
+    pub get_at_place : Ok n ≡ index unique_cmp q (map.entries m) → map.get m q ≡ option_map (λ e. e.1) (slice_get (map.entries m) n)
+    get_at_place is = map.get-entries m q ∙ (stands_in is).found
+
+    pub place_in_range : Ok n ≡ index unique_cmp q (map.entries m) → n < map.len m
+    place_in_range is = omega (arith, (stands_in is).in_range, map.len-entries m)
+
+    pub has_place : Ok n ≡ index unique_cmp q (map.entries m) → map.contains_key m q ≡ true
+    has_place is = ap is_some (get_at_place is ∙ ap (option_map (λ e. e.1)) (slice_get-get_or (map.entries m) n (first_pair (map.entries m) n (stands_in is).in_range) (stands_in is).in_range))
+
+    pub has_no_place : Err n ≡ index unique_cmp q (map.entries m) → map.get m q ≡ None
+    has_no_place is = map.get-entries m q ∙ (goes_in is).absent

@@ -1,4 +1,4 @@
-ghost use Rattle.std.specs.Prelude.{◌≡◌, ℕ, IfOk, OnOk, OnErr, IsOk, IsSome, IsTrue, Err, [], ◌∷◌, ◌++◌, length, slice_get, option_map, option_copied, if◌then◌else◌};
+ghost use Rattle.std.specs.Prelude.{◌≡◌, ◌<◌, ℕ, IfOk, OnOk, OnErr, IsOk, IsSome, IsTrue, Ok, Err, [], ◌∷◌, ◌++◌, length, slice_get, option_map, option_copied, if◌then◌else◌};
 ghost use Rattle.std.specs.Prelude as list;
 ghost use Rattle.std.specs.FinMap as map;
 ghost use Rattle.ak_address.specs.Unique.{UniqueModel, unique_cmp};
@@ -67,6 +67,14 @@ impl<V> Table<V> {
         Table { entries }
     }
 
+    /// The table that has no process, with memory for so many. Only memory can fail.
+    pub fn with_capacity(alloc: Global, many: usize) -> Result<Self, AllocError>
+        ensures { IfOk result (λ table. table ≡ map.empty) }
+    {
+        let entries = Vec::with_capacity(alloc, many)?;
+        Ok(Table { entries })
+    }
+
     /// What the table has at a process. Takes no memory.
     pub fn get(&self, who: &Unique) -> Option<&V>
         ensures { option_copied result ≡ map.get self.now who.now }
@@ -94,6 +102,14 @@ impl<V> Table<V> {
     {
         pair_at(&self.entries, index)
     }
+
+    /// The index at which the process stands, from 0 on in the order of processes, or as an error the one at which it would
+    /// stand. Takes no memory.
+    pub fn place(&self, who: &Unique) -> Result<usize, usize>
+        ensures { result ≡ index unique_cmp who.now (map.entries self.now) }
+    {
+        index_of(&self.entries, who)
+    }
 }
 
 impl<V: Raise> Table<V> {
@@ -120,6 +136,24 @@ impl<V: Drop> Table<V> {
             }
             Err(index) => Ok(self.entries.insert(index, (who, value))?),
         }
+    }
+
+    /// Gives a process that the table has not this value: the process is put at its place, without another search. After an
+    /// error the table is as it was.
+    pub fn insert_at(&mut self, place: usize, who: Unique, value: V) -> Result<(), AllocError>
+        requires { Err place ≡ index unique_cmp who (map.entries self.old) }
+        ensures ok { OnOk result (self.new ≡ map.insert self.old who value) }
+        ensures err { OnErr result (self.new ≡ self.old) }
+    {
+        Ok(self.entries.insert(place, (who, value))?)
+    }
+
+    /// Gives the process that stands at a place this value. Takes no memory.
+    pub fn set_at(&mut self, place: usize, value: V)
+        requires { place < map.len self.old }
+        ensures { (who : UniqueModel) → Ok place ≡ index unique_cmp who (map.entries self.old) → self.new ≡ map.insert self.old who value }
+    {
+        self.entries[place].1 = value;
     }
 
     /// Gives the process this value where the table has it; whether it has. Takes no memory.

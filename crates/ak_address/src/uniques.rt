@@ -34,6 +34,14 @@ impl Uniques {
         Uniques { table }
     }
 
+    /// The set of no process, with memory for so many. Only memory can fail.
+    pub fn with_capacity(alloc: Global, many: usize) -> Result<Uniques, AllocError>
+        ensures { IfOk result (λ set. set ≡ no_one) }
+    {
+        let table = Table::with_capacity(alloc, many)?;
+        Ok(Uniques { table })
+    }
+
     /// Puts an equal process into the set. After an error the set is as it was; a process that is there
     /// already takes no memory.
     pub fn insert(&mut self, alloc: Global, who: &Unique) -> Result<(), AllocError>
@@ -41,11 +49,13 @@ impl Uniques {
         ensures err { OnErr result (self.new ≡ self.old) }
         ensures present { IsTrue (has self.old who.now) → IsOk result }
     {
-        if self.contains(who) {
-            return Ok(());
+        match self.table.place(who) {
+            Ok(_) => Ok(()),
+            Err(place) => {
+                let who = who.copy(alloc)?;
+                self.table.insert_at(place, who, ())
+            }
         }
-        let who = who.copy(alloc)?;
-        self.table.insert(who, ())
     }
 
     /// Puts an equal process into the set, if there is one: the set with each process of a list of one or none. After an

@@ -1,11 +1,13 @@
 -- What versions count after a merge and a bump, and the order that covering is.
-use Rattle.std.proofs.Common.{◌≡◌, ◌≢◌, ℕ, zero, suc, ◌+◌, ◌<◌, ◌≤◌, max, leb, Bool, true, false, ◌&&◌, ◌↔◌, inl, inr, T, List, [], ◌∷◌, Option, Some, None, is_some, unwrap_or, slice_get, Result, Ok, Err, OnOk, OnErr, refl, sym, ap, ◌∙◌, subst, arith, true≢false, leb-true, leb-false, le-leb, ◌⊎◌, if◌then◌else◌}
+use Rattle.std.proofs.Common.{◌≡◌, ◌≢◌, ℕ, zero, suc, ◌+◌, ◌<◌, ◌≤◌, max, leb, Bool, true, false, ◌&&◌, ◌↔◌, inl, inr, T, List, [], ◌∷◌, Option, Some, None, is_some, unwrap_or, slice_get, Result, Ok, Err, IfOk, OnOk, OnErr, refl, sym, ap, ◌∙◌, subst, arith, true≢false, leb-true, leb-false, le-leb, ◌⊎◌, if◌then◌else◌}
 use Rattle.std.proofs.lemmas.Bool.{lt-leb}
 use Rattle.std.specs.List.{list_all}
 use Rattle.std.specs.FinMap as map
-use Rattle.ak_address.specs.Unique.{UniqueModel}
+use Rattle.ak_address.specs.Pairs.{index}
+use Rattle.ak_address.specs.Unique.{UniqueModel, unique_cmp}
 use Rattle.ak_address.specs.Table.{merged_at}
 use Rattle.ak_address.proofs.TableLaws.{same_table, get-empty, get-insert_here, get-insert_elsewhere, get-merged_tables, get_at, index_of_get, same_or_apart}
+use Rattle.ak_address.proofs.TableLemmas.{has_no_place}
 use Rattle.ak_clock.specs.declared.version.TheConstants.{BOUND}
 use Rattle.ak_clock.specs.declared.version.Relation.{Relation}
 use Rattle.ak_clock.specs.declared.version.Relation.TheVariants.{Same, Before, After, Concurrent}
@@ -156,6 +158,19 @@ reaching_is_version v a n p le = elim (reaching-cases v a n) [
   | inl stays ↦ subst IsVersion (sym stays.0) p
   | inr rises ↦ subst IsVersion (sym rises.0) (inserted_is_version v a n p rises.1 le)
 ]
+
+-- after a count that may not have been raised
+pub still_reaching : {A E : Type 0} (r : Result A E) (n v : Counts) (u : UniqueModel) (m : ℕ) → OnOk r (n ≡ reaching v u m) → OnErr r (n ≡ v) → IsVersion v → m ≤ BOUND → IsVersion n
+still_reaching (Ok x) n v u m ok err p le = subst IsVersion (sym ok) (reaching_is_version v u m p le)
+still_reaching (Err e) n v u m ok err p le = subst IsVersion (sym err) p
+
+pub still_bumped : {E : Type 0} (r : Result ℕ E) (n v : Counts) (u : UniqueModel) → IfOk r (λ m. (m ≡ count v u + 1) × (n ≡ bumped v u)) → OnErr r (n ≡ v) → IsVersion v → count v u < BOUND → IsVersion n
+still_bumped (Ok x) n v u ok err p room = subst IsVersion (sym ok.1) (bumped_is_version v u p room)
+still_bumped (Err e) n v u ok err p room = subst IsVersion (sym err) p
+
+-- what a process has no place for
+pub count_no_place : (v : Counts) (u : UniqueModel) (n : ℕ) → Err n ≡ index unique_cmp u (map.entries v) → count v u ≡ 0
+count_no_place v u n is = ap (λ o. unwrap_or o 0) (has_no_place v u n is)
 
 -- ---- covering is an order
 pub covers_itself : (v : Counts) → Covers v v

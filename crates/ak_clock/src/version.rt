@@ -1,5 +1,7 @@
-ghost use Rattle.std.specs.Prelude.{◌≡◌, ◌+◌, ◌<◌, ◌≤◌, ◌↔◌, IfOk, OnOk, OnErr, IsOk, IfSome, IsTrue, slice_get, option_map};
+ghost use Rattle.std.specs.Prelude.{◌≡◌, ◌+◌, ◌<◌, ◌≤◌, ◌↔◌, IfOk, OnOk, OnErr, IsOk, IfSome, IsTrue, Ok, Err, slice_get, option_map};
 ghost use Rattle.std.specs.FinMap as map;
+ghost use Rattle.ak_address.specs.Pairs.{index};
+ghost use Rattle.ak_address.specs.Unique.{UniqueModel, unique_cmp};
 ghost use Rattle.ak_clock.specs.Version.{count, covers, Covers, relation, relation_by, Relates, merged, bumped, reaching};
 ghost use Rattle.ak_clock.specs.Walk.{reached};
 
@@ -53,6 +55,14 @@ impl Version {
     {
         let counts = Table::empty(alloc);
         Version { counts }
+    }
+
+    /// The version that counts nothing, with memory for so many processes. Only memory can fail.
+    pub fn with_capacity(alloc: Global, many: usize) -> Result<Version, AllocError>
+        ensures { IfOk result (λ version. version ≡ map.empty) }
+    {
+        let counts = Table::with_capacity(alloc, many)?;
+        Ok(Version { counts })
     }
 
     /// How many entries of this process are counted: 0 where it has none, and at most `BOUND`.
@@ -125,10 +135,7 @@ impl Version {
         ensures ok { IfOk result (λ n. (n ≡ count self.old author.now + 1) × (self.new ≡ bumped self.old author.now)) }
         ensures err { OnErr result (self.new ≡ self.old) }
     {
-        let next = count_in(&self.counts, author) + 1;
-        let who = author.copy(alloc)?;
-        self.counts.insert(who, next)?;
-        Ok(next)
+        bump_in(alloc, &mut self.counts, author)
     }
 
     /// At least so many entries of this process, up to `BOUND`. After an error the version is as it was; where it counts
@@ -139,12 +146,7 @@ impl Version {
         ensures err { OnErr result (self.new ≡ self.old) }
         ensures reached { least ≤ count self.old who.now → IsOk result }
     {
-        if least <= count_in(&self.counts, who) {
-            return Ok(());
-        }
-        let who = who.copy(alloc)?;
-        self.counts.insert(who, least)?;
-        Ok(())
+        reach_in(alloc, &mut self.counts, who, least)
     }
 }
 
@@ -168,6 +170,64 @@ fn count_in(counts: &Table<u64>, who: &Unique) -> u64
         Some(n) => *n,
         None => 0,
     }
+}
+
+// One more of this process: its new count.
+fn bump_in(alloc: Global, counts: &mut Table<u64>, author: &Unique) -> Result<u64, AllocError>
+    requires { count counts.old author.now < BOUND }
+    ensures ok { IfOk result (λ n. (n ≡ count counts.old author.now + 1) × (counts.new ≡ bumped counts.old author.now)) }
+    ensures err { OnErr result (counts.new ≡ counts.old) }
+{
+    match counts.place(author) {
+        Ok(place) => {
+            let next = count_at(counts, place) + 1;
+            counts.set_at(place, next);
+            Ok(next)
+        }
+        Err(place) => {
+            let who = author.copy(alloc)?;
+            counts.insert_at(place, who, 1)?;
+            Ok(1)
+        }
+    }
+}
+
+// At least so many of this process.
+fn reach_in(
+    alloc: Global,
+    counts: &mut Table<u64>,
+    who: &Unique,
+    least: u64,
+) -> Result<(), AllocError>
+    ensures ok { OnOk result (counts.new ≡ reaching counts.old who.now least) }
+    ensures err { OnErr result (counts.new ≡ counts.old) }
+    ensures reached { least ≤ count counts.old who.now → IsOk result }
+{
+    match counts.place(who) {
+        Ok(place) => {
+            if count_at(counts, place) < least {
+                counts.set_at(place, least);
+            }
+            Ok(())
+        }
+        Err(place) => {
+            if least == 0 {
+                return Ok(());
+            }
+            let who = who.copy(alloc)?;
+            counts.insert_at(place, who, least)
+        }
+    }
+}
+
+// The count of the process that stands at a place.
+fn count_at(counts: &Table<u64>, place: usize) -> u64
+    ensures { (who : UniqueModel) → Ok place ≡ index unique_cmp who (map.entries counts.now) → result ≡ count counts.now who }
+{
+    let Some((_, n)) = counts.at(place) else {
+        return 0;
+    };
+    *n
 }
 
 // Whether each count of the second table is at most that of the first: one walk along both.

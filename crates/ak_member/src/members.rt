@@ -1,7 +1,8 @@
-ghost use Rattle.std.specs.Prelude.{◌≡◌, IfOk, OnOk, OnErr, IsOk, IsSome, length, slice_get, option_map, option_to_list, ◌+◌, ℕ};
+ghost use Rattle.std.specs.Prelude.{◌≡◌, IfOk, OnOk, OnErr, IsOk, IsSome, Ok, length, slice_get, option_map, option_to_list, ◌+◌, ℕ};
 ghost use Rattle.std.specs.FinMap as map;
+ghost use Rattle.ak_address.specs.Pairs.{index};
 ghost use Rattle.ak_address.specs.Table.{value_with};
-ghost use Rattle.ak_address.specs.Unique.{UniqueModel};
+ghost use Rattle.ak_address.specs.Unique.{UniqueModel, unique_cmp};
 ghost use Rattle.ak_member.specs.declared.status.Status.{Status};
 ghost use Rattle.ak_member.specs.Standing.{nobody, merged_standings, merged_standing, known, member_pairs, tombstone_pairs, raised, buried, is_gone, member_of, tombstone_of, members_of, tombstones_of};
 ghost use Rattle.ak_member.specs.View.{after_effect, after_effects};
@@ -60,6 +61,14 @@ impl Members {
         Members { table }
     }
 
+    /// Nobody, with memory for so many. Only memory can fail.
+    pub fn with_capacity(alloc: Global, many: usize) -> Result<Members, AllocError>
+        ensures { IfOk result (λ members. members ≡ nobody) }
+    {
+        let table = Table::with_capacity(alloc, many)?;
+        Ok(Members { table })
+    }
+
     /// The member that the process is; none where it is no member. Takes no memory.
     pub fn get(&self, who: &Unique) -> Option<Member<'_>>
         ensures { option_map (λ m. (m.unique.now, (m.status, m.up_number))) result ≡ option_map {U = UniqueModel × (Status × ℕ)} (λ m. (who.now, m)) (member_of (map.get self.now who.now)) }
@@ -104,6 +113,14 @@ impl Members {
         ensures { result ≡ map.len self.now }
     {
         self.table.len()
+    }
+
+    /// The index of the process among all that are known, from 0 on in the order of processes, or as an error the one at which
+    /// it would stand. Takes no memory.
+    pub fn place(&self, who: &Unique) -> Result<usize, usize>
+        ensures { result ≡ index unique_cmp who.now (map.entries self.now) }
+    {
+        self.table.place(who)
     }
 
     /// The process at an index among all that are known, from 0 on in the order of processes, and what is known of it;
@@ -216,21 +233,16 @@ impl Members {
         ensures err { OnErr result (self.new ≡ self.old) }
         ensures present { IsSome (map.get self.old who.now) → IsOk result }
     {
-        let standing = self.with(who, &standing);
-        if self.table.update(who, standing) {
-            return Ok(());
-        }
-        let who = who.copy(alloc)?;
-        self.table.insert(who, standing)
-    }
-
-    // The standing, merged with what is known of the process.
-    fn with(&self, who: &Unique, standing: &Standing) -> Standing
-        ensures { result ≡ value_with merged_standing (map.get self.now who.now) standing.now }
-    {
-        match self.table.get(who) {
-            Some(before) => before.with(standing),
-            None => *standing,
+        match self.table.place(who) {
+            Ok(place) => {
+                let standing = with_known(&self.table, place, standing);
+                self.table.set_at(place, standing);
+                Ok(())
+            }
+            Err(place) => {
+                let who = who.copy(alloc)?;
+                self.table.insert_at(place, who, standing)
+            }
         }
     }
 
@@ -248,6 +260,16 @@ impl Members {
 }
 
 // The member at a pair of the table, where there is one.
+// The standing, merged with what is known of the process that stands at a place.
+fn with_known(table: &Table<Standing>, place: usize, standing: Standing) -> Standing
+    ensures { (who : UniqueModel) → Ok place ≡ index unique_cmp who (map.entries table.now) → result ≡ value_with merged_standing (map.get table.now who) standing }
+{
+    let Some((_, before)) = table.at(place) else {
+        return standing;
+    };
+    before.with(&standing)
+}
+
 fn member_at(table: &Table<Standing>, pair: usize) -> Option<Member<'_>>
     ensures { option_to_list (option_map (λ m. (m.unique.now, (m.status, m.up_number))) result) ≡ member_pairs (option_to_list (slice_get (map.entries table.now) pair)) }
 {

@@ -1,5 +1,7 @@
-ghost use Rattle.std.specs.Prelude.{◌≡◌, ◌↔◌, IfOk, OnOk, OnErr, IsOk, IsTrue, slice_get, option_map, option_copied};
+ghost use Rattle.std.specs.Prelude.{◌≡◌, ◌↔◌, IfOk, OnOk, OnErr, IsOk, IsTrue, Ok, slice_get, option_map, option_copied};
 ghost use Rattle.std.specs.FinMap as map;
+ghost use Rattle.ak_address.specs.Pairs.{index};
+ghost use Rattle.ak_address.specs.Unique.{UniqueModel, unique_cmp};
 ghost use Rattle.ak_member.specs.View.{RowTable, merged_rows};
 ghost use Rattle.ak_reach.specs.Reach.{with_row, is_as_new, row_has, reported, IsReported, unreachable};
 ghost use Rattle.ak_reach.specs.Walk.{reports, with_reported};
@@ -37,6 +39,14 @@ impl Rows {
         Rows { table }
     }
 
+    /// No row, with memory for so many. Only memory can fail.
+    pub fn with_capacity(alloc: Global, many: usize) -> Result<Rows, AllocError>
+        ensures { IfOk result (λ rows. rows ≡ map.empty) }
+    {
+        let table = Table::with_capacity(alloc, many)?;
+        Ok(Rows { table })
+    }
+
     /// The observer's row; none where it has none. Takes no memory.
     pub fn row(&self, observer: &Unique) -> Option<&Row>
         ensures { option_copied result ≡ map.get self.now observer.now }
@@ -71,12 +81,21 @@ impl Rows {
         ensures err { OnErr result (self.new ≡ self.old) }
         ensures kept { IsTrue (is_as_new (map.get self.old observer.now) number) → IsOk result }
     {
-        if is_as_new(self.table.get(observer), number) {
-            return Ok(());
+        match self.table.place(observer) {
+            Ok(place) => {
+                if is_as_new_at(&self.table, place, number) {
+                    return Ok(());
+                }
+                let subjects = subjects.copy(alloc)?;
+                self.table.set_at(place, Row { number, subjects });
+                Ok(())
+            }
+            Err(place) => {
+                let who = observer.copy(alloc)?;
+                let subjects = subjects.copy(alloc)?;
+                self.table.insert_at(place, who, Row { number, subjects })
+            }
         }
-        let who = observer.copy(alloc)?;
-        let subjects = subjects.copy(alloc)?;
-        self.table.insert(who, Row { number, subjects })
     }
 
     /// Takes in other rows: of each observer the row with the greater number, at equal numbers the own one (Akka's
@@ -119,14 +138,14 @@ impl Rows {
     }
 }
 
-// The row is there, and its number is the same or greater.
-fn is_as_new(row: Option<&Row>, number: u64) -> bool
-    ensures { result ≡ is_as_new (option_copied row.entry) number }
+// The row of the process that stands at a place has the same number or a greater one.
+fn is_as_new_at(rows: &Table<Row>, place: usize, number: u64) -> bool
+    ensures { (who : UniqueModel) → Ok place ≡ index unique_cmp who (map.entries rows.now) → result ≡ is_as_new (map.get rows.now who) number }
 {
-    match row {
-        Some(row) => row.number >= number,
-        None => false,
-    }
+    let Some((_, row)) = rows.at(place) else {
+        return false;
+    };
+    row.number >= number
 }
 
 // The row is there and has the subject.
