@@ -2,11 +2,9 @@ ghost use Rattle.std.specs.Prelude.{◌≡◌, option_copied};
 ghost use Rattle.std.specs.FinMap as map;
 ghost use Rattle.ak_address.specs.Uniques.{has};
 ghost use Rattle.ak_clock.specs.Version.{count};
-ghost use Rattle.ak_gossip.specs.PartsWalk.{index_among};
 
 use ak_address::{Unique, Uniques};
 use ak_clock::Version;
-use ak_member::Members;
 use ak_reach::{Row, Rows};
 
 /// How far a walk along the processes of a gossip, in their order, has come in each of its other tables: the index of the
@@ -34,7 +32,7 @@ impl Cursor {
         ensures { result ≡ count version.now who.now }
     {
         if let Some((next, count)) = version.at(self.count) {
-            if next.compare(who).is_eq() {
+            if next.is(who) {
                 self.count = self.count.saturating_add(1);
                 return count;
             }
@@ -47,7 +45,7 @@ impl Cursor {
         ensures { option_copied result ≡ map.get rows.now who.now }
     {
         if let Some((next, row)) = rows.at(self.row) {
-            if next.compare(who).is_eq() {
+            if next.is(who) {
                 self.row = self.row.saturating_add(1);
                 return Some(row);
             }
@@ -60,35 +58,11 @@ impl Cursor {
         ensures { result ≡ has seen.now who.now }
     {
         if let Some(next) = seen.at(self.seen) {
-            if next.compare(who).is_eq() {
+            if next.is(who) {
                 self.seen = self.seen.saturating_add(1);
                 return true;
             }
         }
         seen.contains(who)
     }
-}
-
-/// The index of the process among all that are known; none where it is not known: a search by halves.
-pub(crate) fn index_of(everybody: &Members, who: &Unique) -> Option<usize>
-    ensures { result ≡ index_among everybody.now who.now }
-{
-    let mut low = 0;
-    let mut high = everybody.uniques();
-    'halves: while low < high {
-        let middle = low + (high - low) / 2;
-        let Some((there, _)) = everybody.pair(middle) else {
-            return None;
-        };
-        let order = who.compare(there);
-        if order.is_eq() {
-            return Some(middle);
-        }
-        if order.is_lt() {
-            high = middle;
-        } else {
-            low = middle + 1;
-        }
-    }
-    None
 }

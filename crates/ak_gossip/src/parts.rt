@@ -7,7 +7,7 @@ ghost use Rattle.ak_gossip.specs.Gossip.{GossipState, IsGossip, IsNumber, most_u
 ghost use Rattle.ak_gossip.specs.Parts.{state_of_status, state_of, number_of, row_number_of, indices_of, subjects_of, part_of, parts_of, IsState, IsPart, AreParts};
 ghost use Rattle.ak_gossip.specs.PartsWalk.{standing_of, ascend_from, is_above, ascend_after, index_among, with_counts, with_known, with_standings, with_seen, with_process, with_indices, with_part_row, with_part_rows};
 
-use crate::cursor::{Cursor, index_of};
+use crate::cursor::Cursor;
 use crate::gossip::{Gossip, MOST_UNIQUES};
 use crate::known::{Known, Tables};
 use crate::part::{Indices, Part, Parts};
@@ -274,9 +274,9 @@ fn push_index(everybody: &Members, who: &Unique, indices: &mut Indices) -> Resul
     requires { map.len everybody.now ≤ most_uniques }
     ensures { OnOk result (indices.new ≡ indices.old ++ option_to_list (index_among everybody.now who.now)) }
 {
-    match index_of(everybody, who) {
-        Some(index) => indices.push(index as u8),
-        None => Ok(()),
+    match everybody.place(who) {
+        Ok(index) => indices.push(index as u8),
+        Err(_) => Ok(()),
     }
 }
 
@@ -284,7 +284,7 @@ fn version_of(alloc: Global, parts: &[Part]) -> Result<Version, AllocError>
     requires { AreParts parts.now }
     ensures { IfOk result (λ version. version ≡ with_counts map.empty parts.now) }
 {
-    let mut version = Version::empty(alloc);
+    let mut version = Version::with_capacity(alloc, parts.len())?;
     'parts: for part in parts {
         version.reach(alloc, &part.unique, part.count)?;
     }
@@ -294,7 +294,7 @@ fn version_of(alloc: Global, parts: &[Part]) -> Result<Version, AllocError>
 fn members_of(alloc: Global, parts: &[Part]) -> Result<Members, AllocError>
     ensures { IfOk result (λ members. members ≡ with_standings nobody parts.now) }
 {
-    let mut members = Members::empty(alloc);
+    let mut members = Members::with_capacity(alloc, parts.len())?;
     'parts: for part in parts {
         add_standing(alloc, part, &mut members)?;
     }
@@ -317,7 +317,7 @@ fn add_standing(alloc: Global, part: &Part, members: &mut Members) -> Result<(),
 fn seen_of(alloc: Global, parts: &[Part]) -> Result<Uniques, AllocError>
     ensures { IfOk result (λ seen. seen ≡ with_seen no_one parts.now) }
 {
-    let mut seen = Uniques::empty(alloc);
+    let mut seen = Uniques::with_capacity(alloc, parts.len())?;
     'parts: for part in parts {
         add_seen(alloc, part, &mut seen)?;
     }
@@ -344,7 +344,7 @@ struct Subjects<'a> {
 fn rows_of(alloc: Global, parts: &[Part]) -> Result<Rows, AllocError>
     ensures { IfOk result (λ rows. rows ≡ with_part_rows parts.now map.empty parts.now) }
 {
-    let mut rows = Rows::empty(alloc);
+    let mut rows = Rows::with_capacity(alloc, parts.len())?;
     let mut last = Subjects {
         indices: &[],
         them: Uniques::empty(alloc),
@@ -397,7 +397,7 @@ fn turn_to<'a>(
 fn those_at(alloc: Global, parts: &[Part], indices: &[u8]) -> Result<Uniques, AllocError>
     ensures { IfOk result (λ them. them ≡ with_indices parts.now no_one indices.now) }
 {
-    let mut them = Uniques::empty(alloc);
+    let mut them = Uniques::with_capacity(alloc, indices.len())?;
     'indices: for index in indices {
         add_at(alloc, parts, usize::from(*index), &mut them)?;
     }

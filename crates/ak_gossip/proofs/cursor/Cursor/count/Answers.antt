@@ -1,10 +1,10 @@
-use Rattle.std.proofs.Common.{sym, ap, ◌∙◌, unwrap_or}
+use Rattle.std.proofs.Common.{ap, unwrap_or}
 use Rattle.ak_address.proofs.Pairs.{is_equal}
 use Rattle.ak_gossip.proofs.PartsPlaces.{found_next}
 use Rattle.ak_gossip.proofs.cursor.Cursor.count.Goals as goal
 
-pub returns-then-is_eq : goal.returns-then-is_eq
-returns-then-is_eq c =
+pub returns-then-is : goal.returns-then-is
+returns-then-is c =
     ap (λ o. unwrap_or o 0)
     (found_next c.args.version.now c.args.self.now.count c.in-Some.next.now c.args.who.now c.in-Some.count c.in-Some.ensures.pair
-    (sym c.compare.ensures ∙ is_equal _ _ c.is_eq.ensures c.if-is_eq.true))
+    (is_equal _ _ c.is.ensures.value c.if-is.true))

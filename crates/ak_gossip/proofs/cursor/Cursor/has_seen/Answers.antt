@@ -5,7 +5,7 @@ use Rattle.ak_address.proofs.Pairs.{is_equal}
 use Rattle.ak_address.proofs.UniquesLaws.{has_at}
 use Rattle.ak_gossip.proofs.cursor.Cursor.has_seen.Goals as goal
 
-pub returns-then-is_eq : goal.returns-then-is_eq
-returns-then-is_eq c =
+pub returns-then-is : goal.returns-then-is
+returns-then-is c =
     sym (has_at c.args.seen.now c.args.self.now.seen c.in-Some.next.now (sym c.in-Some.ensures))
-    ∙ ap (has c.args.seen.now) (unique_exact c.in-Some.next.now c.args.who.now (sym c.compare.ensures ∙ is_equal _ _ c.is_eq.ensures c.if-is_eq.true))
+    ∙ ap (has c.args.seen.now) (unique_exact c.in-Some.next.now c.args.who.now (is_equal _ _ c.is.ensures.value c.if-is.true))

@@ -1,9 +1,8 @@
-use Rattle.std.proofs.Common.{sym, ◌∙◌}
 use Rattle.ak_address.proofs.Pairs.{is_equal}
 use Rattle.ak_gossip.proofs.PartsPlaces.{found_next}
 use Rattle.ak_gossip.proofs.cursor.Cursor.row.Goals as goal
 
-pub returns-then-is_eq : goal.returns-then-is_eq
-returns-then-is_eq c =
+pub returns-then-is : goal.returns-then-is
+returns-then-is c =
     found_next c.args.rows.now c.args.self.now.row c.in-Some.next.now c.args.who.now c.in-Some.row.now c.in-Some.ensures
-    (sym c.compare.ensures ∙ is_equal _ _ c.is_eq.ensures c.if-is_eq.true)
+    (is_equal _ _ c.is.ensures.value c.if-is.true)
