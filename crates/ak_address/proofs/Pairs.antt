@@ -230,6 +230,32 @@ module _ {K X : Type 0} (R : K → K → Ordering) where
           no_later : (i : ℕ) (d : K × X) → length es ≤ i → slice_get es i ≡ Some d → ⊥
           no_later i d le is = let within = slice_get_within es i d is in omega (arith, le, within)
 
+    -- a key that would go to an index is above the pairs before it, and below those from it on
+    above_later : (x : K × X) (es : List (K × X)) (n : ℕ) → R q x.0 ≡ Greater → IsAboveBefore es n → IsAboveBefore (x ∷ es) (suc n)
+    above_later x es n first above zero e lt is = subst (λ (y : K × X). R q y.0 ≡ Greater) (same_Some x e is) first
+    above_later x es n first above (suc i) e lt is = above i e (omega arith) is
+
+    below_later : (x : K × X) (es : List (K × X)) (n : ℕ) → IsBelowFrom es n → IsBelowFrom (x ∷ es) (suc n)
+    below_later x es n below zero e le is = absurd (omega arith)
+    below_later x es n below (suc i) e le is = below i e (omega arith) is
+
+    between_later : (x : K × X) (es : List (K × X)) (r : Result ℕ ℕ) → R q x.0 ≡ Greater → MatchResult r (λ n. Unit {0}) (λ n. IsAboveBefore es n × IsBelowFrom es n) → MatchResult (next r) (λ n. Unit {0}) (λ n. IsAboveBefore (x ∷ es) n × IsBelowFrom (x ∷ es) n)
+    between_later x es (Ok n) first both = tt
+    between_later x es (Err n) first both = (above_later x es n first both.0, below_later x es n both.1)
+
+    module _ (o : IsTotalOrder R) where
+      between : (es : List (K × X)) → T (is_sorted R es) → MatchResult (index R q es) (λ n. Unit {0}) (λ n. IsAboveBefore es n × IsBelowFrom es n)
+      between [] h = (λ i e lt is. absurd (not_None e (sym is)), λ i e le is. absurd (not_None e (sym is)))
+      between (x ∷ es) h =
+          elim (R q x.0) as (λ r. R q x.0 ≡ r → MatchResult (by_order r (Err zero) (Ok zero) (next (index R q es))) (λ n. Unit {0}) (λ n. IsAboveBefore (x ∷ es) n × IsBelowFrom (x ∷ es) n)) [
+            | Less ↦ λ below. (λ i e lt is. absurd (omega arith), below_from o (x ∷ es) h zero x refl below)
+            | Equal ↦ λ tied. tt
+            | Greater ↦ λ above. between_later x es (index R q es) above (between es (second _ _ h))
+          ] refl
+
+      pub goes_between : (es : List (K × X)) (n : ℕ) → T (is_sorted R es) → Err n ≡ index R q es → IsAboveBefore es n × IsBelowFrom es n
+      goes_between es n h is = subst (λ r. MatchResult r (λ n. Unit {0}) (λ n. IsAboveBefore es n × IsBelowFrom es n)) (sym is) (between es h)
+
   -- what is found stands at some index, where only equal keys tie
   pub index_of_found : IsAntisymmetric R → (q : K) (v : X) (es : List (K × X)) → find R q es ≡ Some v → (i : ℕ) × (slice_get es i ≡ Some (q, v))
   index_of_found same q v [] is = absurd (not_None v (sym is))

@@ -1,6 +1,6 @@
 -- The ring by halves and by runs of pairs, and that a detector which watches its ring already is the one that watches it.
-use Rattle.std.proofs.Common.{◌≡◌, ◌≢◌, ℕ, zero, suc, ◌+◌, ◌-◌, ◌<◌, ◌≤◌, ◌⊎◌, inl, inr, Bool, true, false, cond, ◌&&◌, ◌||◌, T, List, [], ◌∷◌, ◌++◌, length, min, take, drop, slice_get, Option, Some, None, is_some, unwrap_or, option_to_list, refl, sym, ap, ◌∙◌, arith, append-nil, take-append-drop}
-use Rattle.std.proofs.lemmas.Option.{same_Some}
+use Rattle.std.proofs.Common.{◌≡◌, ◌≢◌, ℕ, zero, suc, ◌+◌, ◌-◌, ◌<◌, ◌≤◌, ◌⊎◌, inl, inr, Bool, true, false, cond, ◌&&◌, ◌||◌, T, List, [], ◌∷◌, ◌++◌, length, min, take, drop, slice_get, Option, Some, None, is_some, unwrap_or, option_to_list, get_or, Ok, Err, subst, refl, sym, ap, ◌∙◌, arith, append-nil, take-append-drop}
+use Rattle.std.proofs.lemmas.Option.{same_Some, slice_get-get_or}
 use Rattle.std.proofs.lemmas.List.{take_all, take_min, length-take, length-drop, length-append}
 use Rattle.std.proofs.lemmas.List.Elements.{filter-append}
 use Rattle.std.proofs.lemmas.List.Folds.{list_any-append}
@@ -8,13 +8,15 @@ use Rattle.std.specs.List.{fold, filter}
 use Rattle.std.specs.declared.cmp.Ordering.{Ordering}
 use Rattle.std.specs.declared.cmp.Ordering.TheVariants.{Less, Equal, Greater}
 use Rattle.std.specs.Ordering.{is_lt, eq_by_cmp, ordering_reverse}
+use Rattle.std.specs.Cmp.{tied_itself}
 use Rattle.std.specs.FinMap as finmap
+use Rattle.ak_address.specs.Pairs.{index}
 use Rattle.ak_address.specs.Unique.{UniqueModel, unique_cmp}
 use Rattle.ak_address.specs.Uniques.{UniqueSet, no_one, has, with_one, in_order, how_many, set_of}
 use Rattle.ak_address.specs.Changed.{keys_of}
 use Rattle.ak_address.specs.Counters.{Counters, counter}
-use Rattle.ak_address.proofs.OrderLemmas.{unique_total}
-use Rattle.ak_address.proofs.Pairs.{rises, not_None, IsAboveBefore, IsBelowFrom, above_before}
+use Rattle.ak_address.proofs.OrderLemmas.{unique_total, unique_exact}
+use Rattle.ak_address.proofs.Pairs.{Stands, known, rises, not_None, IsAboveBefore, IsBelowFrom, above_before, goes_between}
 use Rattle.ak_address.proofs.TableLaws.{same_table}
 use Rattle.ak_address.proofs.UniquesLaws.{same_uniques}
 use Rattle.ak_address.proofs.ChangedLaws.{has-keys_of}
@@ -25,7 +27,7 @@ use Rattle.ak_member.specs.Standing.{Standings, is_member, member_pairs}
 use Rattle.ak_member.proofs.MemberLemmas.{KeepsPairs, kept_pair, kept_at_end, drop_from, keeps_members}
 use Rattle.ak_member.proofs.Folds.{keeps_mapped}
 use Rattle.ak_detector.specs.Detector.{most_watched, watch_ring, is_silent, watching}
-use Rattle.ak_detector.specs.Sides.{Agrees, is_on_side, names_of, order_at, run, side_pairs}
+use Rattle.ak_detector.specs.Sides.{Agrees, is_on_side, names_of, run, side_pairs}
 use Rattle.ak_detector.proofs.DetectorLaws.{get-watching}
 use Rattle.ak_detector.proofs.DetectorLemmas.{take-append, length-in_order, ring_walked}
 
@@ -144,12 +146,16 @@ module _ (me : UniqueModel) (pairs : List (UniqueModel × Standing)) where
       here : (i : ℕ) (d : UniqueModel × Standing) → n ≡ i → slice_get pairs i ≡ Some d → unique_cmp me d.0 ≡ Equal
       here i d same is = ap (λ (x : UniqueModel × Standing). unique_cmp me x.0) (same_Some d e (sym is ∙ sym (ap (slice_get pairs) same) ∙ at)) ∙ tied
 
--- how the node and a pair that is there are ordered
-pub ordered_at : (me : UniqueModel) (pairs : List (UniqueModel × Standing)) (i : ℕ) (r : Ordering) → r ≡ order_at me (slice_get pairs i) → i < length pairs
-    → (e : UniqueModel × Standing) × (slice_get pairs i ≡ Some e) × (unique_cmp me e.0 ≡ r)
-ordered_at me [] i r is lt = absurd (omega arith)
-ordered_at me (e ∷ pairs) zero r is lt = (e, refl, sym is)
-ordered_at me (e ∷ pairs) (suc i) r is lt = ordered_at me pairs i r is (omega arith)
+-- the place of the node
+module _ (me : UniqueModel) (pairs : List (UniqueModel × Standing)) (n : ℕ) (sorted : T (finmap.is_sorted unique_cmp pairs)) where
+  pub sides_there : Ok n ≡ index unique_cmp me pairs → Sides me pairs n (n + 1)
+  sides_there is =
+      let s : Stands unique_cmp me pairs n = known unique_cmp unique_total unique_exact me pairs sorted (Ok n) is in
+      let d : UniqueModel × Standing = (me, Buried false) in
+      sides_at me pairs n (get_or pairs n d) sorted (slice_get-get_or pairs n d s.in_range) (subst (λ who. unique_cmp me who ≡ Equal) (sym (s.held d)) (tied_itself unique_total me))
+
+  pub sides_nowhere : Err n ≡ index unique_cmp me pairs → Sides me pairs n n
+  sides_nowhere is = let both = goes_between unique_cmp me unique_total pairs n sorted is in sides_between me pairs n both.0 both.1
 
 -- ---- runs of members
 pub there_in : (to i : ℕ) (pairs : List (UniqueModel × Standing)) (o : Option UniqueModel) → i < to → option_to_list o ≡ names_of (option_to_list (slice_get pairs i)) → option_to_list o ≡ names_of (option_to_list (slice_get (take to pairs) i))

@@ -2,8 +2,6 @@
 use Rattle.std.specs.Prelude.{◌≡◌, ℕ, ◌-◌, Bool, true, false, List, Option, None, Some, map, take, drop, nat_lt}
 use Rattle.std.specs.List.{filter}
 use Rattle.std.specs.Ordering.{is_lt}
-use Rattle.std.specs.declared.cmp.Ordering.{Ordering}
-use Rattle.std.specs.declared.cmp.Ordering.TheVariants.{Less}
 use Rattle.ak_address.specs.Unique.{UniqueModel, unique_cmp}
 use Rattle.ak_member.specs.declared.status.Status.{Status}
 use Rattle.ak_member.specs.declared.standing.Standing.{Standing}
@@ -24,11 +22,6 @@ side_pairs is_after me pairs = filter (is_on_side is_after me) (names_of pairs)
 -- the pairs from one index on, up to before another
 abbrev pub run : ℕ → ℕ → List (UniqueModel × Standing) → List (UniqueModel × Standing)
 run from to pairs = drop from (take to pairs)
-
--- how the node and the process at a pair are ordered; past the end, as before one
-abbrev pub order_at : UniqueModel → Option (UniqueModel × Standing) → Ordering
-order_at me None = Less
-order_at me (Some pair) = unique_cmp me pair.0
 
 -- how many are left to find after a pair, where the process that is found stands there too, if one is found
 abbrev pub Agrees : ℕ → ℕ → Option UniqueModel → Option UniqueModel → Type 0

@@ -3,12 +3,11 @@ ghost use Rattle.std.specs.List.{fold};
 ghost use Rattle.std.specs.FinMap as map;
 ghost use Rattle.ak_address.specs.Uniques.{with_one, in_order};
 ghost use Rattle.ak_detector.specs.Detector.{watch_ring};
-ghost use Rattle.ak_detector.specs.Sides.{Agrees, names_of, order_at, run, side_pairs};
+ghost use Rattle.ak_detector.specs.Sides.{Agrees, names_of, run, side_pairs};
 
 use ak_address::{Unique, Uniques};
 use ak_member::{Members, Standing};
 use std::alloc::{AllocError, Global};
-use std::cmp::Ordering;
 
 // A node watches this many members.
 const MOST_WATCHED: usize = 5;
@@ -20,8 +19,8 @@ pub fn watch_ring(alloc: Global, me: &Unique, members: &Members) -> Result<Uniqu
     ensures { IfOk result (λ ring. ring ≡ watch_ring me.now members.now) }
 {
     let mut ring = Uniques::empty(alloc);
-    let (before, after) = sides(me, members);
     let end = members.uniques();
+    let (before, after) = sides(me, members, end);
     let left = add_run(alloc, members, after, end, MOST_WATCHED, &mut ring)?;
     add_run(alloc, members, 0, before, left, &mut ring)?;
     Ok(ring)
@@ -31,8 +30,8 @@ pub fn watch_ring(alloc: Global, me: &Unique, members: &Members) -> Result<Uniqu
 pub(crate) fn is_ring(me: &Unique, members: &Members, watched: &Uniques) -> bool
     ensures { IsTrue result → watched.now ≡ watch_ring me.now members.now }
 {
-    let (before, after) = sides(me, members);
     let end = members.uniques();
+    let (before, after) = sides(me, members, end);
     let last = count_run(members, after, end, MOST_WATCHED);
     let first = count_run(members, 0, before, MOST_WATCHED - last);
     if watched.len() != first + last {
@@ -44,35 +43,15 @@ pub(crate) fn is_ring(me: &Unique, members: &Members, watched: &Uniques) -> bool
     is_run(members, after, end, watched, first + last, last)
 }
 
-// How many pairs stand before the node, and from which one on they stand after it: a search by halves.
-fn sides(me: &Unique, members: &Members) -> (usize, usize)
+// How many pairs out of so many stand before the node, and from which one on they stand after it.
+fn sides(me: &Unique, members: &Members, end: usize) -> (usize, usize)
+    requires { end ≡ map.len members.now }
     ensures before { side_pairs false me.now (map.entries members.now) ≡ names_of (take result.0 (map.entries members.now)) }
     ensures after { side_pairs true me.now (map.entries members.now) ≡ names_of (drop result.1 (map.entries members.now)) }
 {
-    let mut low = 0;
-    let mut high = members.uniques();
-    'halves: while low < high {
-        let middle = low + (high - low) / 2;
-        let order = order_at(me, members, middle);
-        if order.is_eq() {
-            return (middle, middle + 1);
-        }
-        if order.is_lt() {
-            high = middle;
-        } else {
-            low = middle + 1;
-        }
-    }
-    (low, low)
-}
-
-// How the node and the process at a pair are ordered.
-fn order_at(me: &Unique, members: &Members, pair: usize) -> Ordering
-    ensures { result ≡ order_at me.now (slice_get (map.entries members.now) pair) }
-{
-    match members.pair(pair) {
-        Some((who, _)) => me.compare(who),
-        None => Ordering::Less,
+    match members.place(me) {
+        Ok(place) => (place, place + 1),
+        Err(place) => (place, place),
     }
 }
 
