@@ -105,7 +105,7 @@ impl Entry {
         ensures { result ≡ is_home who.now number self.now.home }
     {
         match &self.home {
-            Some(home) => home.number == number && home.owner.compare(who).is_eq(),
+            Some(home) => home.number == number && home.owner.is(who),
             None => false,
         }
     }
@@ -115,7 +115,7 @@ impl Entry {
         ensures { result ≡ is_at who.now self.now }
     {
         match &self.home {
-            Some(home) => home.owner.compare(who).is_eq(),
+            Some(home) => home.owner.is(who),
             None => false,
         }
     }
@@ -287,7 +287,7 @@ impl Entry {
         ensures { result ≡ leaves_node who.now self.now }
     {
         match &self.home {
-            Some(home) => !self.moves() && home.owner.compare(who).is_eq(),
+            Some(home) => !self.moves() && home.owner.is(who),
             None => false,
         }
     }

@@ -23,7 +23,7 @@ fn push_lightened(
     ensures { OnOk result (loads.new.items ≡ loads.old.items ++ less_one from.now load.now ∷ []) }
 {
     let unique = load.unique.copy(alloc)?;
-    let shards = if load.unique.compare(from).is_eq() {
+    let shards = if load.unique.is(from) {
         load.shards.saturating_sub(1)
     } else {
         load.shards

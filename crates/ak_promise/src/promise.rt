@@ -184,7 +184,7 @@ fn answer_by(order: Ordering, released: bool, is_free: bool) -> Answer
 fn is_process(first: &Unique, second: &Unique) -> bool
     ensures { result ≡ is_eq (unique_cmp first.now second.now) }
 {
-    first.compare(second).is_eq()
+    first.is(second)
 }
 
 // The first ballot, where there is one, is the second.

@@ -67,7 +67,7 @@ impl Slot {
     {
         match &self.home {
             Some(home) => {
-                if self.held || home.compare(me).is_eq() {
+                if self.held || home.is(me) {
                     return None;
                 }
                 Some(home)

@@ -406,7 +406,7 @@ fn is_process(first: Option<&Unique>, second: &Unique) -> bool
     ensures { result ≡ is_some_process (option_copied first.entry) second.now }
 {
     match first {
-        Some(first) => first.compare(second).is_eq(),
+        Some(first) => first.is(second),
         None => false,
     }
 }
@@ -436,7 +436,7 @@ fn may_open(promise: &Promise, me: &Unique, settled: &Settled, margin: u32) -> b
 {
     match promise.last() {
         Some(last) => {
-            let is_own = last.unique.compare(me).is_eq();
+            let is_own = last.unique.is(me);
             let is_free = promise.released() || is_own || settled.finished(&last.unique, margin);
             is_free && last.term < BOUND
         }
