@@ -103,6 +103,13 @@ impl<V> Table<V> {
         pair_at(&self.entries, index)
     }
 
+    /// The processes and their values, in the order of processes.
+    pub fn pairs(&self) -> &[(Unique, V)]
+        ensures { result.now ≡ map.entries self.now }
+    {
+        &self.entries
+    }
+
     /// The index at which the process stands, from 0 on in the order of processes, or as an error the one at which it would
     /// stand. Takes no memory.
     pub fn place(&self, who: &Unique) -> Result<usize, usize>

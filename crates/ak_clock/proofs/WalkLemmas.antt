@@ -1,5 +1,5 @@
 -- The walk along two lists of counts answers whether the first covers the second.
-use Rattle.std.proofs.Common.{◌≡◌, ◌≢◌, ℕ, zero, suc, ◌+◌, ◌<◌, ◌≤◌, leb, Bool, true, false, cond, not, ◌&&◌, T, List, [], ◌∷◌, drop, Option, Some, None, is_some, is_none, drop_of_length-le, unwrap_or, option_map, slice_get, refl, sym, ap, ◌∙◌, subst, arith, true≢false, leb-true, le-leb, length, inl, inr}
+use Rattle.std.proofs.Common.{◌≡◌, ◌≢◌, ℕ, zero, suc, ◌+◌, ◌<◌, ◌≤◌, leb, Bool, true, false, cond, not, ◌&&◌, T, List, [], ◌∷◌, drop, Option, Some, None, is_some, is_none, drop_of_length-le, unwrap_or, option_map, slice_get, refl, sym, ap, ◌∙◌, subst, arith, true≢false, leb-true, le-leb, length}
 use Rattle.std.specs.declared.cmp.Ordering.{Ordering}
 use Rattle.std.specs.declared.cmp.Ordering.TheVariants.{Less, Equal, Greater}
 use Rattle.std.specs.List.{list_all}
@@ -9,7 +9,7 @@ use Rattle.std.specs.FinMap as map
 use Rattle.std.specs.FinMap.Entries.{by_order, below_all, find}
 use Rattle.ak_address.specs.Unique.{UniqueModel, unique_cmp}
 use Rattle.ak_address.proofs.OrderLemmas.{unique_total}
-use Rattle.ak_address.proofs.Pairs.{both, first, second, before_or, same_Some, below_less, below_tied, find_below}
+use Rattle.ak_address.proofs.Pairs.{both, first, second, same_Some, below_less, below_tied, find_below}
 use Rattle.ak_address.proofs.TableLaws.{get_at}
 use Rattle.ak_clock.specs.Version.{Counts, count, IsVersion, covers}
 use Rattle.ak_clock.specs.Walk.{reached}
@@ -149,20 +149,8 @@ is_less Equal a b e f g h = absurd (true≢false (sym g ∙ h))
 is_less Greater a b e f g h = absurd (true≢false (sym e ∙ f))
 
 -- ---- the same pairs
-pub one_more : (xs ys : List (UniqueModel × ℕ)) (n : ℕ) → ((k : ℕ) → k < n → slice_get xs k ≡ slice_get ys k) → slice_get xs n ≡ slice_get ys n → (k : ℕ) → k < n + 1 → slice_get xs k ≡ slice_get ys k
-one_more xs ys n before here k lt = elim (before_or k n (omega arith)) [
-  | inl less ↦ before k less
-  | inr same ↦ subst (λ i. slice_get xs i ≡ slice_get ys i) (sym same) here
-]
-
-same_pairs : (xs ys : List (UniqueModel × ℕ)) → length xs ≡ length ys → ((k : ℕ) → k < length xs → slice_get xs k ≡ slice_get ys k) → xs ≡ ys
+pub same_pairs : (xs ys : List (UniqueModel × ℕ)) → length xs ≡ length ys → ((k : ℕ) → k < length xs → slice_get xs k ≡ slice_get ys k) → xs ≡ ys
 same_pairs [] [] long each = refl
 same_pairs [] (y ∷ ys) long each = absurd (omega (arith, long))
 same_pairs (x ∷ xs) [] long each = absurd (omega (arith, long))
 same_pairs (x ∷ xs) (y ∷ ys) long each = λ i. same_Some x y (each 0 (omega arith)) i ∷ same_pairs xs ys (omega (arith, long)) (λ k lt. each (suc k) (omega (arith, lt))) i
-
-pub same_counts : (v w : Counts) → map.len v ≡ map.len w → ((k : ℕ) → k < map.len v → slice_get (map.entries v) k ≡ slice_get (map.entries w) k) → v ≡ w
-same_counts v w long each = map.same_entries_map v w (same_pairs _ _ as_long (λ k lt. each k (omega (arith, lt, map.len-entries v))))
-  where
-    as_long : length (map.entries v) ≡ length (map.entries w)
-    as_long = omega (arith, long, map.len-entries v, map.len-entries w)

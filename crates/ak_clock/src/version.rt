@@ -259,24 +259,26 @@ fn reaches(counts: &Table<u64>, others: &Table<u64>) -> bool
 fn is_same(counts: &Table<u64>, others: &Table<u64>) -> bool
     ensures { IsTrue result → counts.now ≡ others.now }
 {
-    let many = counts.len();
+    are_same(counts.pairs(), others.pairs())
+}
+
+fn are_same(pairs: &[(Unique, u64)], others: &[(Unique, u64)]) -> bool
+    ensures { IsTrue result → pairs.now ≡ others.now }
+{
+    let many = pairs.len();
     if others.len() != many {
         return false;
     }
     'pairs: for index in 0..many {
-        if !is_same_at(counts, others, index) {
+        if !is_same_pair(&pairs[index], &others[index]) {
             return false;
         }
     }
     true
 }
 
-// The same stands at an index of both.
-fn is_same_at(counts: &Table<u64>, others: &Table<u64>, index: usize) -> bool
-    ensures { IsTrue result → slice_get (map.entries counts.now) index ≡ slice_get (map.entries others.now) index }
+fn is_same_pair(pair: &(Unique, u64), other: &(Unique, u64)) -> bool
+    ensures { IsTrue result → pair.now ≡ other.now }
 {
-    match (counts.at(index), others.at(index)) {
-        (Some((who, n)), Some((other, m))) => *n == *m && who.is(other),
-        _ => false,
-    }
+    pair.1 == other.1 && pair.0.is(&other.0)
 }
