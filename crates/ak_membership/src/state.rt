@@ -1,5 +1,6 @@
 ghost use Rattle.std.specs.Prelude.{◌≡◌, ◌<◌, ◌^◌, nat_le, [], ◌∷◌, IfOk, OnOk, OnErr, MatchOption, IsTrue, true, false, None, option_copied, if◌then◌else◌};
 ghost use Rattle.std.specs.FinMap as map;
+ghost use Rattle.ak_address.specs.Uniques.{has};
 ghost use Rattle.ak_clock.specs.Version.{Covers};
 ghost use Rattle.ak_detector.specs.Detector.{watching};
 ghost use Rattle.ak_gossip.specs.Gossip.{MayUpdate, is_known};
@@ -348,7 +349,6 @@ impl MembershipState {
         if !self.is_known_in(incoming) {
             return Ok(unchanged(alloc));
         }
-        let known = incoming.seen().contains(&self.me);
         match self.receive(alloc, incoming) {
             Err(GossipFault::ForeignCount { own, theirs }) => {
                 return Err(MemberFault::ForeignCount { own, theirs });
@@ -357,7 +357,7 @@ impl MembershipState {
                 return Err(MemberFault::TooManyUniques { union });
             }
             Err(GossipFault::NoMemory) => return Err(MemberFault::NoMemory),
-            Ok(received) => return Ok(self.hears(alloc, received, known)),
+            Ok(received) => return Ok(self.hears(alloc, received, incoming)),
         }
     }
 
@@ -390,11 +390,11 @@ impl MembershipState {
     // What is answered to a gossip that was accepted. Its sender is answered with what the node knows then, but where both
     // know the same and the sender knows that the node does; a node that is Down or a tombstone then answers nobody (this
     // project's choice).
-    fn hears(&self, alloc: Global, received: Received, known: bool) -> Change
-        ensures { result ≡ (rules.hears known received self.now).1 }
+    fn hears(&self, alloc: Global, received: Received, incoming: &Gossip) -> Change
+        ensures { result ≡ (rules.hears (has incoming.now.seen self.now.me) received self.now).1 }
     {
         let mut change = unchanged(alloc);
-        if received == Received::Same && known {
+        if received == Received::Same && incoming.seen().contains(&self.me) {
             return change;
         }
         if self.is_gone() {

@@ -16,7 +16,6 @@ returns-in-Ok c =
       is_received c.args.incoming.now c.args.self.now (Ok (c.in-Ok.received, r.0)) c.if-not-is_known_in.ensures r.1,
       record {
         state_after = r.2;
-        change_told = c.hears.ensures ∙ ap (λ (m : MembershipState). (hears c.contains-known.result c.in-Ok.received m).1) r.2
-            ∙ ap (λ known. (hears known c.in-Ok.received after).1) (c.contains-known.ensures ∙ ap (λ s. has s c.args.self.now.me) c.seen.ensures);
+        change_told = c.hears.ensures ∙ ap (λ (m : MembershipState). (hears (has c.args.incoming.now.seen m.me) c.in-Ok.received m).1) r.2;
       },
     )
