@@ -115,7 +115,7 @@ impl<V> Table<V> {
     pub fn place(&self, who: &Unique) -> Result<usize, usize>
         ensures { result ≡ index unique_cmp who.now (map.entries self.now) }
     {
-        index_of(&self.entries, who)
+        place_in(&self.entries, who)
     }
 }
 
@@ -136,7 +136,7 @@ impl<V: Drop> Table<V> {
         ensures err { OnErr result (self.new ≡ self.old) }
         ensures present { IsSome (map.get self.old who) → IsOk result }
     {
-        match index_of(&self.entries, &who) {
+        match place_in(&self.entries, &who) {
             Ok(index) => {
                 self.entries[index] = (who, value);
                 Ok(())
@@ -214,15 +214,23 @@ impl<V: Merge + Drop> Table<V> {
     }
 }
 
-// Where the process stands, or as an error where it would go: at the end, where whoever adds processes in their order
-// is answered at once, or where a search by halves finds it.
-fn index_of<V>(entries: &[(Unique, V)], who: &Unique) -> Result<usize, usize>
+// Where the process stands, or as an error where it would go: at the end, where whoever adds processes in their order is
+// answered at once, or where a search finds it.
+fn place_in<V>(entries: &[(Unique, V)], who: &Unique) -> Result<usize, usize>
     requires { IsTrue (map.is_sorted unique_cmp entries.now) }
     ensures { result ≡ index unique_cmp who.now entries.now }
 {
     if is_past(entries, who) {
         return Err(entries.len());
     }
+    index_of(entries, who)
+}
+
+// The same by a search by halves alone, for whoever asks about processes that mostly stand there.
+fn index_of<V>(entries: &[(Unique, V)], who: &Unique) -> Result<usize, usize>
+    requires { IsTrue (map.is_sorted unique_cmp entries.now) }
+    ensures { result ≡ index unique_cmp who.now entries.now }
+{
     let mut low = 0;
     let mut high = entries.len();
     'halves: while low < high {
