@@ -10,6 +10,11 @@ pub fn print_number(number: u64, out: &mut Vec<u8>) -> Result<(), AllocError>
     ensures ok { OnOk result (out.new.items ≡ out.old.items ++ decimal number) }
     ensures err { OnErr result (out.new.items ≡ out.old.items) }
 {
+    if number < 10 {
+        // Most numbers have one digit.
+        out.push(b'0' + number as u8)?;
+        return Ok(());
+    }
     let mut buffer = Buffer::new();
     out.extend_from_slice(buffer.format(number).as_bytes())
 }
