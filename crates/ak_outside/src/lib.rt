@@ -32,39 +32,64 @@ mod tests {
     use super::*;
     use std::test::Fail;
 
-    // Each answer is a call's: the failing ones by their numbers, from 1.
-    #[test]
-    fn listed_calls_fail(rt: HostRuntime) -> Result<(), Fail> {
-        let alloc = rt.alloc();
-        let mut source = MemorySource::new(alloc, b"abcdef", 4, &[1, 3])?;
+    // Whether the reads over one buffer answer so in turn.
+    fn answers<S: Source>(source: &mut S, buffer: &mut [u8], wanted: &[Read]) -> bool {
+        'reads: for answer in wanted {
+            if source.read(buffer) != *answer {
+                return false;
+            }
+        }
+        true
+    }
+
+    fn fails_at_listed_reads(source: &mut MemorySource) -> bool {
         let mut buffer = [0; 5];
-        let answers = [
+        let wanted = [
             Read::Failed,
             Read::Got(4),
             Read::Failed,
             Read::Got(2),
             Read::Got(0),
         ];
-        for answer in &answers {
-            assert_eq!(rt; source.read(&mut buffer), *answer);
-        }
-        assert_eq!(rt; buffer, *b"efcd\0");
-        assert_eq!(rt; source.faults(), 2);
+        let answered = answers(source, &mut buffer, &wanted);
+        answered && buffer == *b"efcd\0" && source.faults() == 2
+    }
 
-        let mut sink = MemorySink::new(alloc, &[2, 4])?;
-        let writes = [(b"ab", true), (b"cd", false), (b"ef", true), (b"gh", false)];
-        for (piece, whole) in &writes {
-            assert_eq!(rt; write_all(&mut sink, *piece), *whole);
+    // Whether each piece is written whole, or not, in turn.
+    fn takes(sink: &mut MemorySink, pieces: &[(&[u8], bool)]) -> bool {
+        'writes: for (piece, whole) in pieces {
+            if write_all(sink, piece) != *whole {
+                return false;
+            }
         }
-        assert_eq!(rt; sink.bytes(), b"abef".as_slice());
-        assert_eq!(rt; sink.faults(), 2);
-        assert_eq!(rt; sink.starved(), 0);
+        true
+    }
 
-        let mut steady = SteadySource::new(alloc, b"xyz")?;
-        let mut pair = [0; 2];
-        for answer in &[Read::Got(2), Read::Got(1), Read::Got(0)] {
-            assert_eq!(rt; steady.read(&mut pair), *answer);
-        }
+    fn fails_at_listed_writes(sink: &mut MemorySink) -> bool {
+        let pieces: [(&[u8], bool); 4] = [
+            (b"ab", true),
+            (b"cd", false),
+            (b"ef", true),
+            (b"gh", false),
+        ];
+        let taken = takes(sink, &pieces) && sink.bytes() == b"abef".as_slice();
+        taken && sink.faults() == 2 && sink.starved() == 0
+    }
+
+    fn gives_all(source: &mut SteadySource) -> bool {
+        let wanted = [Read::Got(2), Read::Got(1), Read::Got(0)];
+        answers(source, &mut [0; 2], &wanted)
+    }
+
+    // Each answer is a call's: the failing ones by their numbers, from 1.
+    #[test]
+    fn listed_calls_fail(rt: HostRuntime) -> Result<(), Fail> {
+        let mut source = MemorySource::new(rt.alloc(), b"abcdef", 4, &[1, 3])?;
+        assert!(rt; fails_at_listed_reads(&mut source));
+        let mut sink = MemorySink::new(rt.alloc(), &[2, 4])?;
+        assert!(rt; fails_at_listed_writes(&mut sink));
+        let mut steady = SteadySource::new(rt.alloc(), b"xyz")?;
+        assert!(rt; gives_all(&mut steady));
         assert!(rt; write_all(&mut SteadySink::new(), b"gone"));
         Ok(())
     }

@@ -62,6 +62,18 @@ impl io::Write for ListedWriter<'_> {
     }
 }
 
+// Whether a read over two dots answers so, leaves these bytes in their place, and so many reads have failed then.
+fn reads_so(
+    source: &mut ReaderSource<ListedReader>,
+    answer: Read,
+    bytes: &[u8; 2],
+    faults: u64,
+) -> bool {
+    let mut buffer = *b"..";
+    let answered = source.read(&mut buffer) == answer;
+    answered && buffer == *bytes && source.faults() == faults
+}
+
 // Interruptions are passed over, other errors are faults, and one byte moves at a time, also after
 // the end.
 #[test]
@@ -92,44 +104,57 @@ fn a_reader_fails_in_turn(rt: HostRuntime) {
         (Read::Got(0), b"..", 3),
     ];
     for (answer, bytes, faults) in &reads {
-        let mut buffer = *b"..";
-        assert_eq!(rt; source.read(&mut buffer), *answer);
-        assert_eq!(rt; buffer.as_slice(), bytes.as_slice());
-        assert_eq!(rt; source.faults(), *faults);
+        assert!(rt; reads_so(&mut source, *answer, *bytes, *faults));
     }
 }
 
-// A write that takes nothing is a fault too.
-#[test]
-fn a_writer_fails_in_turn(rt: HostRuntime) -> Result<(), Fail> {
-    let turns = [
-        Interrupted,
-        Failed,
-        Moves(1),
-        Interrupted,
-        Moves(1),
-        Moves(1),
-        Failed,
-        Moves(0),
-        Moves(9),
-    ];
-    let mut writer = ListedWriter {
-        written: Vec::new(rt.alloc()),
-        turns: &turns,
-    };
-    let mut sink = WriterSink::over(&mut writer);
-    let writes = [
+// Whether a write takes the whole piece, or not, and so many writes have failed then.
+fn writes_so(
+    sink: &mut WriterSink<&mut ListedWriter>,
+    bytes: &[u8],
+    whole: bool,
+    faults: u64,
+) -> bool {
+    write_all(sink, bytes) == whole && sink.faults() == faults
+}
+
+// Whether two pieces of five are written whole, and then an empty one.
+fn fails_in_turn(writer: &mut ListedWriter) -> bool {
+    let mut sink = WriterSink::over(writer);
+    let writes: [(&[u8], bool, u64); 5] = [
         (b"ab", false, 1),
         (b"cd", true, 1),
         (b"ef", false, 2),
         (b"gh", false, 3),
         (b"ij", true, 3),
     ];
-    for (bytes, whole, faults) in &writes {
-        assert_eq!(rt; write_all(&mut sink, *bytes), *whole);
-        assert_eq!(rt; sink.faults(), *faults);
+    'writes: for (bytes, whole, faults) in &writes {
+        if !writes_so(&mut sink, bytes, *whole, *faults) {
+            return false;
+        }
     }
-    assert_eq!(rt; sink.write(b""), Wrote::Took(0));
-    assert_eq!(rt; writer.written.as_slice(), b"cdeij".as_slice());
-    Ok(())
+    sink.write(b"") == Wrote::Took(0)
+}
+
+const TURNS: [Turn; 9] = [
+    Interrupted,
+    Failed,
+    Moves(1),
+    Interrupted,
+    Moves(1),
+    Moves(1),
+    Failed,
+    Moves(0),
+    Moves(9),
+];
+
+// A write that takes nothing is a fault too.
+#[test]
+fn a_writer_fails_in_turn(rt: HostRuntime) {
+    let mut writer = ListedWriter {
+        written: Vec::new(rt.alloc()),
+        turns: &TURNS,
+    };
+    assert!(rt; fails_in_turn(&mut writer));
+    assert!(rt; writer.written.as_slice() == b"cdeij".as_slice());
 }
