@@ -225,45 +225,55 @@ mod tests {
         Ok(out)
     }
 
+    fn reads_unique_as(alloc: Global, text: &str, wanted: &str) -> Result<bool, Fail> {
+        Ok(unique_or_fault(alloc, text)?.as_slice() == wanted.as_bytes())
+    }
+
+    fn reads_address_as(alloc: Global, text: &str, wanted: &str) -> Result<bool, Fail> {
+        Ok(address_or_fault(alloc, text)?.as_slice() == wanted.as_bytes())
+    }
+
+    // A text, and what it reads as as a unique.
+    const UNIQUES: [(&str, &str); 13] = [
+        ("a:1#7", "a:1#7"),
+        (
+            "Host_1.a-b:065535#09223372036854775807",
+            "Host_1.a-b:65535#9223372036854775807",
+        ),
+        ("", "A1"),
+        (":1#1", "A1"),
+        ("a b:1#1", "A1"),
+        ("a", "A2"),
+        ("a:0#1", "A2"),
+        ("a:65536#1", "A2"),
+        ("a:1", "A3"),
+        ("a:1#0", "A3"),
+        ("a:1#9223372036854775808", "A3"),
+        ("a:1#000000000000000000001", "A3"),
+        ("a:1#99999999999999999999", "A3"),
+    ];
+
+    // A text, and what it reads as as an address.
+    const ADDRESSES: [(&str, &str); 4] = [
+        ("node-1.shop.local:2551", "node-1.shop.local:2551"),
+        ("a:1#7", "A2"),
+        ("a", "A2"),
+        ("a#7", "A1"),
+    ];
+
     #[test]
     fn uniques_and_addresses_are_read_and_printed(rt: HostRuntime) -> Result<(), Fail> {
-        let uniques = [
-            ("a:1#7", "a:1#7"),
-            (
-                "Host_1.a-b:065535#09223372036854775807",
-                "Host_1.a-b:65535#9223372036854775807",
-            ),
-            ("", "A1"),
-            (":1#1", "A1"),
-            ("a b:1#1", "A1"),
-            ("a", "A2"),
-            ("a:0#1", "A2"),
-            ("a:65536#1", "A2"),
-            ("a:1", "A3"),
-            ("a:1#0", "A3"),
-            ("a:1#9223372036854775808", "A3"),
-            ("a:1#000000000000000000001", "A3"),
-            ("a:1#99999999999999999999", "A3"),
-        ];
-        for (text, wanted) in uniques {
-            assert_eq!(rt;
-                unique_or_fault(rt.alloc(), text)?.as_slice(),
-                wanted.as_bytes()
-            );
+        for (text, wanted) in &UNIQUES {
+            assert!(rt; reads_unique_as(rt.alloc(), text, wanted)?, "{text}");
         }
-        let addresses = [
-            ("node-1.shop.local:2551", "node-1.shop.local:2551"),
-            ("a:1#7", "A2"),
-            ("a", "A2"),
-            ("a#7", "A1"),
-        ];
-        for (text, wanted) in addresses {
-            assert_eq!(rt;
-                address_or_fault(rt.alloc(), text)?.as_slice(),
-                wanted.as_bytes()
-            );
+        for (text, wanted) in &ADDRESSES {
+            assert!(rt; reads_address_as(rt.alloc(), text, wanted)?, "{text}");
         }
         Ok(())
+    }
+
+    fn shows_as(alloc: Global, fault: &AddressFault, code: &str) -> Result<bool, Fail> {
+        Ok(format!(in alloc; "{fault}")?.as_str() == code)
     }
 
     #[test]
@@ -275,8 +285,7 @@ mod tests {
             (AddressFault::NoMemory, "memory"),
         ];
         for (fault, code) in &faults {
-            let shown = format!(in rt.alloc(); "{fault}")?;
-            assert_eq!(rt; shown.as_str(), *code);
+            assert!(rt; shows_as(rt.alloc(), fault, code)?, "{code}");
         }
         Ok(())
     }

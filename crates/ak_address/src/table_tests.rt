@@ -66,41 +66,66 @@ fn uid(set: &Uniques, index: usize) -> u64 {
     }
 }
 
+// Whether the first three indices hold these uids and counts.
+fn holds(table: &Table<u64>, wanted: &[(u64, u64); 3]) -> bool {
+    [pair(table, 0), pair(table, 1), pair(table, 2)] == *wanted
+}
+
 #[test]
 fn tables_stand_in_order_and_merge(rt: HostRuntime) -> Result<(), Fail> {
     let table = table_of(rt.alloc(), &[(3, 30), (1, 10), (3, 31)])?;
-    assert_eq!(rt;
-        [pair(&table, 0), pair(&table, 1), pair(&table, 2)],
-        [(1, 10), (3, 31), (0, 0)]
-    );
+    assert!(rt; holds(&table, &[(1, 10), (3, 31), (0, 0)]));
     let both = merged(rt.alloc(), &[(3, 31), (1, 10)], &[(3, 29), (2, 20)])?;
-    assert_eq!(rt;
-        [pair(&both, 0), pair(&both, 1), pair(&both, 2)],
-        [(1, 10), (2, 20), (3, 31)]
-    );
+    assert!(rt; holds(&both, &[(1, 10), (2, 20), (3, 31)]));
     Ok(())
+}
+
+// Whether the first three indices hold these uids.
+fn lists(set: &Uniques, wanted: &[u64; 3]) -> bool {
+    [uid(set, 0), uid(set, 1), uid(set, 2)] == *wanted
+}
+
+// Whether the process is in the set no more once it is removed.
+fn removes(set: &mut Uniques, who: &Unique) -> bool {
+    set.remove(who);
+    !set.contains(who)
 }
 
 #[test]
 fn sets_stand_in_order(rt: HostRuntime) -> Result<(), Fail> {
-    let mut set = set_of(rt.alloc(), &[2, 1, 2])?;
-    assert_eq!(rt; [uid(&set, 0), uid(&set, 1), uid(&set, 2)], [1, 2, 0]);
     let first = process(rt.alloc(), 1)?;
-    set.remove(&first);
-    assert!(rt; !set.contains(&first));
+    let mut set = set_of(rt.alloc(), &[2, 1, 2])?;
+    assert!(rt; lists(&set, &[1, 2, 0]));
+    assert!(rt; removes(&mut set, &first));
     Ok(())
+}
+
+// The counters of these uids.
+fn counters_of(alloc: Global, pairs: &[(u32, u32)]) -> Result<Table<u32>, AllocError> {
+    let mut counters = Table::empty(alloc);
+    'pairs: for &(uid, count) in pairs {
+        if uid >= 1 {
+            counters.insert(process(alloc, uid)?, count)?;
+        }
+    }
+    Ok(counters)
+}
+
+fn counts(alloc: Global, counters: &Table<u32>, uid: u32) -> Result<Option<u32>, AllocError>
+    requires { 1 ≤ uid }
+{
+    Ok(counters.get(&process(alloc, uid)?).copied())
 }
 
 #[test]
 fn counters_are_raised_up_to_a_most(rt: HostRuntime) -> Result<(), Fail> {
-    let mut counters: Table<u32> = Table::empty(rt.alloc());
-    for (uid, count) in [(1, 0), (2, 4), (3, 5), (4, 9)] {
-        counters.insert(process(rt.alloc(), uid)?, count)?;
-    }
+    let mut counters = counters_of(rt.alloc(), &[(1, 0), (2, 4), (3, 5), (4, 9)])?;
     counters.raise_all(5);
     for (uid, wanted) in [(1, 1), (2, 5), (3, 5), (4, 5)] {
-        let who = process(rt.alloc(), uid)?;
-        assert_eq!(rt; counters.get(&who).copied(), Some(wanted));
+        assert!(rt;
+            counts(rt.alloc(), &counters, uid)? == Some(wanted),
+            "{uid}"
+        );
     }
     Ok(())
 }
