@@ -1,18 +1,7 @@
-ghost use Rattle.std.specs.Prelude.{◌≤◌};
-
 use crate::version::{BOUND, Relation, Version};
-use ak_address::{Address, Text, Unique};
+use ak_address::{Unique, parse_unique};
 use std::alloc::{AllocError, Global};
 use std::test::Fail;
-
-fn process(alloc: Global, uid: u32) -> Result<Unique, AllocError>
-    requires { 1 ≤ uid }
-{
-    let host = Text::from_bytes(alloc, b"a")?;
-    let address = Address { host, port: 1 };
-    let uid = u64::from(uid);
-    Ok(Unique { address, uid })
-}
 
 fn bump_by(
     alloc: Global,
@@ -28,27 +17,35 @@ fn bump_by(
     Ok(())
 }
 
+// So many entries more of the process of this text are seen.
+fn see(alloc: Global, version: &mut Version, who: &[u8], times: u64) -> Result<(), Fail> {
+    let who = parse_unique(alloc, who)?;
+    Ok(bump_by(alloc, version, &who, times)?)
+}
+
 // The version that has seen this many entries of two processes.
-fn seen(alloc: Global, entries: (u64, u64)) -> Result<Version, AllocError> {
+fn seen(alloc: Global, entries: (u64, u64)) -> Result<Version, Fail> {
     let mut version = Version::empty(alloc);
-    let first = process(alloc, 1)?;
-    let second = process(alloc, 2)?;
-    bump_by(alloc, &mut version, &second, entries.1)?;
-    bump_by(alloc, &mut version, &first, entries.0)?;
+    see(alloc, &mut version, b"a:1#2", entries.1)?;
+    see(alloc, &mut version, b"a:1#1", entries.0)?;
     Ok(version)
 }
 
-fn relation(alloc: Global, left: (u64, u64), right: (u64, u64)) -> Result<Relation, AllocError> {
+fn relation(alloc: Global, left: (u64, u64), right: (u64, u64)) -> Result<Relation, Fail> {
     let left = seen(alloc, left)?;
     let right = seen(alloc, right)?;
     Ok(left.compare(&right))
 }
 
-fn merged(alloc: Global, left: (u64, u64), right: (u64, u64)) -> Result<Version, AllocError> {
-    let left = seen(alloc, left)?;
-    let right = seen(alloc, right)?;
-    let mut both = left.copy(alloc)?;
-    both.merge(alloc, &right)?;
+fn merge_in(alloc: Global, version: &mut Version, entries: (u64, u64)) -> Result<(), Fail> {
+    let other = seen(alloc, entries)?;
+    Ok(version.merge(alloc, &other)?)
+}
+
+// A copy of the first, merged with the second.
+fn merged(alloc: Global, left: (u64, u64), right: (u64, u64)) -> Result<Version, Fail> {
+    let mut both = seen(alloc, left)?.copy(alloc)?;
+    merge_in(alloc, &mut both, right)?;
     Ok(both)
 }
 
@@ -57,6 +54,11 @@ fn pair(version: &Version, index: usize) -> (u64, u64) {
         Some((who, count)) => (who.uid, count),
         None => (0, 0),
     }
+}
+
+// Whether so many entries of the two are counted.
+fn counts(version: &Version, entries: (u64, u64)) -> bool {
+    pair(version, 0) == (1, entries.0) && pair(version, 1) == (2, entries.1)
 }
 
 #[test]
@@ -71,7 +73,10 @@ fn versions_are_compared(rt: HostRuntime) -> Result<(), Fail> {
         ((2, 1), (2, 1), Relation::Same),
     ];
     for (left, right, wanted) in cases {
-        assert_eq!(rt; relation(rt.alloc(), left, right)?, wanted);
+        assert!(rt;
+            relation(rt.alloc(), left, right)? == wanted,
+            "{left:?} {right:?}"
+        );
     }
     Ok(())
 }
@@ -80,25 +85,28 @@ fn versions_are_compared(rt: HostRuntime) -> Result<(), Fail> {
 fn versions_are_merged(rt: HostRuntime) -> Result<(), Fail> {
     let cases = [((2, 1), (1, 2), (2, 2)), ((0, 3), (1, 0), (1, 3))];
     for (left, right, wanted) in cases {
-        let both = merged(rt.alloc(), left, right)?;
-        assert_eq!(rt; pair(&both, 0), (1, wanted.0));
-        assert_eq!(rt; pair(&both, 1), (2, wanted.1));
+        assert!(rt; counts(&merged(rt.alloc(), left, right)?, wanted));
     }
     Ok(())
+}
+
+// The version of two and one entries, where the count of the first is reached.
+fn reached(alloc: Global, least: u64) -> Result<Version, Fail> {
+    let mut version = seen(alloc, (2, 1))?;
+    reach(alloc, &mut version, least)?;
+    Ok(version)
+}
+
+fn reach(alloc: Global, version: &mut Version, least: u64) -> Result<(), Fail> {
+    let who = parse_unique(alloc, b"a:1#1")?;
+    Ok(version.reach(alloc, &who, least.min(BOUND))?)
 }
 
 // A count is raised where it was less, and else stays.
 #[test]
 fn counts_are_reached(rt: HostRuntime) -> Result<(), Fail> {
-    let alloc = rt.alloc();
-    let who = process(alloc, 1)?;
     for (least, wanted) in [(0, 2), (2, 2), (5, 5)] {
-        let mut version = seen(alloc, (2, 1))?;
-        version.reach(alloc, &who, least)?;
-        assert_eq!(rt;
-            [pair(&version, 0), pair(&version, 1)],
-            [(1, wanted), (2, 1)]
-        );
+        assert!(rt; counts(&reached(rt.alloc(), least)?, (wanted, 1)));
     }
     Ok(())
 }
