@@ -6,20 +6,34 @@ use std::test::Fail;
 // The row of an observer: its number, and its one subject.
 pub(crate) type Line = (&'static str, u64, &'static str);
 
+fn insert(alloc: Global, set: &mut Uniques, text: &str) -> Result<(), Fail> {
+    let who = parse_unique(alloc, text.as_bytes())?;
+    Ok(set.insert(alloc, &who)?)
+}
+
 fn set_of(alloc: Global, texts: &[&str]) -> Result<Uniques, Fail> {
     let mut set = Uniques::empty(alloc);
-    for text in texts {
-        set.insert(alloc, &parse_unique(alloc, text.as_bytes())?)?;
+    'texts: for text in texts {
+        insert(alloc, &mut set, text)?;
     }
     Ok(set)
+}
+
+fn set_row(alloc: Global, rows: &mut Rows, observer: &Unique, line: &Line) -> Result<(), Fail> {
+    let subjects = set_of(alloc, &[line.2])?;
+    Ok(rows.set_row(alloc, observer, line.1, &subjects)?)
+}
+
+fn set_line(alloc: Global, rows: &mut Rows, line: &Line) -> Result<(), Fail> {
+    let observer = parse_unique(alloc, line.0.as_bytes())?;
+    set_row(alloc, rows, &observer, line)
 }
 
 // The rows of these lines, set from the left.
 pub(crate) fn rows_of(alloc: Global, lines: &[Line]) -> Result<Rows, Fail> {
     let mut rows = Rows::empty(alloc);
-    for &(observer, number, subject) in lines {
-        let observer = parse_unique(alloc, observer.as_bytes())?;
-        rows.set_row(alloc, &observer, number, &set_of(alloc, &[subject])?)?;
+    'lines: for line in lines {
+        set_line(alloc, &mut rows, line)?;
     }
     Ok(rows)
 }
@@ -44,25 +58,15 @@ fn row(rows: &Rows, index: usize) -> (u8, u64, u8) {
     }
 }
 
-fn merged(alloc: Global, left: &[Line], right: &[Line]) -> Result<Rows, Fail> {
-    let mut both = rows_of(alloc, left)?.copy(alloc)?;
-    both.merge(alloc, &rows_of(alloc, right)?)?;
-    Ok(both)
+// Whether the first two indices have these rows.
+fn hold(rows: &Rows, first: (u8, u64, u8), second: (u8, u64, u8)) -> bool {
+    row(rows, 0) == first && row(rows, 1) == second
 }
 
-// Whether one of the observers has the subject in its row: a has c in it, and b has d.
-fn reported(alloc: Global, observers: &[&str], subject: &str) -> Result<bool, Fail> {
-    let rows = rows_of(alloc, &[("a:1#1", 1, "c:1#1"), ("b:1#1", 1, "d:1#1")])?;
-    let observers = set_of(alloc, observers)?;
-    let subject = parse_unique(alloc, subject.as_bytes())?;
-    Ok(rows.reported(&observers, &subject))
-}
-
-fn unreachable(alloc: Global, observers: &[&str], subjects: &[&str]) -> Result<Uniques, Fail> {
-    let rows = rows_of(alloc, &[("a:1#1", 1, "c:1#1"), ("b:1#1", 1, "d:1#1")])?;
-    let observers = set_of(alloc, observers)?;
-    let subjects = set_of(alloc, subjects)?;
-    Ok(rows.unreachable(alloc, &observers, &subjects)?)
+// Whether of this row and a first one with number 2 the wanted one stays.
+fn keep(alloc: Global, number: u64, wanted: (u8, u64, u8)) -> Result<bool, Fail> {
+    let lines = [("a:1#1", 2, "c:1#1"), ("a:1#1", number, "d:1#1")];
+    Ok(hold(&rows_of(alloc, &lines)?, wanted, (0, 0, 0)))
 }
 
 #[test]
@@ -72,39 +76,84 @@ fn the_greater_number_stays(rt: HostRuntime) -> Result<(), Fail> {
         (2, (b'a', 2, b'c')),
         (5, (b'a', 5, b'd')),
     ] {
-        let rows = rows_of(
-            rt.alloc(),
-            &[("a:1#1", 2, "c:1#1"), ("a:1#1", number, "d:1#1")],
-        )?;
-        assert_eq!(rt; [row(&rows, 0), row(&rows, 1)], [wanted, (0, 0, 0)]);
+        assert!(rt; keep(rt.alloc(), number, wanted)?, "{number}");
     }
     Ok(())
+}
+
+fn copy_of(alloc: Global, lines: &[Line]) -> Result<Rows, Fail> {
+    let rows = rows_of(alloc, lines)?;
+    Ok(rows.copy(alloc)?)
+}
+
+fn merge_in(alloc: Global, both: &mut Rows, lines: &[Line]) -> Result<(), Fail> {
+    let other = rows_of(alloc, lines)?;
+    Ok(both.merge(alloc, &other)?)
+}
+
+// Whether the rows of the two merge to those with the greater number.
+fn merge(alloc: Global, left: &[Line], right: &[Line]) -> Result<bool, Fail> {
+    let mut both = copy_of(alloc, left)?;
+    merge_in(alloc, &mut both, right)?;
+    Ok(hold(&both, (b'a', 3, b'd'), (b'b', 4, b'e')))
 }
 
 #[test]
 fn rows_are_merged(rt: HostRuntime) -> Result<(), Fail> {
     let left = [("a:1#1", 2, "c:1#1"), ("b:1#1", 4, "e:1#1")];
     let right = [("a:1#1", 3, "d:1#1")];
-    for both in [
-        merged(rt.alloc(), &left, &right)?,
-        merged(rt.alloc(), &right, &left)?,
-    ] {
-        assert_eq!(rt;
-            [row(&both, 0), row(&both, 1)],
-            [(b'a', 3, b'd'), (b'b', 4, b'e')]
-        );
-    }
+    assert!(rt; merge(rt.alloc(), &left, &right)?);
+    assert!(rt; merge(rt.alloc(), &right, &left)?);
     Ok(())
 }
 
+// Whether one of the observers has the subject in its row.
+fn reported(alloc: Global, rows: &Rows, observers: &[&str], subject: &str) -> Result<bool, Fail> {
+    let observers = set_of(alloc, observers)?;
+    let subject = parse_unique(alloc, subject.as_bytes())?;
+    Ok(rows.reported(&observers, &subject))
+}
+
+// Observers, a subject, and whether one of them has it in its row.
+const REPORTED: [(&[&str], &str, bool); 4] = [
+    (&["a:1#1", "b:1#1", "e:1#1"], "c:1#1", true),
+    (&["a:1#1", "b:1#1", "e:1#1"], "d:1#1", true),
+    (&["a:1#1", "b:1#1", "e:1#1"], "f:1#1", false),
+    (&["a:1#1", "e:1#1"], "d:1#1", false),
+];
+
+fn are_reported(alloc: Global, rows: &Rows) -> Result<bool, Fail> {
+    'cases: for (observers, subject, wanted) in &REPORTED {
+        if reported(alloc, rows, observers, subject)? != *wanted {
+            return Ok(false);
+        }
+    }
+    Ok(true)
+}
+
+// Whether of these subjects the observers find c unreachable, and nobody else.
+fn find_c(
+    alloc: Global,
+    rows: &Rows,
+    observers: &Uniques,
+    subjects: &Uniques,
+) -> Result<bool, Fail> {
+    let them = rows.unreachable(alloc, observers, subjects)?;
+    Ok(letter(them.at(0)) == b'c' && letter(them.at(1)) == 0)
+}
+
+// The same of a alone and of three subjects.
+fn finds_c(alloc: Global, rows: &Rows) -> Result<bool, Fail> {
+    let observers = set_of(alloc, &["a:1#1"])?;
+    let subjects = set_of(alloc, &["c:1#1", "d:1#1", "e:1#1"])?;
+    find_c(alloc, rows, &observers, &subjects)
+}
+
+// The observer a has c in its row, and b has d.
 #[test]
 fn one_observer_is_enough(rt: HostRuntime) -> Result<(), Fail> {
-    let observers = ["a:1#1", "b:1#1", "e:1#1"];
-    for (subject, wanted) in [("c:1#1", true), ("d:1#1", true), ("f:1#1", false)] {
-        assert_eq!(rt; reported(rt.alloc(), &observers, subject)?, wanted);
-    }
-    assert!(rt; !reported(rt.alloc(), &["a:1#1", "e:1#1"], "d:1#1")?);
-    let them = unreachable(rt.alloc(), &["a:1#1"], &["c:1#1", "d:1#1", "e:1#1"])?;
-    assert_eq!(rt; [letter(them.at(0)), letter(them.at(1))], [b'c', 0]);
+    let rows = rows_of(rt.alloc(), &[("a:1#1", 1, "c:1#1"), ("b:1#1", 1, "d:1#1")])?;
+    assert!(rt; are_reported(rt.alloc(), &rows)?);
+    assert!(rt; finds_c(rt.alloc(), &rows)?);
     Ok(())
 }
