@@ -1,8 +1,9 @@
 use super::*;
-use ak_address::{Address, Text, Unique};
-use ak_clock::BOUND;
-use ak_gossip::parts_valid;
+use ak_address::{Text, Unique, parse_unique};
+use ak_clock::{BOUND, Version};
+use ak_gossip::{Parts, parts_valid};
 use ak_promise::Ballot;
+use ak_shard_id::Report;
 use std::alloc::{AllocError, Global};
 use std::test::Fail;
 
@@ -11,13 +12,71 @@ const HEARTBEAT: [u8; 29] = [
     65, 75, 67, 1, 4, 1, 97, 0, 1, 0, 0, 0, 0, 0, 0, 0, 1, 1, 98, 0, 1, 0, 0, 0, 0, 0, 0, 0, 1,
 ];
 
-fn process(alloc: Global, uid: u64) -> Result<Unique, AllocError> {
-    let host = Text::from_bytes(alloc, b"a")?;
-    let address = Address { host, port: 1 };
-    Ok(Unique {
-        address,
-        uid: uid.max(1).min(9),
-    })
+// Two processes with their counts: 2^62 is the most, and one more is not.
+const VERSION: [u8; 41] = [
+    2, 1, 97, 0, 1, 0, 0, 0, 0, 0, 0, 0, 1, 64, 0, 0, 0, 0, 0, 0, 0, 1, 97, 0, 1, 0, 0, 0, 0, 0, 0,
+    0, 2, 0, 0, 0, 0, 0, 0, 0, 1,
+];
+
+// A gossip of two parts: a:1#1 is Up, and its row names the other one, a:1#2, which is Joining.
+const PARTS: [u8; 79] = [
+    2, 1, 97, 0, 1, 0, 0, 0, 0, 0, 0, 0, 1, 0, 0, 0, 0, 0, 0, 0, 3, 2, 0, 0, 0, 0, 0, 0, 0, 1, 1,
+    0, 0, 0, 0, 0, 0, 0, 3, 1, 1, 1, 97, 0, 1, 0, 0, 0, 0, 0, 0, 0, 2, 0, 0, 0, 0, 0, 0, 0, 0, 1,
+    0, 0, 0, 0, 0, 0, 0, 0, 0, 0, 0, 0, 0, 0, 0, 0, 0,
+];
+
+// Two reports, of the shards 3 and 999.
+const REPORTS: [u8; 24] = [
+    0, 2, 0, 3, 0, 0, 0, 0, 0, 0, 0, 5, 1, 3, 231, 0, 0, 0, 0, 0, 0, 0, 1, 0,
+];
+
+// What is read.
+#[derive(Clone, Copy)]
+enum What {
+    Envelope,
+    ForAnybody,
+    Version,
+    Reports,
+    Parts,
+    Entity,
+}
+
+// Reads kind, sender and receiver.
+fn read_envelope(alloc: Global, bytes: &[u8], anybody: bool) -> Result<(), WireFault> {
+    let mut fields = Fields::new(bytes);
+    let _kind = fields.header()?;
+    let _from = fields.unique(alloc)?;
+    let _to = fields.receiver(alloc, anybody)?;
+    Ok(())
+}
+
+// The number of the fault, 0 where there is none, and 9 where memory ran out.
+fn number_of<T>(read: &Result<T, WireFault>) -> u8 {
+    match read {
+        Ok(_) => 0,
+        Err(fault) => fault.number().unwrap_or(9),
+    }
+}
+
+fn outcome(alloc: Global, what: What, bytes: &[u8]) -> u8 {
+    match what {
+        What::Envelope => number_of(&read_envelope(alloc, bytes, false)),
+        What::ForAnybody => number_of(&read_envelope(alloc, bytes, true)),
+        What::Version => number_of(&Fields::new(bytes).version(alloc)),
+        What::Reports => number_of(&Fields::new(bytes).reports(alloc)),
+        What::Parts => number_of(&Fields::new(bytes).parts(alloc)),
+        What::Entity => number_of(&Fields::new(bytes).entity(alloc)),
+    }
+}
+
+// Whether each beginning is short.
+fn has_short_beginnings(alloc: Global, what: What, bytes: &[u8]) -> bool {
+    'ends: for end in 0..bytes.len() {
+        if outcome(alloc, what, &bytes[..end]) != 1 {
+            return false;
+        }
+    }
+    true
 }
 
 // The bytes with one of them changed.
@@ -29,29 +88,31 @@ fn changed(alloc: Global, bytes: &[u8], place: usize, byte: u8) -> Result<Vec<u8
     Ok(copy)
 }
 
-// Reads kind, sender and receiver.
-fn read_envelope(alloc: Global, bytes: &[u8], anybody: bool) -> Result<usize, WireFault> {
-    let mut fields = Fields::new(bytes);
-    let _kind = fields.header()?;
-    let _from = fields.unique(alloc)?;
-    let _to = fields.receiver(alloc, anybody)?;
-    Ok(fields.len())
+// What a change comes to: a place, the byte that stands there then, and the number of the fault.
+type Change = (usize, u8, u8);
+
+fn comes_to(alloc: Global, what: What, bytes: &[u8], change: &Change) -> Result<bool, AllocError> {
+    let other = changed(alloc, bytes, change.0, change.1)?;
+    Ok(outcome(alloc, what, &other) == change.2)
 }
 
-fn fault_of(alloc: Global, bytes: &[u8], anybody: bool) -> Option<u8> {
-    match read_envelope(alloc, bytes, anybody) {
-        Ok(_) => None,
-        Err(fault) => fault.number(),
+fn come_to(
+    alloc: Global,
+    what: What,
+    bytes: &[u8],
+    changes: &[Change],
+) -> Result<bool, AllocError> {
+    'changes: for change in changes {
+        if !comes_to(alloc, what, bytes, change)? {
+            return Ok(false);
+        }
     }
+    Ok(true)
 }
 
 #[test]
 fn a_heartbeat_is_read_whole(rt: HostRuntime) -> Result<(), Fail> {
-    assert_eq!(rt; fault_of(rt.alloc(), &HEARTBEAT, false), None);
-    for end in 0..HEARTBEAT.len() {
-        assert_eq!(rt; fault_of(rt.alloc(), &HEARTBEAT[..end], false), Some(1));
-    }
-    for (place, byte, fault) in [
+    let changes = [
         (0, 66, 2),
         (2, 65, 2),
         (3, 2, 3),
@@ -65,210 +126,235 @@ fn a_heartbeat_is_read_whole(rt: HostRuntime) -> Result<(), Fail> {
         (16, 0, 7),
         (17, 0, 5),
         (28, 0, 7),
-    ] {
-        let bytes = changed(rt.alloc(), &HEARTBEAT, place, byte)?;
-        assert_eq!(rt; fault_of(rt.alloc(), &bytes, false), Some(fault));
-    }
+    ];
+    assert!(rt; outcome(rt.alloc(), What::Envelope, &HEARTBEAT) == 0);
+    assert!(rt; has_short_beginnings(rt.alloc(), What::Envelope, &HEARTBEAT));
+    assert!(rt; come_to(rt.alloc(), What::Envelope, &HEARTBEAT, &changes)?);
     Ok(())
 }
 
 #[test]
 fn a_message_for_anybody_has_no_uid(rt: HostRuntime) -> Result<(), Fail> {
-    assert_eq!(rt; fault_of(rt.alloc(), &HEARTBEAT, true), Some(7));
-    let bytes = changed(rt.alloc(), &HEARTBEAT, 28, 0)?;
-    assert_eq!(rt; fault_of(rt.alloc(), &bytes, true), None);
+    assert!(rt; outcome(rt.alloc(), What::ForAnybody, &HEARTBEAT) == 7);
+    assert!(rt; comes_to(rt.alloc(), What::ForAnybody, &HEARTBEAT, &(28, 0, 0))?);
     Ok(())
 }
 
 #[test]
-fn a_header_is_checked_alone(rt: HostRuntime) -> Result<(), Fail> {
-    assert_eq!(rt; check_header(&HEARTBEAT), None);
-    for (bytes, fault) in [
-        (b"AK".as_slice(), 1),
-        (b"XX".as_slice(), 1),
-        (b"AKX".as_slice(), 2),
-        (b"AKC".as_slice(), 1),
-        (b"AKC\x02".as_slice(), 3),
-        (b"AKC\x01".as_slice(), 1),
-        (b"AKC\x01\x1a".as_slice(), 4),
-    ] {
-        assert_eq!(rt; check_header(bytes), Some(fault));
+fn a_header_is_checked_alone(rt: HostRuntime) {
+    assert!(rt; check_header(&HEARTBEAT).is_none());
+    let headers: [(&[u8], u8); 7] = [
+        (b"AK", 1),
+        (b"XX", 1),
+        (b"AKX", 2),
+        (b"AKC", 1),
+        (b"AKC\x02", 3),
+        (b"AKC\x01", 1),
+        (b"AKC\x01\x1a", 4),
+    ];
+    for (bytes, fault) in &headers {
+        assert!(rt; check_header(bytes) == Some(*fault), "{fault}");
     }
-    Ok(())
+}
+
+fn process(alloc: Global) -> Result<Unique, Fail> {
+    Ok(parse_unique(alloc, b"a:1#1")?)
+}
+
+fn push_head(unique: &Unique, out: &mut Vec<u8>) -> Result<(), AllocError> {
+    write_header(4, out)?;
+    write_unique(unique, out)
+}
+
+fn head(alloc: Global, unique: &Unique) -> Result<Vec<u8>, AllocError> {
+    let mut out = Vec::new(alloc);
+    push_head(unique, &mut out)?;
+    Ok(out)
+}
+
+fn begins_a_heartbeat(alloc: Global, unique: &Unique) -> Result<bool, AllocError> {
+    let written: &[u8] = b"AKC\x01\x04\x01a\0\x01\0\0\0\0\0\0\0\x01";
+    Ok(head(alloc, unique)?.as_slice() == written && process_len(&unique.address) == 12)
 }
 
 #[test]
 fn a_header_is_written(rt: HostRuntime) -> Result<(), Fail> {
-    let alloc = rt.alloc();
-    let mut out = Vec::new(alloc);
-    write_header(4, &mut out)?;
-    let unique = process(alloc, 1)?;
-    write_unique(&unique, &mut out)?;
-    assert_eq!(rt;
-        out.as_slice(),
-        b"AKC\x01\x04\x01a\0\x01\0\0\0\0\0\0\0\x01".as_slice()
-    );
-    assert_eq!(rt; process_len(&unique.address), 12);
+    let unique = process(rt.alloc())?;
+    assert!(rt; begins_a_heartbeat(rt.alloc(), &unique)?);
     Ok(())
+}
+
+fn ballot(alloc: Global) -> Result<Ballot, Fail> {
+    let unique = process(alloc)?;
+    Ok(Ballot {
+        term: BOUND,
+        unique,
+    })
+}
+
+// Whether the ballot that is read has the bound as its term.
+fn reads_ballot(alloc: Global, bytes: &[u8]) -> bool {
+    match Fields::new(bytes).ballot(alloc) {
+        Ok(read) => read.term == BOUND,
+        Err(_) => false,
+    }
+}
+
+fn ballot_comes_back(alloc: Global, ballot: &Ballot) -> Result<bool, AllocError> {
+    let mut out = Vec::new(alloc);
+    write_ballot(ballot, &mut out)?;
+    Ok(ballot_len(ballot) == out.len() && reads_ballot(alloc, &out))
 }
 
 #[test]
 fn a_ballot_is_written_and_read(rt: HostRuntime) -> Result<(), Fail> {
-    let alloc = rt.alloc();
-    let unique = process(alloc, 1)?;
-    let ballot = Ballot {
-        term: BOUND,
-        unique,
-    };
-    let mut out = Vec::new(alloc);
-    write_ballot(&ballot, &mut out)?;
-    assert_eq!(rt; ballot_len(&ballot), out.len());
-    let read = Fields::new(&out).ballot(alloc).ok().ok_or("it is read")?;
-    assert_eq!(rt; read.term, BOUND);
+    let ballot = ballot(rt.alloc())?;
+    assert!(rt; ballot_comes_back(rt.alloc(), &ballot)?);
     Ok(())
+}
+
+fn push_numbers(out: &mut Vec<u8>) -> Result<(), AllocError> {
+    write_shard(999, out)?;
+    write_number(7, out)?;
+    write_flag(true, out)
+}
+
+fn reads_numbers(bytes: &[u8]) -> bool {
+    let mut fields = Fields::new(bytes);
+    let shard = fields.shard().ok() == Some(999);
+    let number = fields.number(1, BOUND).ok() == Some(7);
+    let flag = fields.flag().ok() == Some(true);
+    shard && number && flag && fields.len() == 0
 }
 
 #[test]
 fn numbers_are_written_and_read(rt: HostRuntime) -> Result<(), Fail> {
     let mut out = Vec::new(rt.alloc());
-    write_shard(999, &mut out)?;
-    write_number(7, &mut out)?;
-    write_flag(true, &mut out)?;
-    let mut fields = Fields::new(&out);
-    assert_eq!(rt; fields.shard().ok(), Some(999));
-    assert_eq!(rt; fields.number(1, BOUND).ok(), Some(7));
-    assert_eq!(rt; fields.flag().ok(), Some(true));
-    assert_eq!(rt; fields.len(), 0);
+    push_numbers(&mut out)?;
+    assert!(rt; reads_numbers(&out));
     Ok(())
 }
 
-// Two processes with their counts: 2^62 is the most, and one more is not.
-const VERSION: [u8; 41] = [
-    2, 1, 97, 0, 1, 0, 0, 0, 0, 0, 0, 0, 1, 64, 0, 0, 0, 0, 0, 0, 0, 1, 97, 0, 1, 0, 0, 0, 0, 0, 0,
-    0, 2, 0, 0, 0, 0, 0, 0, 0, 1,
-];
-
-fn version_fault(alloc: Global, bytes: &[u8]) -> Option<u8> {
-    match Fields::new(bytes).version(alloc) {
-        Ok(_) => None,
-        Err(fault) => fault.number(),
+fn version(alloc: Global) -> Result<Version, Fail> {
+    match Fields::new(&VERSION).version(alloc) {
+        Ok(version) => Ok(version),
+        Err(_) => Err("it is read")?,
     }
+}
+
+// Whether it is written as these bytes.
+fn version_comes_back(alloc: Global, version: &Version) -> Result<bool, AllocError> {
+    if version.len() > 128 {
+        return Ok(false);
+    }
+    let mut out = Vec::new(alloc);
+    write_version(version, &mut out)?;
+    let written = out.as_slice() == VERSION.as_slice();
+    Ok(written && version_len(version) == VERSION.len() && is_short(version))
 }
 
 #[test]
 fn a_version_is_read_and_written(rt: HostRuntime) -> Result<(), Fail> {
-    let alloc = rt.alloc();
-    let version = Fields::new(&VERSION)
-        .version(alloc)
-        .ok()
-        .ok_or("it is read")?;
-    let mut out = Vec::new(alloc);
-    if version.len() <= 128 {
-        write_version(&version, &mut out)?;
-        assert_eq!(rt; version_len(&version), VERSION.len());
-    }
-    assert!(rt; is_short(&version));
-    assert_eq!(rt; out.as_slice(), VERSION.as_slice());
-    for end in 0..VERSION.len() {
-        assert_eq!(rt; version_fault(alloc, &VERSION[..end]), Some(1));
-    }
-    for (place, byte, fault) in [(0, 129, 5), (20, 1, 7), (40, 0, 7), (32, 1, 6), (32, 0, 7)] {
-        let bytes = changed(rt.alloc(), &VERSION, place, byte)?;
-        assert_eq!(rt; version_fault(alloc, &bytes), Some(fault));
-    }
+    let version = version(rt.alloc())?;
+    assert!(rt; version_comes_back(rt.alloc(), &version)?);
     Ok(())
+}
+
+#[test]
+fn a_version_has_a_first_fault(rt: HostRuntime) -> Result<(), Fail> {
+    let changes = [(0, 129, 5), (20, 1, 7), (40, 0, 7), (32, 1, 6), (32, 0, 7)];
+    assert!(rt; has_short_beginnings(rt.alloc(), What::Version, &VERSION));
+    assert!(rt; come_to(rt.alloc(), What::Version, &VERSION, &changes)?);
+    Ok(())
+}
+
+fn reports(alloc: Global) -> Result<Vec<Report>, Fail> {
+    match Fields::new(&REPORTS).reports(alloc) {
+        Ok(reports) => Ok(reports),
+        Err(_) => Err("they are read")?,
+    }
+}
+
+// Whether they are two, and are written as these bytes.
+fn reports_come_back(alloc: Global, reports: &[Report]) -> Result<bool, AllocError> {
+    if reports.len() != 2 || !are_reports(reports) {
+        return Ok(false);
+    }
+    let mut out = Vec::new(alloc);
+    write_reports(reports, &mut out)?;
+    Ok(out.as_slice() == REPORTS.as_slice() && reports_len(reports) == REPORTS.len())
 }
 
 #[test]
 fn reports_are_read_and_written(rt: HostRuntime) -> Result<(), Fail> {
-    let alloc = rt.alloc();
-    let bytes: [u8; 24] = [
-        0, 2, 0, 3, 0, 0, 0, 0, 0, 0, 0, 5, 1, 3, 231, 0, 0, 0, 0, 0, 0, 0, 1, 0,
-    ];
-    let reports = Fields::new(&bytes)
-        .reports(alloc)
-        .ok()
-        .ok_or("they are read")?;
-    assert_eq!(rt; reports.len(), 2);
-    let mut out = Vec::new(alloc);
-    if are_reports(&reports) {
-        write_reports(&reports, &mut out)?;
-    }
-    assert_eq!(rt; out.as_slice(), bytes.as_slice());
-    if reports.len() <= 1000 {
-        assert_eq!(rt; reports_len(&reports), bytes.len());
-    }
-    for end in 0..bytes.len() {
-        let read = Fields::new(&bytes[..end]).reports(alloc);
-        assert!(rt; matches!(read, Err(WireFault::Short)));
-    }
-    let faults = [(0, 4, 5), (12, 2, 7), (14, 232, 7), (11, 0, 7)];
-    for (place, byte, fault) in faults {
-        let other = changed(rt.alloc(), &bytes, place, byte)?;
-        match Fields::new(&other).reports(alloc) {
-            Ok(_) => assert!(rt; false),
-            Err(found) => assert_eq!(rt; found.number(), Some(fault)),
-        }
-    }
+    let reports = reports(rt.alloc())?;
+    assert!(rt; reports_come_back(rt.alloc(), &reports)?);
     Ok(())
+}
+
+#[test]
+fn reports_have_a_first_fault(rt: HostRuntime) -> Result<(), Fail> {
+    let changes = [(0, 4, 5), (12, 2, 7), (14, 232, 7), (11, 0, 7)];
+    assert!(rt; has_short_beginnings(rt.alloc(), What::Reports, &REPORTS));
+    assert!(rt; come_to(rt.alloc(), What::Reports, &REPORTS, &changes)?);
+    Ok(())
+}
+
+fn reads_cart(alloc: Global, bytes: &[u8]) -> bool {
+    match Fields::new(bytes).entity(alloc) {
+        Ok(name) => name.bytes() == b"cart".as_slice(),
+        Err(_) => false,
+    }
+}
+
+// Whether it is written with its length before it, and read.
+fn entity_comes_back(alloc: Global, name: &Text) -> Result<bool, AllocError> {
+    if !is_entity(name.bytes()) {
+        return Ok(false);
+    }
+    let mut out = Vec::new(alloc);
+    write_entity(name, &mut out)?;
+    let written = out.as_slice() == b"\x04cart".as_slice() && entity_len(name) == 5;
+    Ok(written && reads_cart(alloc, &out))
 }
 
 #[test]
 fn entities_are_read_and_written(rt: HostRuntime) -> Result<(), Fail> {
-    let alloc = rt.alloc();
-    let name = Text::from_bytes(alloc, b"cart")?;
-    let mut out = Vec::new(alloc);
-    if is_entity(name.bytes()) {
-        write_entity(&name, &mut out)?;
-        assert_eq!(rt; entity_len(&name), 5);
-    }
-    assert_eq!(rt; out.as_slice(), b"\x04cart".as_slice());
-    let read = Fields::new(&out).entity(alloc).ok().ok_or("it is read")?;
-    assert_eq!(rt; read.bytes(), b"cart".as_slice());
-    assert!(rt; matches!(Fields::new(b"\x01 ").entity(alloc), Err(WireFault::Range)));
-    assert!(rt; matches!(Fields::new(b"\x00").entity(alloc), Err(WireFault::Count)));
+    let name = Text::from_bytes(rt.alloc(), b"cart")?;
+    assert!(rt; entity_comes_back(rt.alloc(), &name)?);
+    assert!(rt; outcome(rt.alloc(), What::Entity, b"\x01 ") == 7);
+    assert!(rt; outcome(rt.alloc(), What::Entity, b"\x00") == 5);
     Ok(())
 }
 
-// A gossip of two parts: a:1#1 is Up, and its row names the other one, a:1#2, which is Joining.
-const PARTS: [u8; 79] = [
-    2, 1, 97, 0, 1, 0, 0, 0, 0, 0, 0, 0, 1, 0, 0, 0, 0, 0, 0, 0, 3, 2, 0, 0, 0, 0, 0, 0, 0, 1, 1,
-    0, 0, 0, 0, 0, 0, 0, 3, 1, 1, 1, 97, 0, 1, 0, 0, 0, 0, 0, 0, 0, 2, 0, 0, 0, 0, 0, 0, 0, 0, 1,
-    0, 0, 0, 0, 0, 0, 0, 0, 0, 0, 0, 0, 0, 0, 0, 0, 0,
-];
-
-fn parts_fault(alloc: Global, bytes: &[u8]) -> Option<u8> {
-    match Fields::new(bytes).parts(alloc) {
-        Ok(_) => None,
-        Err(fault) => fault.number(),
+fn parts(alloc: Global) -> Result<Parts, Fail> {
+    match Fields::new(&PARTS).parts(alloc) {
+        Ok(parts) => Ok(parts),
+        Err(_) => Err("they are read")?,
     }
+}
+
+// Whether they are two, and are written as these bytes.
+fn parts_come_back(alloc: Global, parts: &Parts) -> Result<bool, AllocError> {
+    if parts.len() != 2 || !parts_valid(parts.as_slice()) {
+        return Ok(false);
+    }
+    let mut out = Vec::new(alloc);
+    write_parts(parts.as_slice(), &mut out)?;
+    let length = parts_len(parts.as_slice()) == PARTS.len() && are_parts(parts.as_slice());
+    Ok(length && out.as_slice() == PARTS.as_slice())
 }
 
 #[test]
 fn parts_are_read_and_written(rt: HostRuntime) -> Result<(), Fail> {
-    let alloc = rt.alloc();
-    let parts = Fields::new(&PARTS)
-        .parts(alloc)
-        .ok()
-        .ok_or("they are read")?;
-    assert_eq!(rt; parts.len(), 2);
-    let mut out = Vec::new(alloc);
-    if parts_valid(parts.as_slice()) {
-        write_parts(parts.as_slice(), &mut out)?;
-        assert_eq!(rt; parts_len(parts.as_slice()), PARTS.len());
-    }
-    assert!(rt; are_parts(parts.as_slice()));
-    assert_eq!(rt; out.as_slice(), PARTS.as_slice());
+    let parts = parts(rt.alloc())?;
+    assert!(rt; parts_come_back(rt.alloc(), &parts)?);
     Ok(())
 }
 
 #[test]
 fn parts_have_a_first_fault(rt: HostRuntime) -> Result<(), Fail> {
-    let alloc = rt.alloc();
-    for end in 0..PARTS.len() {
-        assert_eq!(rt; parts_fault(alloc, &PARTS[..end]), Some(1));
-    }
-    for (place, byte, fault) in [
+    let changes = [
         (0, 129, 5),
         (0, 3, 1),
         (20, 2, 7),
@@ -283,11 +369,14 @@ fn parts_have_a_first_fault(rt: HostRuntime) -> Result<(), Fail> {
         (39, 2, 6),
         (40, 2, 7),
         (52, 1, 6),
-    ] {
-        let bytes = changed(rt.alloc(), &PARTS, place, byte)?;
-        assert_eq!(rt; parts_fault(alloc, &bytes), Some(fault));
-    }
+    ];
+    assert!(rt; has_short_beginnings(rt.alloc(), What::Parts, &PARTS));
+    assert!(rt; come_to(rt.alloc(), What::Parts, &PARTS, &changes)?);
     Ok(())
+}
+
+fn shows_as(alloc: Global, fault: &WireFault, code: &str) -> Result<bool, Fail> {
+    Ok(format!(in alloc; "{fault}")?.as_str() == code)
 }
 
 #[test]
@@ -304,8 +393,7 @@ fn a_fault_shows_as_its_code(rt: HostRuntime) -> Result<(), Fail> {
         (WireFault::NoMemory, "memory"),
     ];
     for (fault, code) in &faults {
-        let shown = format!(in rt.alloc(); "{fault}")?;
-        assert_eq!(rt; shown.as_str(), *code);
+        assert!(rt; shows_as(rt.alloc(), fault, code)?, "{code}");
     }
     Ok(())
 }
