@@ -1,10 +1,10 @@
 use super::*;
-use ak_address::{Address, Text, Unique};
+use ak_address::{Address, Text, Unique, parse_address, parse_unique};
 use std::alloc::{AllocError, Global};
 use std::test::Fail;
 
 // A heartbeat from a:1#1 to b:1#1, in its 29 bytes.
-const HEARTBEAT: [u8; 29] = [
+static HEARTBEAT: [u8; 29] = [
     65, 75, 67, 1, 4, 1, 97, 0, 1, 0, 0, 0, 0, 0, 0, 0, 1, 1, 98, 0, 1, 0, 0, 0, 0, 0, 0, 0, 1,
 ];
 
@@ -32,35 +32,6 @@ const REPORT: [u8; 11] = [0, 7, 0, 0, 0, 0, 0, 0, 0, 1, 1];
 
 const ENTITY: [u8; 4] = [3, b'e', b'!', b'~'];
 
-// 0 where the bytes are read, the number of the fault, and 9 where memory ran out.
-fn outcome(alloc: Global, bytes: &[u8]) -> u8 {
-    match decode(alloc, bytes) {
-        Ok(_) => 0,
-        Err(fault) => fault.number().unwrap_or(9),
-    }
-}
-
-// The bytes with one of them changed.
-fn changed(alloc: Global, bytes: &[u8], place: usize, byte: u8) -> Result<Vec<u8>, AllocError> {
-    let mut copy = Vec::from_slice(alloc, bytes)?;
-    if place < copy.len() {
-        copy[place] = byte;
-    }
-    Ok(copy)
-}
-
-// Whether each beginning is short, and a byte more is too many.
-fn has_its_length(alloc: Global, bytes: &[u8]) -> Result<bool, AllocError> {
-    for end in 0..bytes.len() {
-        if outcome(alloc, &bytes[..end]) != 1 {
-            return Ok(false);
-        }
-    }
-    let mut longer = Vec::from_slice(alloc, bytes)?;
-    longer.push(0)?;
-    Ok(outcome(alloc, &longer) == 8)
-}
-
 // Whether it is valid, and is written as these bytes.
 fn is_written(alloc: Global, envelope: &Envelope, bytes: &[u8]) -> bool {
     if !valid(envelope) {
@@ -72,12 +43,52 @@ fn is_written(alloc: Global, envelope: &Envelope, bytes: &[u8]) -> bool {
     }
 }
 
-// Whether what is read is valid, and is written as the same bytes.
-fn comes_back(alloc: Global, bytes: &[u8]) -> bool {
+// Whether it is valid, and whether it is written as these bytes. Every envelope of these tests ends here: a function that lets
+// one go is proved for each kind of message.
+fn answers(alloc: Global, envelope: Envelope, bytes: &[u8]) -> (bool, bool) {
+    (valid(&envelope), is_written(alloc, &envelope, bytes))
+}
+
+// The number of the fault, 9 where memory ran out, and 0 where the bytes are read; and whether what is read is valid, and is
+// written as the same bytes.
+fn read(alloc: Global, bytes: &[u8]) -> (u8, bool) {
     match decode(alloc, bytes) {
-        Ok(envelope) => is_written(alloc, &envelope, bytes),
-        Err(_) => false,
+        Ok(envelope) => (0, answers(alloc, envelope, bytes).1),
+        Err(fault) => (fault.number().unwrap_or(9), false),
     }
+}
+
+fn outcome(alloc: Global, bytes: &[u8]) -> u8 {
+    read(alloc, bytes).0
+}
+
+fn comes_back(alloc: Global, bytes: &[u8]) -> bool {
+    read(alloc, bytes).1
+}
+
+// The bytes with one of them changed.
+fn changed(alloc: Global, bytes: &[u8], place: usize, byte: u8) -> Result<Vec<u8>, AllocError> {
+    let mut copy = Vec::from_slice(alloc, bytes)?;
+    if place < copy.len() {
+        copy[place] = byte;
+    }
+    Ok(copy)
+}
+
+fn has_short_beginnings(alloc: Global, bytes: &[u8]) -> bool {
+    for end in 0..bytes.len() {
+        if outcome(alloc, &bytes[..end]) != 1 {
+            return false;
+        }
+    }
+    true
+}
+
+// Whether each beginning is short, and a byte more is too many.
+fn has_its_length(alloc: Global, bytes: &[u8]) -> Result<bool, AllocError> {
+    let mut longer = Vec::from_slice(alloc, bytes)?;
+    longer.push(0)?;
+    Ok(has_short_beginnings(alloc, bytes) && outcome(alloc, &longer) == 8)
 }
 
 #[test]
@@ -88,10 +99,15 @@ fn a_heartbeat_has_29_bytes(rt: HostRuntime) -> Result<(), Fail> {
     Ok(())
 }
 
+// Whether a heartbeat with one byte changed has this fault.
+fn is_refused(alloc: Global, place: usize, byte: u8, fault: u8) -> Result<bool, AllocError> {
+    let bytes = changed(alloc, &HEARTBEAT, place, byte)?;
+    Ok(outcome(alloc, &bytes) == fault)
+}
+
 fn all_refused(alloc: Global, cases: &[(usize, u8, u8)]) -> Result<bool, AllocError> {
     for (place, byte, fault) in cases {
-        let bytes = changed(alloc, &HEARTBEAT, *place, *byte)?;
-        if outcome(alloc, &bytes) != *fault {
+        if !is_refused(alloc, *place, *byte, *fault)? {
             return Ok(false);
         }
     }
@@ -204,123 +220,145 @@ fn push_third(kind: u8, out: &mut Vec<u8>) -> Result<(), AllocError> {
 
 fn spelling(alloc: Global, kind: u8) -> Result<Vec<u8>, AllocError> {
     let mut out = Vec::new(alloc);
-    push_head(kind, &mut out)?;
-    push_first(kind, &mut out)?;
-    push_second(kind, &mut out)?;
-    push_third(kind, &mut out)?;
+    push_kind(kind, &mut out)?;
     Ok(out)
+}
+
+fn push_kind(kind: u8, out: &mut Vec<u8>) -> Result<(), AllocError> {
+    push_head(kind, out)?;
+    push_first(kind, out)?;
+    push_second(kind, out)?;
+    push_third(kind, out)
+}
+
+fn kind_comes_back(alloc: Global, kind: u8) -> Result<bool, AllocError> {
+    let bytes = spelling(alloc, kind)?;
+    Ok(comes_back(alloc, &bytes))
 }
 
 #[test]
 fn each_kind_is_read_and_written(rt: HostRuntime) -> Result<(), Fail> {
     for kind in 1..26 {
-        let bytes = spelling(rt.alloc(), kind)?;
-        assert!(rt; comes_back(rt.alloc(), &bytes));
+        assert!(rt; kind_comes_back(rt.alloc(), kind)?, "{kind}");
     }
     Ok(())
+}
+
+fn kind_has_its_length(alloc: Global, kind: u8) -> Result<bool, AllocError> {
+    let bytes = spelling(alloc, kind)?;
+    has_its_length(alloc, &bytes)
 }
 
 #[test]
 fn each_kind_has_its_length(rt: HostRuntime) -> Result<(), Fail> {
     for kind in 1..26 {
-        let bytes = spelling(rt.alloc(), kind)?;
-        assert!(rt; has_its_length(rt.alloc(), &bytes)?);
+        assert!(rt; kind_has_its_length(rt.alloc(), kind)?, "{kind}");
     }
     Ok(())
+}
+
+// Whether this last byte of the uid is out of its range.
+fn refuses_uid(alloc: Global, bytes: &[u8], uid: u8) -> Result<bool, AllocError> {
+    let other = changed(alloc, bytes, 28, uid)?;
+    Ok(outcome(alloc, &other) == 7)
+}
+
+fn kind_refuses_uid(alloc: Global, kind: u8) -> Result<bool, AllocError> {
+    let bytes = spelling(alloc, kind)?;
+    refuses_uid(alloc, &bytes, u8::from(is_for_anybody(kind)))
 }
 
 #[test]
 fn the_uid_of_a_receiver_is_that_of_its_kind(rt: HostRuntime) -> Result<(), Fail> {
     for kind in 1..26 {
-        let bytes = spelling(rt.alloc(), kind)?;
-        let uid = u8::from(is_for_anybody(kind));
-        let other = changed(rt.alloc(), &bytes, 28, uid)?;
-        assert_eq!(rt; outcome(rt.alloc(), &other), 7);
+        assert!(rt; kind_refuses_uid(rt.alloc(), kind)?, "{kind}");
     }
     Ok(())
 }
 
-// The outcome of a gossip of two parts, with the count of the second.
-fn of_parts(alloc: Global, one: &[u8], two: &[u8], count: &[u8]) -> Result<u8, AllocError> {
-    let mut out = Vec::new(alloc);
-    push_head(3, &mut out)?;
+// Two processes of a gossip, the count of the second, and the fault.
+type Pair = (&'static [u8], &'static [u8], &'static [u8], u8);
+
+fn push_pair(pair: &Pair, out: &mut Vec<u8>) -> Result<(), AllocError> {
+    push_head(3, out)?;
     out.push(2)?;
-    push_part(one, &ONE, &mut out)?;
-    push_part(two, count, &mut out)?;
-    Ok(outcome(alloc, &out))
+    push_part(pair.0, &ONE, out)?;
+    push_part(pair.1, pair.2, out)
+}
+
+fn pair_comes_to(alloc: Global, pair: &Pair) -> Result<bool, AllocError> {
+    let mut out = Vec::new(alloc);
+    push_pair(pair, &mut out)?;
+    Ok(outcome(alloc, &out) == pair.3)
 }
 
 #[test]
 fn parts_ascend_and_are_in_range(rt: HostRuntime) -> Result<(), Fail> {
-    let alloc = rt.alloc();
-    assert_eq!(rt; of_parts(alloc, &A, &B, &BOUND)?, 0);
-    assert_eq!(rt; of_parts(alloc, &B, &A, &BOUND)?, 6);
-    assert_eq!(rt; of_parts(alloc, &A, &A, &BOUND)?, 6);
-    assert_eq!(rt; of_parts(alloc, &A, &B, &ABOVE_BOUND)?, 7);
+    let pairs: [Pair; 4] = [
+        (&A, &B, &BOUND, 0),
+        (&B, &A, &BOUND, 6),
+        (&A, &A, &BOUND, 6),
+        (&A, &B, &ABOVE_BOUND, 7),
+    ];
+    for pair in &pairs {
+        assert!(rt; pair_comes_to(rt.alloc(), pair)?);
+    }
     Ok(())
 }
 
 #[test]
 fn a_range_comes_before_an_order(rt: HostRuntime) -> Result<(), Fail> {
-    let alloc = rt.alloc();
-    assert_eq!(rt; of_parts(alloc, &B, &ANYBODY, &BOUND)?, 7);
-    assert_eq!(rt; of_parts(alloc, &B, &A, &ABOVE_BOUND)?, 6);
+    let pairs: [Pair; 2] = [(&B, &ANYBODY, &BOUND, 7), (&B, &A, &ABOVE_BOUND, 6)];
+    for pair in &pairs {
+        assert!(rt; pair_comes_to(rt.alloc(), pair)?);
+    }
     Ok(())
 }
 
-fn address(alloc: Global, host: &[u8; 1]) -> Result<Address, AllocError> {
-    let host = [host[0].clamp(b'a', b'b')];
-    let host = Text::from_bytes(alloc, &host)?;
-    Ok(Address { host, port: 1 })
-}
-
-// Whether a heartbeat from a:1#1 to b:1#1 is written as its bytes.
-fn heartbeat_is_written(alloc: Global, from: Unique, to: Address) -> bool {
-    let envelope = Envelope {
+fn heartbeat(from: Unique, to: Address) -> Envelope {
+    Envelope {
         from,
         to,
         uid: 1,
         message: Message::Heartbeat,
-    };
-    is_written(alloc, &envelope, &HEARTBEAT)
+    }
+}
+
+// Whether a heartbeat from a:1#1 to b:1#1 is written as its bytes.
+fn heartbeat_is_written(alloc: Global) -> Result<bool, Fail> {
+    let from = parse_unique(alloc, b"a:1#1")?;
+    let to = parse_address(alloc, b"b:1")?;
+    Ok(answers(alloc, heartbeat(from, to), &HEARTBEAT).1)
 }
 
 #[test]
 fn a_heartbeat_is_written(rt: HostRuntime) -> Result<(), Fail> {
-    let home = address(rt.alloc(), b"a")?;
-    let from = Unique {
-        address: home,
-        uid: 1,
-    };
-    let to = address(rt.alloc(), b"b")?;
-    assert!(rt; heartbeat_is_written(rt.alloc(), from, to));
+    assert!(rt; heartbeat_is_written(rt.alloc())?);
     Ok(())
 }
 
-// Whether an offer to an entity of so many bytes can be spelled.
-fn offer_is_valid(from: Unique, to: Address, entity: Text) -> bool {
-    let envelope = Envelope {
+// An offer to an entity.
+fn offer(from: Unique, to: Address, entity: Text) -> Envelope {
+    Envelope {
         from,
         to,
         uid: 0,
         message: Message::Offer(entity, 18446744073709551615),
-    };
-    valid(&envelope)
+    }
 }
 
-fn named(alloc: Global, length: usize) -> Result<bool, AllocError> {
-    let home = address(alloc, b"a")?;
-    let from = Unique {
-        address: home,
-        uid: 1,
-    };
-    let to = address(alloc, b"b")?;
-    let mut name = Vec::new(alloc);
-    for _ in 0..length {
-        name.push(b'e')?;
-    }
-    let entity = Text::from_bytes(alloc, &name)?;
-    Ok(offer_is_valid(from, to, entity))
+// The name e of so many bytes.
+fn name(alloc: Global, length: usize) -> Result<Text, AllocError> {
+    let name = vec![in alloc; b'e'; length]?;
+    Text::from_bytes(alloc, &name)
+}
+
+// Whether an offer to an entity of so many bytes can be spelled.
+fn named(alloc: Global, length: usize) -> Result<bool, Fail> {
+    let from = parse_unique(alloc, b"a:1#1")?;
+    let to = parse_address(alloc, b"b:1")?;
+    let entity = name(alloc, length)?;
+    Ok(answers(alloc, offer(from, to, entity), b"").0)
 }
 
 #[test]
