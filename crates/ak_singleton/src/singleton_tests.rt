@@ -5,7 +5,7 @@ use ak_clock::Version;
 use ak_member::{Members, Standing, Status};
 use ak_promise::{Answer, Ballot};
 use ak_settled::Settled;
-use std::alloc::Global;
+use std::alloc::{AllocError, Global};
 use std::test::Fail;
 
 const MARGIN: u32 = 3;
@@ -49,26 +49,71 @@ fn ballot(alloc: Global, term: u32, letter: u8) -> Result<Ballot, Fail> {
     Ok(Ballot { term, unique })
 }
 
+fn reach(alloc: Global, version: &mut Version, count: u32) -> Result<(), Fail> {
+    let a = process(alloc, b'a')?;
+    Ok(version.reach(alloc, &a, u64::from(count))?)
+}
+
 fn version(alloc: Global, count: u32) -> Result<Version, Fail> {
     let mut version = Version::empty(alloc);
-    let a = process(alloc, b'a')?;
-    version.reach(alloc, &a, u64::from(count))?;
+    reach(alloc, &mut version, count)?;
     Ok(version)
+}
+
+fn stand(
+    alloc: Global,
+    members: &mut Members,
+    who: &Unique,
+    standing: Standing,
+) -> Result<(), AllocError> {
+    match standing {
+        Standing::Member(status, number) => members.raise(alloc, who, status, number),
+        Standing::Buried(confirmed) => members.bury(alloc, who, confirmed),
+    }
+}
+
+fn stand_letter(
+    alloc: Global,
+    members: &mut Members,
+    letter: u8,
+    standing: Standing,
+) -> Result<(), Fail> {
+    let who = process(alloc, letter)?;
+    Ok(stand(alloc, members, &who, standing)?)
 }
 
 fn members_of(alloc: Global, standings: &[Standing]) -> Result<Members, Fail> {
     let mut members = Members::empty(alloc);
     for (&letter, &standing) in b"bcdefgh".iter().zip(standings.iter()) {
-        let who = process(alloc, letter)?;
-        match standing {
-            Standing::Member(status, number) => members.raise(alloc, &who, status, number)?,
-            Standing::Buried(confirmed) => members.bury(alloc, &who, confirmed)?,
-        }
+        stand_letter(alloc, &mut members, letter, standing)?;
     }
     Ok(members)
 }
 
 // Notes the view where its version covers the noted one.
+fn note_view(
+    alloc: Global,
+    settled: &mut Settled,
+    version: &Version,
+    members: &Members,
+) -> Result<bool, AllocError> {
+    if version.covers(settled.version()) {
+        settled.note(alloc, version, members)?;
+        return Ok(true);
+    }
+    Ok(false)
+}
+
+fn note_members(
+    alloc: Global,
+    settled: &mut Settled,
+    count: u32,
+    members: &Members,
+) -> Result<bool, Fail> {
+    let version = version(alloc, count)?;
+    Ok(note_view(alloc, settled, &version, members)?)
+}
+
 fn note(
     alloc: Global,
     settled: &mut Settled,
@@ -76,12 +121,7 @@ fn note(
     standings: &[Standing],
 ) -> Result<bool, Fail> {
     let members = members_of(alloc, standings)?;
-    let version = version(alloc, count)?;
-    if version.covers(settled.version()) {
-        settled.note(alloc, &version, &members)?;
-        return Ok(true);
-    }
-    Ok(false)
+    note_members(alloc, settled, count, &members)
 }
 
 // The first letter of a process.
@@ -116,7 +156,7 @@ fn are(steps: &Steps, ask: &[u8], release: &[u8], term: u64) -> bool {
         && term_of(steps.hand_over_to.as_ref()) == term
 }
 
-fn ticks_so(
+fn steps_at(
     alloc: Global,
     c: &mut Singleton,
     settled: &Settled,
@@ -126,35 +166,96 @@ fn ticks_so(
     Ok(c.on_tick(alloc, &me, settled, status, MARGIN)?)
 }
 
+// Whether a tick asks these and tells these of a release, and wants the ballot of this term.
+fn ticks_so(
+    alloc: Global,
+    c: &mut Singleton,
+    settled: &Settled,
+    status: Status,
+    wanted: (&[u8], &[u8], u64),
+) -> Result<bool, Fail> {
+    let steps = steps_at(alloc, c, settled, status)?;
+    Ok(are(&steps, wanted.0, wanted.1, wanted.2))
+}
+
 fn activates(alloc: Global, c: &mut Singleton, settled: &Settled) -> Result<bool, Fail> {
     let me = process(alloc, b'c')?;
     Ok(c.try_activate(alloc, &me, settled, MARGIN)?)
 }
 
+fn is_asked(
+    alloc: Global,
+    c: &mut Singleton,
+    settled: &Settled,
+    term: u32,
+    letter: u8,
+) -> Result<Answer, Fail> {
+    let ballot = ballot(alloc, term, letter)?;
+    Ok(c.on_ask(ballot, settled, MARGIN))
+}
+
+fn grant(alloc: Global, c: &mut Singleton, from: &Unique, ballot: &Ballot) -> Result<bool, Fail> {
+    let floor = version(alloc, 2)?;
+    Ok(c.on_granted(alloc, from, ballot, &floor)?)
+}
+
 fn is_granted(alloc: Global, c: &mut Singleton, from: u8, term: u32) -> Result<bool, Fail> {
     let from = process(alloc, from)?;
     let ballot = ballot(alloc, term, b'c')?;
-    let floor = version(alloc, 2)?;
-    Ok(c.on_granted(alloc, &from, &ballot, &floor)?)
+    grant(alloc, c, &from, &ballot)
+}
+
+fn outdo(alloc: Global, c: &mut Singleton, own: &Ballot, last: u32) -> Result<bool, Fail> {
+    let last = ballot(alloc, last, b'd')?;
+    Ok(c.on_old(alloc, own, &last)?)
 }
 
 fn is_outdone(alloc: Global, c: &mut Singleton, term: u32, last: u32) -> Result<bool, Fail> {
-    let ballot_of_c = ballot(alloc, term, b'c')?;
-    let last = ballot(alloc, last, b'd')?;
-    Ok(c.on_old(alloc, &ballot_of_c, &last)?)
+    let own = ballot(alloc, term, b'c')?;
+    outdo(alloc, c, &own, last)
+}
+
+fn release_at(
+    alloc: Global,
+    c: &mut Singleton,
+    is_done: bool,
+    ballot: &Ballot,
+    floor: &Version,
+) -> Result<bool, AllocError> {
+    if is_done {
+        return c.on_done(alloc, ballot, floor);
+    }
+    c.on_release(alloc, ballot, floor)
+}
+
+fn release(alloc: Global, c: &mut Singleton, is_done: bool, ballot: &Ballot) -> Result<bool, Fail> {
+    let floor = version(alloc, 2)?;
+    Ok(release_at(alloc, c, is_done, ballot, &floor)?)
 }
 
 fn is_released(
     alloc: Global,
     c: &mut Singleton,
     is_done: bool,
-    ballot: &Ballot,
+    term: u32,
+    letter: u8,
 ) -> Result<bool, Fail> {
-    let floor = version(alloc, 2)?;
-    if is_done {
-        return Ok(c.on_done(alloc, ballot, &floor)?);
+    let ballot = ballot(alloc, term, letter)?;
+    release(alloc, c, is_done, &ballot)
+}
+
+// Whether what another node says comes to what the turn says.
+fn is_told(alloc: Global, c: &mut Singleton, settled: &Settled, turn: Turn) -> Result<bool, Fail> {
+    match turn {
+        Turn::Ask(term, letter, answer) => Ok(is_asked(alloc, c, settled, term, letter)? == answer),
+        Turn::Grant(from, term, first) => Ok(is_granted(alloc, c, from, term)? == first),
+        Turn::Old(term, last, outdone) => Ok(is_outdone(alloc, c, term, last)? == outdone),
+        Turn::Done(term, letter, done) => Ok(is_released(alloc, c, true, term, letter)? == done),
+        Turn::Release(term, letter, released) => {
+            Ok(is_released(alloc, c, false, term, letter)? == released)
+        }
+        _ => Ok(false),
     }
-    Ok(c.on_release(alloc, ballot, &floor)?)
 }
 
 // Whether the turn comes to what it says.
@@ -170,26 +271,12 @@ fn comes_so(
             settled.tick(MARGIN);
             Ok(true)
         }
-        Turn::Tick(status, ask, release, term) => {
-            let steps = ticks_so(alloc, c, settled, status)?;
-            Ok(are(&steps, ask, release, term))
-        }
-        Turn::Ask(term, letter, answer) => {
-            let ballot = ballot(alloc, term, letter)?;
-            Ok(c.on_ask(ballot, settled, MARGIN) == answer)
-        }
-        Turn::Grant(from, term, first) => Ok(is_granted(alloc, c, from, term)? == first),
-        Turn::Old(term, last, outdone) => Ok(is_outdone(alloc, c, term, last)? == outdone),
-        Turn::Done(term, letter, released) => {
-            let ballot = ballot(alloc, term, letter)?;
-            Ok(is_released(alloc, c, true, &ballot)? == released)
-        }
-        Turn::Release(term, letter, released) => {
-            let ballot = ballot(alloc, term, letter)?;
-            Ok(is_released(alloc, c, false, &ballot)? == released)
+        Turn::Tick(status, ask, tell, term) => {
+            ticks_so(alloc, c, settled, status, (ask, tell, term))
         }
         Turn::Activate(active) => Ok(activates(alloc, c, settled)? == active),
         Turn::End(term) => Ok(c.end(alloc, settled)?.unwrap_or(0) == term),
+        _ => is_told(alloc, c, settled, turn),
     }
 }
 
@@ -201,23 +288,48 @@ fn is_at(c: &Singleton, phase: Phase, live: u64, last: u64, granted: &[u8]) -> b
         && is_of(c.granted(), granted)
 }
 
-// Whether the node c comes through these turns so: after each its phase, the term of its live ballot and of the last that it
-// promised, and who granted.
-fn runs_so(alloc: Global, turns: &[(Turn, Phase, u64, u64, &'static [u8])]) -> Result<bool, Fail> {
-    let mut c = Singleton::new(alloc);
-    let mut settled = Settled::none(alloc);
-    for &(turn, phase, live, last, granted) in turns.iter() {
-        if !comes_so(alloc, &mut c, &mut settled, turn)? {
-            return Ok(false);
-        }
-        if !is_at(&c, phase, live, last, granted) {
+// A turn, and after it the phase, the term of the live ballot and of the last that was promised, and who granted.
+type Row = (Turn, Phase, u64, u64, &'static [u8]);
+
+fn rows_go(
+    alloc: Global,
+    c: &mut Singleton,
+    settled: &mut Settled,
+    rows: &[Row],
+) -> Result<bool, Fail> {
+    'rows: for &(turn, phase, live, last, granted) in rows.iter() {
+        if !comes_so(alloc, c, settled, turn)? || !is_at(c, phase, live, last, granted) {
             return Ok(false);
         }
     }
     Ok(true)
 }
 
+// Whether the node c comes through these turns so.
+fn runs_so(alloc: Global, rows: &[Row]) -> Result<bool, Fail> {
+    let mut c = Singleton::new(alloc);
+    let mut settled = Settled::none(alloc);
+    rows_go(alloc, &mut c, &mut settled, rows)
+}
+
+fn waits_for(alloc: Global, settled: &Settled, needed: &[u8]) -> Result<bool, Fail> {
+    let them = settled.needed(alloc, MARGIN)?;
+    Ok(is_of(&them, needed))
+}
+
 // Whether a view of these standings has this oldest member, and waits for these.
+fn waits_in(
+    alloc: Global,
+    settled: &mut Settled,
+    standings: &[Standing],
+    oldest: u8,
+    needed: &[u8],
+) -> Result<bool, Fail> {
+    let noted = note(alloc, settled, 2, standings)?;
+    let has_oldest = letter(settled.candidate()) == oldest;
+    Ok(noted && has_oldest && waits_for(alloc, settled, needed)?)
+}
+
 fn waits_so(
     alloc: Global,
     standings: &[Standing],
@@ -225,11 +337,7 @@ fn waits_so(
     needed: &[u8],
 ) -> Result<bool, Fail> {
     let mut settled = Settled::none(alloc);
-    if !note(alloc, &mut settled, 2, standings)? {
-        return Ok(false);
-    }
-    let them = settled.needed(alloc, MARGIN)?;
-    Ok(letter(settled.candidate()) == oldest && is_of(&them, needed))
+    waits_in(alloc, &mut settled, standings, oldest, needed)
 }
 
 #[test]
@@ -239,186 +347,191 @@ fn the_oldest_and_the_needed(rt: HostRuntime) -> Result<(), Fail> {
     Ok(())
 }
 
+static PROMISE_CASES: [Row; 12] = [
+    (
+        Turn::Note(2, &[TOMBSTONE, UP, UP]),
+        Phase::Younger,
+        0,
+        0,
+        b"",
+    ),
+    (
+        Turn::Tick(Status::Up, b"bd", b"", 0),
+        Phase::Asking,
+        1,
+        1,
+        b"c",
+    ),
+    (Turn::Ask(1, b'd', Answer::Busy), Phase::Asking, 1, 1, b"c"),
+    (Turn::Ask(1, b'b', Answer::Old), Phase::Asking, 1, 1, b"c"),
+    (
+        Turn::Ask(1, b'c', Answer::Granted),
+        Phase::Asking,
+        1,
+        1,
+        b"c",
+    ),
+    (Turn::Grant(b'd', 1, true), Phase::Asking, 1, 1, b"cd"),
+    (Turn::Grant(b'd', 1, false), Phase::Asking, 1, 1, b"cd"),
+    (Turn::Margin, Phase::Asking, 1, 1, b"cd"),
+    (Turn::Margin, Phase::Asking, 1, 1, b"cd"),
+    (Turn::Activate(false), Phase::Asking, 1, 1, b"cd"),
+    (Turn::Margin, Phase::Asking, 1, 1, b"cd"),
+    (Turn::Activate(true), Phase::Active, 1, 1, b"cd"),
+];
+
 #[test]
 fn promise_cases(rt: HostRuntime) -> Result<(), Fail> {
-    let turns: [(Turn, Phase, u64, u64, &'static [u8]); 12] = [
-        (
-            Turn::Note(2, &[TOMBSTONE, UP, UP]),
-            Phase::Younger,
-            0,
-            0,
-            b"",
-        ),
-        (
-            Turn::Tick(Status::Up, b"bd", b"", 0),
-            Phase::Asking,
-            1,
-            1,
-            b"c",
-        ),
-        (Turn::Ask(1, b'd', Answer::Busy), Phase::Asking, 1, 1, b"c"),
-        (Turn::Ask(1, b'b', Answer::Old), Phase::Asking, 1, 1, b"c"),
-        (
-            Turn::Ask(1, b'c', Answer::Granted),
-            Phase::Asking,
-            1,
-            1,
-            b"c",
-        ),
-        (Turn::Grant(b'd', 1, true), Phase::Asking, 1, 1, b"cd"),
-        (Turn::Grant(b'd', 1, false), Phase::Asking, 1, 1, b"cd"),
-        (Turn::Margin, Phase::Asking, 1, 1, b"cd"),
-        (Turn::Margin, Phase::Asking, 1, 1, b"cd"),
-        (Turn::Activate(false), Phase::Asking, 1, 1, b"cd"),
-        (Turn::Margin, Phase::Asking, 1, 1, b"cd"),
-        (Turn::Activate(true), Phase::Active, 1, 1, b"cd"),
-    ];
-    assert!(rt; runs_so(rt.alloc(), &turns)?);
+    assert!(rt; runs_so(rt.alloc(), &PROMISE_CASES)?);
     Ok(())
 }
+
+static THE_FLOOR_HAS_TO_BE_SETTLED: [Row; 9] = [
+    (Turn::Activate(false), Phase::Younger, 0, 0, b""),
+    (Turn::Note(1, &[STOPPED, UP, UP]), Phase::Younger, 0, 0, b""),
+    (
+        Turn::Tick(Status::Up, b"d", b"", 0),
+        Phase::Asking,
+        1,
+        1,
+        b"c",
+    ),
+    (Turn::Grant(b'd', 1, true), Phase::Asking, 1, 1, b"cd"),
+    (Turn::Activate(false), Phase::Asking, 1, 1, b"cd"),
+    (
+        Turn::Note(2, &[STOPPED, UP, UP]),
+        Phase::Asking,
+        1,
+        1,
+        b"cd",
+    ),
+    (Turn::Activate(true), Phase::Active, 1, 1, b"cd"),
+    (
+        Turn::Tick(Status::Up, b"", b"", 0),
+        Phase::Active,
+        1,
+        1,
+        b"cd",
+    ),
+    (Turn::End(1), Phase::Ended, 0, 1, b""),
+];
 
 #[test]
 fn the_floor_has_to_be_settled(rt: HostRuntime) -> Result<(), Fail> {
-    let turns: [(Turn, Phase, u64, u64, &'static [u8]); 9] = [
-        (Turn::Activate(false), Phase::Younger, 0, 0, b""),
-        (Turn::Note(1, &[STOPPED, UP, UP]), Phase::Younger, 0, 0, b""),
-        (
-            Turn::Tick(Status::Up, b"d", b"", 0),
-            Phase::Asking,
-            1,
-            1,
-            b"c",
-        ),
-        (Turn::Grant(b'd', 1, true), Phase::Asking, 1, 1, b"cd"),
-        (Turn::Activate(false), Phase::Asking, 1, 1, b"cd"),
-        (
-            Turn::Note(2, &[STOPPED, UP, UP]),
-            Phase::Asking,
-            1,
-            1,
-            b"cd",
-        ),
-        (Turn::Activate(true), Phase::Active, 1, 1, b"cd"),
-        (
-            Turn::Tick(Status::Up, b"", b"", 0),
-            Phase::Active,
-            1,
-            1,
-            b"cd",
-        ),
-        (Turn::End(1), Phase::Ended, 0, 1, b""),
-    ];
-    assert!(rt; runs_so(rt.alloc(), &turns)?);
+    assert!(rt; runs_so(rt.alloc(), &THE_FLOOR_HAS_TO_BE_SETTLED)?);
     Ok(())
 }
+
+static AN_ASKING_WAITS_FOR_THE_LAST_BALLOT: [Row; 13] = [
+    (
+        Turn::Tick(Status::Up, b"", b"", 0),
+        Phase::Younger,
+        0,
+        0,
+        b"",
+    ),
+    (Turn::Note(1, &[UP, UP, UP]), Phase::Younger, 0, 0, b""),
+    (
+        Turn::Tick(Status::Up, b"", b"", 0),
+        Phase::Younger,
+        0,
+        0,
+        b"",
+    ),
+    (
+        Turn::Ask(4, b'd', Answer::Granted),
+        Phase::Younger,
+        0,
+        4,
+        b"",
+    ),
+    (
+        Turn::Note(2, &[TOMBSTONE, UP, UP]),
+        Phase::Younger,
+        0,
+        4,
+        b"",
+    ),
+    (
+        Turn::Tick(Status::Exiting, b"", b"", 0),
+        Phase::Younger,
+        0,
+        4,
+        b"",
+    ),
+    (
+        Turn::Tick(Status::Up, b"", b"", 4),
+        Phase::Younger,
+        0,
+        4,
+        b"",
+    ),
+    (Turn::Done(4, b'b', false), Phase::Younger, 0, 4, b""),
+    (Turn::Done(4, b'd', true), Phase::Younger, 0, 4, b""),
+    (
+        Turn::Tick(Status::Leaving, b"bd", b"", 0),
+        Phase::Asking,
+        5,
+        5,
+        b"c",
+    ),
+    (Turn::Grant(b'd', 4, false), Phase::Asking, 5, 5, b"c"),
+    (Turn::Grant(b'd', 5, true), Phase::Asking, 5, 5, b"cd"),
+    (
+        Turn::Tick(Status::Up, b"b", b"", 0),
+        Phase::Asking,
+        5,
+        5,
+        b"cd",
+    ),
+];
 
 #[test]
 fn an_asking_waits_for_the_last_ballot(rt: HostRuntime) -> Result<(), Fail> {
-    let turns: [(Turn, Phase, u64, u64, &'static [u8]); 13] = [
-        (
-            Turn::Tick(Status::Up, b"", b"", 0),
-            Phase::Younger,
-            0,
-            0,
-            b"",
-        ),
-        (Turn::Note(1, &[UP, UP, UP]), Phase::Younger, 0, 0, b""),
-        (
-            Turn::Tick(Status::Up, b"", b"", 0),
-            Phase::Younger,
-            0,
-            0,
-            b"",
-        ),
-        (
-            Turn::Ask(4, b'd', Answer::Granted),
-            Phase::Younger,
-            0,
-            4,
-            b"",
-        ),
-        (
-            Turn::Note(2, &[TOMBSTONE, UP, UP]),
-            Phase::Younger,
-            0,
-            4,
-            b"",
-        ),
-        (
-            Turn::Tick(Status::Exiting, b"", b"", 0),
-            Phase::Younger,
-            0,
-            4,
-            b"",
-        ),
-        (
-            Turn::Tick(Status::Up, b"", b"", 4),
-            Phase::Younger,
-            0,
-            4,
-            b"",
-        ),
-        (Turn::Done(4, b'b', false), Phase::Younger, 0, 4, b""),
-        (Turn::Done(4, b'd', true), Phase::Younger, 0, 4, b""),
-        (
-            Turn::Tick(Status::Leaving, b"bd", b"", 0),
-            Phase::Asking,
-            5,
-            5,
-            b"c",
-        ),
-        (Turn::Grant(b'd', 4, false), Phase::Asking, 5, 5, b"c"),
-        (Turn::Grant(b'd', 5, true), Phase::Asking, 5, 5, b"cd"),
-        (
-            Turn::Tick(Status::Up, b"b", b"", 0),
-            Phase::Asking,
-            5,
-            5,
-            b"cd",
-        ),
-    ];
-    assert!(rt; runs_so(rt.alloc(), &turns)?);
+    assert!(rt; runs_so(rt.alloc(), &AN_ASKING_WAITS_FOR_THE_LAST_BALLOT)?);
     Ok(())
 }
+
+static AN_ASKING_IS_RENEWED_AND_CLOSED: [Row; 10] = [
+    (Turn::Note(1, &[EXITING, UP, UP]), Phase::Younger, 0, 0, b""),
+    (
+        Turn::Tick(Status::Up, b"bd", b"", 0),
+        Phase::Asking,
+        1,
+        1,
+        b"c",
+    ),
+    (Turn::Grant(b'b', 1, true), Phase::Asking, 1, 1, b"bc"),
+    (Turn::Old(1, 1, true), Phase::Asking, 2, 2, b"c"),
+    (Turn::Old(1, 9, false), Phase::Asking, 2, 2, b"c"),
+    (Turn::Old(2, 1, false), Phase::Asking, 2, 2, b"c"),
+    (Turn::Old(2, 7, true), Phase::Asking, 8, 8, b"c"),
+    (Turn::Note(2, &[UP, UP, UP]), Phase::Asking, 8, 8, b"c"),
+    (
+        Turn::Tick(Status::Up, b"", b"bd", 0),
+        Phase::Younger,
+        0,
+        8,
+        b"",
+    ),
+    (Turn::Release(8, b'c', true), Phase::Younger, 0, 8, b""),
+];
 
 #[test]
 fn an_asking_is_renewed_and_closed(rt: HostRuntime) -> Result<(), Fail> {
-    let turns: [(Turn, Phase, u64, u64, &'static [u8]); 10] = [
-        (Turn::Note(1, &[EXITING, UP, UP]), Phase::Younger, 0, 0, b""),
-        (
-            Turn::Tick(Status::Up, b"bd", b"", 0),
-            Phase::Asking,
-            1,
-            1,
-            b"c",
-        ),
-        (Turn::Grant(b'b', 1, true), Phase::Asking, 1, 1, b"bc"),
-        (Turn::Old(1, 1, true), Phase::Asking, 2, 2, b"c"),
-        (Turn::Old(1, 9, false), Phase::Asking, 2, 2, b"c"),
-        (Turn::Old(2, 1, false), Phase::Asking, 2, 2, b"c"),
-        (Turn::Old(2, 7, true), Phase::Asking, 8, 8, b"c"),
-        (Turn::Note(2, &[UP, UP, UP]), Phase::Asking, 8, 8, b"c"),
-        (
-            Turn::Tick(Status::Up, b"", b"bd", 0),
-            Phase::Younger,
-            0,
-            8,
-            b"",
-        ),
-        (Turn::Release(8, b'c', true), Phase::Younger, 0, 8, b""),
-    ];
-    assert!(rt; runs_so(rt.alloc(), &turns)?);
+    assert!(rt; runs_so(rt.alloc(), &AN_ASKING_IS_RENEWED_AND_CLOSED)?);
     Ok(())
 }
 
+static PHASES_END: [Row; 4] = [
+    (Turn::Note(2, &[STOPPED, UP]), Phase::Younger, 0, 0, b""),
+    (Turn::End(0), Phase::Ended, 0, 0, b""),
+    (Turn::Tick(Status::Up, b"", b"", 0), Phase::Ended, 0, 0, b""),
+    (Turn::End(0), Phase::Ended, 0, 0, b""),
+];
+
 #[test]
 fn phases_end(rt: HostRuntime) -> Result<(), Fail> {
-    let turns: [(Turn, Phase, u64, u64, &'static [u8]); 4] = [
-        (Turn::Note(2, &[STOPPED, UP]), Phase::Younger, 0, 0, b""),
-        (Turn::End(0), Phase::Ended, 0, 0, b""),
-        (Turn::Tick(Status::Up, b"", b"", 0), Phase::Ended, 0, 0, b""),
-        (Turn::End(0), Phase::Ended, 0, 0, b""),
-    ];
-    assert!(rt; runs_so(rt.alloc(), &turns)?);
+    assert!(rt; runs_so(rt.alloc(), &PHASES_END)?);
     Ok(())
 }
