@@ -317,7 +317,7 @@ fn new_goes(alloc: Global, steps: &[Step]) -> Result<bool, Fail> {
 }
 
 // The second one who asks is told the same home, and a stop that nobody waits for changes nothing.
-const PLACED_ONCE: [Step; 4] = [
+static PLACED_ONCE: [Step; 4] = [
     Take(Turn::GetHome(6), (b'b', 1)),
     Take(Turn::GetHome(6), (b'b', 0)),
     Take(Turn::Stopped(b'b', 6, 1), (b'-', 0)),
@@ -331,7 +331,7 @@ fn a_free_shard_is_placed_once(rt: HostRuntime) -> Result<(), Fail> {
 }
 
 // Reports, and the home that is known after each.
-const REPORTS: [Step; 7] = [
+static REPORTS: [Step; 7] = [
     Take(Turn::Learn(b'b', 6, 3, true), (b'b', 3)),
     Take(Turn::Learn(b'c', 6, 2, true), (b'b', 3)),
     Take(Turn::Learn(b'a', 6, 3, true), (b'b', 3)),
@@ -371,7 +371,7 @@ const ALL_UP: &[Standing] = &[UP, UP, UP];
 const ONE_LEAVES: &[Standing] = &[UP, EXITING, UP];
 
 // The last of the three that are waited for ends the first stage, and the home that the coordinator waits for stops once.
-const HANDED_OFF: [Step; 17] = [
+static HANDED_OFF: [Step; 17] = [
     Take(Turn::GetHome(6), (b'b', 1)),
     Tick(ALL_UP, &[(b'h', 6, 1, b'b')]),
     Take(Turn::Started(b'b', 6, 1), (b'-', 0)),
@@ -400,7 +400,7 @@ fn a_shard_is_handed_off_in_stages(rt: HostRuntime) -> Result<(), Fail> {
     Ok(())
 }
 
-const WAITED_FOR: [Step; 5] = [
+static WAITED_FOR: [Step; 5] = [
     Take(Turn::Learn(b'b', 6, 1, true), (b'b', 1)),
     Take(Turn::Learn(b'c', 2, 5, true), (b'c', 5)),
     Tick(
@@ -419,7 +419,7 @@ fn finished_nodes_are_waited_for_no_more(rt: HostRuntime) -> Result<(), Fail> {
 
 const BEGUN: &[Shown] = &[(b'b', 3, 1, b'a'), (b'b', 3, 1, b'b'), (b'b', 3, 1, b'c')];
 
-const OVERLOADED: [Step; 4] = [
+static OVERLOADED: [Step; 4] = [
     Take(Turn::Learn(b'b', 8, 1, true), (b'b', 1)),
     Take(Turn::Learn(b'b', 3, 1, true), (b'b', 1)),
     Tick(&[UP, UP], BEGUN),
@@ -433,7 +433,7 @@ fn an_overloaded_node_gives_a_shard_away(rt: HostRuntime) -> Result<(), Fail> {
 }
 
 // b is the home of two shards, a of one, and d, which has not granted, of one.
-const FOUR_HOMES: [Step; 4] = [
+static FOUR_HOMES: [Step; 4] = [
     Take(Turn::Learn(b'b', 1, 1, true), (b'b', 1)),
     Take(Turn::Learn(b'b', 2, 1, true), (b'b', 1)),
     Take(Turn::Learn(b'a', 3, 1, true), (b'a', 1)),

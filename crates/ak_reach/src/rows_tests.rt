@@ -115,7 +115,7 @@ fn reported(alloc: Global, rows: &Rows, observers: &[&str], subject: &str) -> Re
 }
 
 // Observers, a subject, and whether one of them has it in its row.
-const REPORTED: [(&[&str], &str, bool); 4] = [
+static REPORTED: [(&[&str], &str, bool); 4] = [
     (&["a:1#1", "b:1#1", "e:1#1"], "c:1#1", true),
     (&["a:1#1", "b:1#1", "e:1#1"], "d:1#1", true),
     (&["a:1#1", "b:1#1", "e:1#1"], "f:1#1", false),

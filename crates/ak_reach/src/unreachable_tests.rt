@@ -32,7 +32,7 @@ fn found(
     Ok(is_unreachable(members, rows, &who) == wanted && them.contains(&who) == wanted)
 }
 
-const MEMBERS: [(&str, Status); 5] = [
+static MEMBERS: [(&str, Status); 5] = [
     ("a:1#1", Status::Up),
     ("b:1#1", Status::Down),
     ("c:1#1", Status::Leaving),
@@ -40,14 +40,14 @@ const MEMBERS: [(&str, Status); 5] = [
     ("e:1#1", Status::Exiting),
 ];
 
-const ROWS: [Line; 3] = [
+static ROWS: [Line; 3] = [
     ("a:1#1", 1, "c:1#1"),
     ("b:1#1", 1, "d:1#1"),
     ("e:1#1", 1, "x:1#1"),
 ];
 
 // Who is looked for, and whether it is unreachable.
-const FOUND: [(&str, bool); 4] = [
+static FOUND: [(&str, bool); 4] = [
     ("a:1#1", false),
     ("c:1#1", true),
     ("d:1#1", false),
