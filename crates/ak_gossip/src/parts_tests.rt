@@ -222,11 +222,13 @@ const MANY: &[u8] = &[0, 1, 2, 3, 4, 5, 6, 7, 8, 9, 10, 11, 12, 13, 14, 15, 16];
 
 // Observers of which two have the same subjects, and so many that are only counted after them.
 fn observed_lines(alloc: Global, counted_too: u32) -> Result<Vec<Line>, AllocError> {
-    let mut lines = Vec::new(alloc);
-    lines.push(observer(1, 2, MANY))?;
-    lines.push(observer(2, 1, &[0]))?;
-    lines.push(observer(3, 3, MANY))?;
-    lines.push(observer(4, 1, &[]))?;
+    let observers = [
+        observer(1, 2, MANY),
+        observer(2, 1, &[0]),
+        observer(3, 3, MANY),
+        observer(4, 1, &[]),
+    ];
+    let mut lines = observers.to_vec(alloc)?;
     for more in 0..counted_too {
         lines.push(counted(more.wrapping_add(5), 1))?;
     }

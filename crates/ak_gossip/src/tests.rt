@@ -42,16 +42,29 @@ fn answer(
     incoming: &[Line],
 ) -> Result<Received, GossipFault> {
     let mut own = gossip(alloc, own)?;
+    receive(alloc, &mut own, me, incoming)
+}
+
+fn receive(
+    alloc: Global,
+    own: &mut Gossip,
+    me: u32,
+    incoming: &[Line],
+) -> Result<Received, GossipFault> {
     let incoming = gossip(alloc, incoming)?;
-    received(alloc, &mut own, me, &incoming)
+    received(alloc, own, me, &incoming)
 }
 
 // What is known after receiving.
 fn after(alloc: Global, own: &[Line], me: u32, incoming: &[Line]) -> Result<Gossip, GossipFault> {
-    let mut own = gossip(alloc, own)?.copy(alloc)?;
-    let incoming = gossip(alloc, incoming)?;
-    received(alloc, &mut own, me, &incoming)?;
+    let mut own = copy_of(alloc, own)?;
+    receive(alloc, &mut own, me, incoming)?;
     Ok(own)
+}
+
+fn copy_of(alloc: Global, lines: &[Line]) -> Result<Gossip, AllocError> {
+    let gossip = gossip(alloc, lines)?;
+    gossip.copy(alloc)
 }
 
 // The uid and the count at an index of the version, zeros past the end.
@@ -133,16 +146,25 @@ fn foreign_counts_are_refused(rt: HostRuntime) {
     assert!(rt; answer(rt.alloc(), &base(), 1, &risen()) == Err(foreign));
 }
 
-// What so many answer at the gossip of 64 others, and how many are known then.
+// What is answered at the gossip of 64 others, and how many are known then.
+fn tell_crowd(
+    alloc: Global,
+    own: &mut Gossip,
+    me: u32,
+) -> Result<(Result<Received, GossipFault>, u32), AllocError> {
+    let other = crowd(alloc, 101, 64)?;
+    let answer = received(alloc, own, me, &other);
+    Ok((answer, own.uniques()))
+}
+
+// The same of so many.
 fn crowd_told(
     alloc: Global,
     many: u32,
     me: u32,
 ) -> Result<(Result<Received, GossipFault>, u32), AllocError> {
-    let other = crowd(alloc, 101, 64)?;
     let mut own = crowd(alloc, 1, many)?;
-    let answer = received(alloc, &mut own, me, &other);
-    Ok((answer, own.uniques()))
+    tell_crowd(alloc, &mut own, me)
 }
 
 #[test]
@@ -186,12 +208,22 @@ fn find(
     Ok(())
 }
 
+// The author finds the second process unreachable.
+fn find_second(alloc: Global, gossip: &mut Gossip, author: &Unique) -> Result<(), AllocError> {
+    let two = process(alloc, 2)?;
+    find(alloc, gossip, author, &two)
+}
+
+// The first process finds the second one unreachable.
+fn first_finds_second(alloc: Global, gossip: &mut Gossip) -> Result<(), AllocError> {
+    let one = process(alloc, 1)?;
+    find_second(alloc, gossip, &one)
+}
+
 // The gossip of three, of whom the first found the second unreachable.
 fn with_a_finding(alloc: Global) -> Result<Gossip, AllocError> {
     let mut gossip = gossip(alloc, &[seen(1, 1), plain(2, 1, 0), plain(3, 1, 0)])?;
-    let one = process(alloc, 1)?;
-    let two = process(alloc, 2)?;
-    find(alloc, &mut gossip, &one, &two)?;
+    first_finds_second(alloc, &mut gossip)?;
     Ok(gossip)
 }
 
