@@ -234,7 +234,7 @@ mod tests {
     }
 
     // A text, and what it reads as as a unique.
-    const UNIQUES: [(&str, &str); 13] = [
+    static UNIQUES: [(&str, &str); 13] = [
         ("a:1#7", "a:1#7"),
         (
             "Host_1.a-b:065535#09223372036854775807",
@@ -254,7 +254,7 @@ mod tests {
     ];
 
     // A text, and what it reads as as an address.
-    const ADDRESSES: [(&str, &str); 4] = [
+    static ADDRESSES: [(&str, &str); 4] = [
         ("node-1.shop.local:2551", "node-1.shop.local:2551"),
         ("a:1#7", "A2"),
         ("a", "A2"),
