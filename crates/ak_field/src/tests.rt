@@ -8,25 +8,25 @@ use std::alloc::{AllocError, Global};
 use std::test::Fail;
 
 // A heartbeat from a:1#1 to b:1#1, in its 29 bytes.
-const HEARTBEAT: [u8; 29] = [
+static HEARTBEAT: [u8; 29] = [
     65, 75, 67, 1, 4, 1, 97, 0, 1, 0, 0, 0, 0, 0, 0, 0, 1, 1, 98, 0, 1, 0, 0, 0, 0, 0, 0, 0, 1,
 ];
 
 // Two processes with their counts: 2^62 is the most, and one more is not.
-const VERSION: [u8; 41] = [
+static VERSION: [u8; 41] = [
     2, 1, 97, 0, 1, 0, 0, 0, 0, 0, 0, 0, 1, 64, 0, 0, 0, 0, 0, 0, 0, 1, 97, 0, 1, 0, 0, 0, 0, 0, 0,
     0, 2, 0, 0, 0, 0, 0, 0, 0, 1,
 ];
 
 // A gossip of two parts: a:1#1 is Up, and its row names the other one, a:1#2, which is Joining.
-const PARTS: [u8; 79] = [
+static PARTS: [u8; 79] = [
     2, 1, 97, 0, 1, 0, 0, 0, 0, 0, 0, 0, 1, 0, 0, 0, 0, 0, 0, 0, 3, 2, 0, 0, 0, 0, 0, 0, 0, 1, 1,
     0, 0, 0, 0, 0, 0, 0, 3, 1, 1, 1, 97, 0, 1, 0, 0, 0, 0, 0, 0, 0, 2, 0, 0, 0, 0, 0, 0, 0, 0, 1,
     0, 0, 0, 0, 0, 0, 0, 0, 0, 0, 0, 0, 0, 0, 0, 0, 0,
 ];
 
 // Two reports, of the shards 3 and 999.
-const REPORTS: [u8; 24] = [
+static REPORTS: [u8; 24] = [
     0, 2, 0, 3, 0, 0, 0, 0, 0, 0, 0, 5, 1, 3, 231, 0, 0, 0, 0, 0, 0, 0, 1, 0,
 ];
 
