@@ -1,6 +1,7 @@
 ghost use Rattle.std.specs.Prelude.{◌≡◌, ◌+◌, ◌<◌, length, OnOk};
 
 use crate::world::World;
+use crate::{life_tests, line_tests, margin_tests, seen_tests};
 use ak_gossip::Gossip;
 use ak_history::View;
 use ak_schedule::{Draft, Event, LineFault, Settings, read_line};
@@ -20,11 +21,7 @@ const HEADERS: [&str; 9] = [
     "limit 1",
 ];
 
-pub(crate) fn settings(alloc: Global) -> Result<Settings, Fail> {
-    settings_of(alloc, HEADERS)
-}
-
-pub(crate) fn settings_of(alloc: Global, headers: [&str; 9]) -> Result<Settings, Fail> {
+fn settings_of(alloc: Global, headers: [&str; 9]) -> Result<Settings, Fail> {
     let mut draft = Draft::new(alloc);
     'headers: for line in headers {
         if draft.header(alloc, line.as_bytes())? {
@@ -51,27 +48,39 @@ fn same(view: &View, gossip: &Gossip) -> bool {
     one.uniques() == other.uniques() && view.rows.len() == gossip.rows().len()
 }
 
-// What each node knows, and each gossip that was sent, is what its version shows of the history.
-fn folds(alloc: Global, world: &World) -> Result<bool, AllocError> {
+// Whether a gossip is what its version shows of the history.
+fn is_fold(alloc: Global, world: &World, gossip: &Gossip) -> Result<bool, AllocError> {
+    let view = world.history().view(alloc, gossip.version())?;
+    Ok(same(&view, gossip))
+}
+
+fn nodes_fold(alloc: Global, world: &World) -> Result<bool, AllocError> {
     for number in 0..4 {
         if let Some(node) = world.node(number) {
-            let view = world.history().view(alloc, node.gossip().version())?;
-            if !same(&view, node.gossip()) {
+            if !is_fold(alloc, world, node.gossip())? {
                 return Ok(false);
             }
         }
     }
+    Ok(true)
+}
+
+fn packets_fold(alloc: Global, world: &World) -> Result<bool, AllocError> {
     for number in 1..20 {
         if let Some(envelope) = world.envelope(number) {
             if let Message::Welcome(gossip) | Message::Gossip(gossip) = &envelope.message {
-                let view = world.history().view(alloc, gossip.version())?;
-                if !same(&view, gossip) {
+                if !is_fold(alloc, world, gossip)? {
                     return Ok(false);
                 }
             }
         }
     }
     Ok(true)
+}
+
+// What each node knows, and each gossip that was sent, is what its version shows of the history.
+fn folds(alloc: Global, world: &World) -> Result<bool, AllocError> {
+    Ok(nodes_fold(alloc, world)? && packets_fold(alloc, world)?)
 }
 
 pub(crate) fn apply_line(alloc: Global, world: &mut World, line: &str) -> Result<(), Fail>
@@ -114,15 +123,7 @@ fn updates_in(alloc: Global, world: &mut World, lines: &[&str]) -> Result<usize,
     Ok(world.history().len())
 }
 
-// The same of a new world. A function that owns a world is proved to let it go at each of its ends, so the others borrow it.
-fn updates_after(alloc: Global, lines: &[&str]) -> Result<usize, Fail>
-    requires { length lines.now < 1000 }
-{
-    let mut world = World::new(alloc, settings(alloc)?);
-    updates_in(alloc, &mut world, lines)
-}
-
-pub(crate) const FIRST_JOIN: [&str; 7] = [
+pub(crate) static FIRST_JOIN: [&str; 7] = [
     "start a:1#1",
     "start b:1#1",
     "found a:1#1",
@@ -133,7 +134,7 @@ pub(crate) const FIRST_JOIN: [&str; 7] = [
 ];
 
 // c is admitted by a and by b, neither of which knows the other's update; then a merges both.
-pub(crate) const TWO_UPDATES_MERGE: [&str; 14] = [
+pub(crate) static TWO_UPDATES_MERGE: [&str; 14] = [
     "start a:1#1",
     "start b:1#1",
     "start c:1#1",
@@ -150,10 +151,75 @@ pub(crate) const TWO_UPDATES_MERGE: [&str; 14] = [
     "deliver 9",
 ];
 
+fn updates_are(
+    alloc: Global,
+    world: &mut World,
+    lines: &[&str],
+    wanted: usize,
+) -> Result<bool, Fail>
+    requires { length world.old.events + length lines.now < 1000 }
+{
+    Ok(updates_in(alloc, world, lines)? == wanted)
+}
+
+// What happens in a new world, in all tests of worlds.
+#[derive(Clone, Copy)]
+pub(crate) enum Story {
+    FoldOfFirstJoin,
+    FoldOfTwoUpdates,
+    SeenAtFirstJoin,
+    SeenAtTwoUpdates,
+    SeenAtOldGossip,
+    EndsTooEarly,
+    StopsInTime,
+    IsTold,
+    FounderLeaves,
+    BothRise,
+    Leaves,
+    IsReplaced,
+    IsDowned,
+}
+
+fn headers(story: Story) -> [&'static str; 9] {
+    match story {
+        Story::EndsTooEarly | Story::StopsInTime | Story::IsTold => margin_tests::HEADERS,
+        Story::FounderLeaves => line_tests::ALONE,
+        Story::BothRise => line_tests::BOTH,
+        Story::Leaves | Story::IsReplaced | Story::IsDowned => life_tests::HEADERS,
+        _ => HEADERS,
+    }
+}
+
+fn goes_so(alloc: Global, world: &mut World, story: Story) -> Result<bool, Fail>
+    requires { length world.old.events < 10 }
+{
+    match story {
+        Story::FoldOfFirstJoin => updates_are(alloc, world, &FIRST_JOIN, 2),
+        Story::FoldOfTwoUpdates => updates_are(alloc, world, &TWO_UPDATES_MERGE, 4),
+        Story::SeenAtFirstJoin => seen_tests::first_join_is_seen(alloc, world),
+        Story::SeenAtTwoUpdates => seen_tests::two_updates_are_seen(alloc, world),
+        Story::SeenAtOldGossip => seen_tests::old_gossip_changes_nothing(alloc, world),
+        Story::EndsTooEarly => margin_tests::ends_too_early(alloc, world),
+        Story::StopsInTime => margin_tests::stops_in_time(alloc, world),
+        Story::IsTold => margin_tests::is_told(alloc, world),
+        Story::FounderLeaves => line_tests::founder_leaves(alloc, world),
+        Story::BothRise => line_tests::both_rise(alloc, world),
+        Story::Leaves => life_tests::leaves(alloc, world),
+        Story::IsReplaced => life_tests::is_replaced(alloc, world),
+        Story::IsDowned => life_tests::is_downed(alloc, world),
+    }
+}
+
+// Whether the story goes so in a new world. A function that owns a world is proved to let it go at each of its ends, which takes
+// long, so this one alone owns one, and the others borrow it.
+pub(crate) fn is_so(alloc: Global, story: Story) -> Result<bool, Fail> {
+    let mut world = World::new(alloc, settings_of(alloc, headers(story))?);
+    goes_so(alloc, &mut world, story)
+}
+
 #[test]
 fn nodes_know_the_fold_of_the_history(rt: HostRuntime) -> Result<(), Fail> {
-    let alloc = rt.alloc();
-    assert!(rt; updates_after(alloc, &FIRST_JOIN)? == 2);
-    assert!(rt; updates_after(alloc, &TWO_UPDATES_MERGE)? == 4);
+    assert!(rt; is_so(rt.alloc(), Story::FoldOfFirstJoin)?);
+    assert!(rt; is_so(rt.alloc(), Story::FoldOfTwoUpdates)?);
     Ok(())
 }

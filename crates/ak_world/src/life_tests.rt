@@ -1,6 +1,6 @@
 ghost use Rattle.std.specs.Prelude.{◌≡◌, ◌+◌, ◌<◌, ◌≤◌, length, OnOk};
 
-use crate::fold_tests::settings_of;
+use crate::fold_tests::{Story, is_so};
 use crate::world::{Reason, Refused, World};
 use ak_address::{Unique, parse_unique};
 use ak_member::{Standing, Status};
@@ -9,7 +9,7 @@ use std::alloc::Global;
 use std::test::Fail;
 
 // One member is enough for a settled view.
-const HEADERS: [&str; 9] = [
+pub(crate) const HEADERS: [&str; 9] = [
     "listed a:1 b:1 c:1",
     "strategy down-all",
     "margin 2",
@@ -41,7 +41,7 @@ const REMOVED: Option<Standing> = Some(Standing::Buried(true));
 struct Row(&'static str, Option<u32>, Option<Standing>, bool);
 
 // a founds, b joins, and both come Up; a knows so alone.
-const FOUNDED: [Row; 8] = [
+static FOUNDED: [Row; 8] = [
     Row("start a:1#1", Some(0), NOTHING, false),
     Row("start b:1#1", Some(1), NOTHING, false),
     Row("found a:1#1", Some(0), NOTHING, false),
@@ -56,7 +56,7 @@ const FOUNDED: [Row; 8] = [
 // leader, makes it Exiting. b hears of that, says at its tick that it stops, and stops; a removes it as one that has stopped.
 // A packet for b:1#1 is dead then. A second process starts at its address and joins, and a packet for whoever is at that
 // address reaches it, though the one that has stopped stands before it.
-const LEAVES: [Row; 21] = [
+static LEAVES: [Row; 21] = [
     Row("deliver 3", Some(0), UP, false),
     Row("deliver 5", Some(1), UP, false),
     Row("deliver 6", Some(0), UP, false),
@@ -81,7 +81,7 @@ const LEAVES: [Row; 21] = [
 ];
 
 // b stops at once. Its successor asks to join, and so a learns that b has stopped: it goes Down, and the successor waits.
-const REPLACED: [Row; 6] = [
+static REPLACED: [Row; 6] = [
     Row("stop b:1#1", Some(1), UP, true),
     Row("start b:1#2", Some(2), UP, true),
     Row("join b:1#2 a:1", Some(2), UP, true),
@@ -91,7 +91,7 @@ const REPLACED: [Row; 6] = [
 ];
 
 // b is downed by hand, and stops as soon as it hears of it.
-const DOWNED: [Row; 3] = [
+static DOWNED: [Row; 3] = [
     Row("down a:1#1 b:1#1", Some(0), DOWN, false),
     Row("deliver 3", Some(0), DOWN, false),
     Row("deliver 5", Some(1), DOWN, true),
@@ -191,11 +191,16 @@ fn all_go_in(alloc: Global, world: &mut World, rows: &[Row]) -> Result<bool, Fai
     Ok(rows_that_go(alloc, world, rows)? == rows.len())
 }
 
-fn all_go(alloc: Global, rows: &[Row]) -> Result<bool, Fail>
-    requires { length rows.now < 900 }
+pub(crate) fn is_replaced(alloc: Global, world: &mut World) -> Result<bool, Fail>
+    requires { length world.old.events < 10 }
 {
-    let mut world = World::new(alloc, settings_of(alloc, HEADERS)?);
-    all_go_in(alloc, &mut world, rows)
+    all_go_in(alloc, world, &REPLACED)
+}
+
+pub(crate) fn is_downed(alloc: Global, world: &mut World) -> Result<bool, Fail>
+    requires { length world.old.events < 10 }
+{
+    all_go_in(alloc, world, &DOWNED)
 }
 
 // Why an event is refused.
@@ -241,7 +246,7 @@ fn refuses_what_is_over(alloc: Global, world: &mut World) -> Result<bool, Fail>
     Ok(stopped && used && taken)
 }
 
-fn leaves_in(alloc: Global, world: &mut World) -> Result<bool, Fail>
+pub(crate) fn leaves(alloc: Global, world: &mut World) -> Result<bool, Fail>
     requires { length world.old.events < 10 }
 {
     if all_go_in(alloc, world, &LEAVES)? {
@@ -250,25 +255,20 @@ fn leaves_in(alloc: Global, world: &mut World) -> Result<bool, Fail>
     Ok(false)
 }
 
-fn leaves(alloc: Global) -> Result<bool, Fail> {
-    let mut world = World::new(alloc, settings_of(alloc, HEADERS)?);
-    leaves_in(alloc, &mut world)
-}
-
 #[test]
 fn a_member_leaves_and_another_takes_its_address(rt: HostRuntime) -> Result<(), Fail> {
-    assert!(rt; leaves(rt.alloc())?);
+    assert!(rt; is_so(rt.alloc(), Story::Leaves)?);
     Ok(())
 }
 
 #[test]
 fn a_successor_downs_the_process_before_it(rt: HostRuntime) -> Result<(), Fail> {
-    assert!(rt; all_go(rt.alloc(), &REPLACED)?);
+    assert!(rt; is_so(rt.alloc(), Story::IsReplaced)?);
     Ok(())
 }
 
 #[test]
 fn a_downed_process_stops(rt: HostRuntime) -> Result<(), Fail> {
-    assert!(rt; all_go(rt.alloc(), &DOWNED)?);
+    assert!(rt; is_so(rt.alloc(), Story::IsDowned)?);
     Ok(())
 }

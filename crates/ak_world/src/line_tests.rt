@@ -1,13 +1,13 @@
 ghost use Rattle.std.specs.Prelude.{◌≡◌, ◌+◌, ◌<◌, ◌≤◌, length, OnOk};
 
-use crate::fold_tests::{apply_line, settings_of};
+use crate::fold_tests::{Story, apply_line, is_so};
 use crate::world::World;
 use ak_address::{Unique, parse_unique};
 use std::alloc::Global;
 use std::test::Fail;
 
 // One member is enough for a settled view, and there is one address.
-const ALONE: [&str; 9] = [
+pub(crate) const ALONE: [&str; 9] = [
     "listed a:1",
     "strategy static-quorum 1",
     "margin 2",
@@ -20,7 +20,7 @@ const ALONE: [&str; 9] = [
 ];
 
 // Both members are needed for a settled view.
-const BOTH: [&str; 9] = [
+pub(crate) const BOTH: [&str; 9] = [
     "listed a:1 b:1",
     "strategy static-quorum 2",
     "margin 2",
@@ -44,7 +44,7 @@ struct Row(&'static str, Updates, Updates);
 
 // A founder comes Up alone, leaves, and stops: its view settles twice, each time at a later version, and the one in which it
 // is Exiting is noted by nobody.
-const FOUNDER_LEAVES: [Row; 5] = [
+static FOUNDER_LEAVES: [Row; 5] = [
     Row("start a:1#1", NOTHING, NOTHING),
     Row("found a:1#1", NOTHING, NOTHING),
     Row("tick a:1#1 0", Updates(2, 0), NOTHING),
@@ -53,7 +53,7 @@ const FOUNDER_LEAVES: [Row; 5] = [
 ];
 
 // a founds, b joins, and both come Up: what b hears of it is settled, and then what a hears from b.
-const BOTH_RISE: [Row; 12] = [
+static BOTH_RISE: [Row; 12] = [
     Row("start a:1#1", NOTHING, NOTHING),
     Row("start b:1#1", NOTHING, NOTHING),
     Row("found a:1#1", NOTHING, NOTHING),
@@ -69,7 +69,7 @@ const BOTH_RISE: [Row; 12] = [
 ];
 
 // b leaves, and tells: the next settled view is later than the first, at both.
-const ONE_LEAVES: [Row; 5] = [
+static ONE_LEAVES: [Row; 5] = [
     Row("leave b:1#1 b:1#1", Updates(3, 0), Updates(3, 0)),
     Row("deliver 3", Updates(3, 0), Updates(3, 0)),
     Row("deliver 9", Updates(3, 0), Updates(3, 0)),
@@ -122,22 +122,26 @@ fn all_go_in(alloc: Global, world: &mut World, rows: &[Row], others: &[Row]) -> 
     Ok(rows_that_go(alloc, world, others)? == others.len())
 }
 
-// The same in a new world with these settings.
-fn all_go(alloc: Global, headers: [&str; 9], rows: &[Row], others: &[Row]) -> Result<bool, Fail>
-    requires { length rows.now + length others.now < 1000 }
+pub(crate) fn founder_leaves(alloc: Global, world: &mut World) -> Result<bool, Fail>
+    requires { length world.old.events < 10 }
 {
-    let mut world = World::new(alloc, settings_of(alloc, headers)?);
-    all_go_in(alloc, &mut world, rows, others)
+    all_go_in(alloc, world, &FOUNDER_LEAVES, &[])
+}
+
+pub(crate) fn both_rise(alloc: Global, world: &mut World) -> Result<bool, Fail>
+    requires { length world.old.events < 10 }
+{
+    all_go_in(alloc, world, &BOTH_RISE, &ONE_LEAVES)
 }
 
 #[test]
 fn settled_versions_of_a_founder_that_leaves(rt: HostRuntime) -> Result<(), Fail> {
-    assert!(rt; all_go(rt.alloc(), ALONE, &FOUNDER_LEAVES, &[])?);
+    assert!(rt; is_so(rt.alloc(), Story::FounderLeaves)?);
     Ok(())
 }
 
 #[test]
 fn two_members_settle_one_after_another(rt: HostRuntime) -> Result<(), Fail> {
-    assert!(rt; all_go(rt.alloc(), BOTH, &BOTH_RISE, &ONE_LEAVES)?);
+    assert!(rt; is_so(rt.alloc(), Story::BothRise)?);
     Ok(())
 }

@@ -1,13 +1,13 @@
 ghost use Rattle.std.specs.Prelude.{◌+◌, ◌<◌, ◌≤◌, length, IfOk};
 
-use crate::fold_tests::{apply_line, settings_of};
+use crate::fold_tests::{Story, apply_line, is_so};
 use crate::margin::Margin;
 use crate::world::World;
 use std::alloc::Global;
 use std::test::Fail;
 
 // A tombstone waits for two ticks.
-const HEADERS: [&str; 9] = [
+pub(crate) const HEADERS: [&str; 9] = [
     "listed a:1 b:1",
     "strategy down-all",
     "margin 2",
@@ -20,7 +20,7 @@ const HEADERS: [&str; 9] = [
 ];
 
 // a founds, b joins, both are Up, and b downs a, which does not hear of it.
-const DOWNED: [&str; 11] = [
+static DOWNED: [&str; 11] = [
     "start a:1#1",
     "start b:1#1",
     "found a:1#1",
@@ -35,18 +35,18 @@ const DOWNED: [&str; 11] = [
 ];
 
 // b finds a silent, removes it, and waits; at its fifth tick the margin ends.
-const REMOVED: [&str; 3] = ["tick b:1#1 0", "tick b:1#1 0", "tick b:1#1 0"];
+static REMOVED: [&str; 3] = ["tick b:1#1 0", "tick b:1#1 0", "tick b:1#1 0"];
 
-const WAITED: [&str; 2] = ["tick b:1#1 0", "tick b:1#1 0"];
+static WAITED: [&str; 2] = ["tick b:1#1 0", "tick b:1#1 0"];
 
 // a stops after its margin ended.
-const LATE: [&str; 2] = ["stop a:1#1", "tick b:1#1 0"];
+static LATE: [&str; 2] = ["stop a:1#1", "tick b:1#1 0"];
 
 // a stops a tick before that.
-const IN_TIME: [&str; 3] = ["tick b:1#1 0", "stop a:1#1", "tick b:1#1 0"];
+static IN_TIME: [&str; 3] = ["tick b:1#1 0", "stop a:1#1", "tick b:1#1 0"];
 
 // a hears from b that it is Down, and stops.
-const TOLD: [&str; 2] = ["deliver 5", "deliver 7"];
+static TOLD: [&str; 2] = ["deliver 5", "deliver 7"];
 
 // The margin after some more lines.
 fn margin_after(alloc: Global, world: &mut World, lines: &[&str]) -> Result<Margin, Fail>
@@ -65,7 +65,7 @@ const BROKEN: Margin = Margin::Broken {
     member: 0,
 };
 
-fn ends_too_early(alloc: Global, world: &mut World) -> Result<bool, Fail>
+pub(crate) fn ends_too_early(alloc: Global, world: &mut World) -> Result<bool, Fail>
     requires { length world.old.events < 10 }
 {
     let first = world.margin() == Margin::Kept;
@@ -76,7 +76,7 @@ fn ends_too_early(alloc: Global, world: &mut World) -> Result<bool, Fail>
     Ok(first && downed && removed && waited && late)
 }
 
-fn stops_in_time(alloc: Global, world: &mut World) -> Result<bool, Fail>
+pub(crate) fn stops_in_time(alloc: Global, world: &mut World) -> Result<bool, Fail>
     requires { length world.old.events < 10 }
 {
     margin_after(alloc, world, &DOWNED)?;
@@ -84,36 +84,13 @@ fn stops_in_time(alloc: Global, world: &mut World) -> Result<bool, Fail>
     Ok(margin_after(alloc, world, &IN_TIME)? == Margin::Kept)
 }
 
-fn is_told(alloc: Global, world: &mut World) -> Result<bool, Fail>
+pub(crate) fn is_told(alloc: Global, world: &mut World) -> Result<bool, Fail>
     requires { length world.old.events < 10 }
 {
     margin_after(alloc, world, &DOWNED)?;
     margin_after(alloc, world, &TOLD)?;
     margin_after(alloc, world, &REMOVED)?;
     Ok(margin_after(alloc, world, &WAITED)? == Margin::Kept)
-}
-
-// What happens in a new world.
-#[derive(Clone, Copy)]
-enum Story {
-    EndsTooEarly,
-    StopsInTime,
-    IsTold,
-}
-
-fn goes_so(alloc: Global, world: &mut World, story: Story) -> Result<bool, Fail>
-    requires { length world.old.events < 10 }
-{
-    match story {
-        Story::EndsTooEarly => ends_too_early(alloc, world),
-        Story::StopsInTime => stops_in_time(alloc, world),
-        Story::IsTold => is_told(alloc, world),
-    }
-}
-
-fn is_so(alloc: Global, story: Story) -> Result<bool, Fail> {
-    let mut world = World::new(alloc, settings_of(alloc, HEADERS)?);
-    goes_so(alloc, &mut world, story)
 }
 
 #[test]

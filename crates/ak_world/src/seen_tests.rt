@@ -1,9 +1,10 @@
 ghost use Rattle.std.specs.Prelude.{◌+◌, ◌<◌, length};
 
-use crate::fold_tests::{FIRST_JOIN, TWO_UPDATES_MERGE, apply_line, settings};
+use crate::fold_tests::{FIRST_JOIN, Story, TWO_UPDATES_MERGE, apply_line, is_so};
 use crate::world::World;
 use ak_address::{Unique, Uniques, parse_unique};
 use ak_clock::{Relation, Version};
+use ak_node::Node;
 use ak_wire::Message;
 use std::alloc::{AllocError, Global};
 use std::test::Fail;
@@ -61,13 +62,17 @@ fn packets_tell_the_truth(past: &[Holding], world: &World) -> bool {
     true
 }
 
+fn holding_of(alloc: Global, node: &Node) -> Result<Holding, AllocError> {
+    let who = node.me().copy(alloc)?;
+    let version = node.gossip().version().copy(alloc)?;
+    Ok(Holding { who, version })
+}
+
 // Each node holds what it knows now.
 fn hold(alloc: Global, world: &World, past: &mut Vec<Holding>) -> Result<(), AllocError> {
     for number in 0..4 {
         if let Some(node) = world.node(number) {
-            let who = node.me().copy(alloc)?;
-            let version = node.gossip().version().copy(alloc)?;
-            past.push(Holding { who, version })?;
+            past.push(holding_of(alloc, node)?)?;
         }
     }
     Ok(())
@@ -111,16 +116,8 @@ fn seen_in(alloc: Global, world: &mut World, lines: &[&str]) -> Result<[usize; 3
     Ok(seen_at(world))
 }
 
-// How many have seen what each node knows, in a new world after these events.
-fn seen_after(alloc: Global, lines: &[&str]) -> Result<[usize; 3], Fail>
-    requires { length lines.now < 1000 }
-{
-    let mut world = World::new(alloc, settings(alloc)?);
-    seen_in(alloc, &mut world, lines)
-}
-
 // Packets come again, and after a admitted c an old gossip that both a and b have seen changes nothing at a.
-const OLD_GOSSIP_COMES_AGAIN: [&str; 14] = [
+static OLD_GOSSIP_COMES_AGAIN: [&str; 14] = [
     "start a:1#1",
     "start b:1#1",
     "start c:1#1",
@@ -137,36 +134,100 @@ const OLD_GOSSIP_COMES_AGAIN: [&str; 14] = [
     "deliver 4",
 ];
 
+pub(crate) fn first_join_is_seen(alloc: Global, world: &mut World) -> Result<bool, Fail>
+    requires { length world.old.events < 10 }
+{
+    Ok(seen_in(alloc, world, &FIRST_JOIN)? == [2, 2, 0])
+}
+
+// Where a and b each admitted c and a merged, nobody but a is known to know both updates, until b hears of it.
+pub(crate) fn two_updates_are_seen(alloc: Global, world: &mut World) -> Result<bool, Fail>
+    requires { length world.old.events < 10 }
+{
+    Ok(seen_in(alloc, world, &TWO_UPDATES_MERGE)? == [1, 2, 0])
+}
+
+pub(crate) fn old_gossip_changes_nothing(alloc: Global, world: &mut World) -> Result<bool, Fail>
+    requires { length world.old.events < 10 }
+{
+    Ok(seen_in(alloc, world, &OLD_GOSSIP_COMES_AGAIN)? == [1, 2, 0])
+}
+
 #[test]
 fn who_is_in_a_seen_set_held_the_version(rt: HostRuntime) -> Result<(), Fail> {
-    let alloc = rt.alloc();
-    let first = seen_after(alloc, &FIRST_JOIN)?;
-    assert!(rt; first == [2, 2, 0]);
-    // Where a and b each admitted c and a merged, nobody but a is known to know both updates, until b hears of it.
-    let merged = seen_after(alloc, &TWO_UPDATES_MERGE)?;
-    assert!(rt; merged == [1, 2, 0]);
-    let again = seen_after(alloc, &OLD_GOSSIP_COMES_AGAIN)?;
-    assert!(rt; again == [1, 2, 0]);
+    assert!(rt; is_so(rt.alloc(), Story::SeenAtFirstJoin)?);
+    assert!(rt; is_so(rt.alloc(), Story::SeenAtTwoUpdates)?);
+    assert!(rt; is_so(rt.alloc(), Story::SeenAtOldGossip)?);
     Ok(())
 }
 
-// The process of this name, when it held a version that counts so many entries of one author.
+// The version that counts so many entries of one author.
+fn version_of(alloc: Global, author: &Unique, count: u64) -> Result<Version, AllocError>
+    requires { count < 10 }
+{
+    let mut version = Version::empty(alloc);
+    version.reach(alloc, author, count)?;
+    Ok(version)
+}
+
+// The process of this name, when it held that version.
 fn held_by(alloc: Global, name: &str, author: &Unique, count: u64) -> Result<Holding, Fail>
     requires { count < 10 }
 {
     let who = parse_unique(alloc, name.as_bytes())?;
-    let mut version = Version::empty(alloc);
-    version.reach(alloc, author, count)?;
+    let version = version_of(alloc, author, count)?;
     Ok(Holding { who, version })
+}
+
+fn push_past(alloc: Global, past: &mut Vec<Holding>, author: &Unique) -> Result<(), Fail> {
+    past.push(held_by(alloc, "a:1#1", author, 1)?)?;
+    past.push(held_by(alloc, "a:1#1", author, 2)?)?;
+    past.push(held_by(alloc, "b:1#1", author, 1)?)?;
+    Ok(())
 }
 
 // a held what it made, twice; b heard of the first alone.
 fn past_of_two(alloc: Global, author: &Unique) -> Result<Vec<Holding>, Fail> {
     let mut past = Vec::new(alloc);
-    past.push(held_by(alloc, "a:1#1", author, 1)?)?;
-    past.push(held_by(alloc, "a:1#1", author, 2)?)?;
-    past.push(held_by(alloc, "b:1#1", author, 1)?)?;
+    push_past(alloc, &mut past, author)?;
     Ok(past)
+}
+
+fn set_of(alloc: Global, one: &Unique, other: &Unique) -> Result<Uniques, AllocError> {
+    let mut set = Uniques::empty(alloc);
+    set.insert(alloc, one)?;
+    set.insert(alloc, other)?;
+    Ok(set)
+}
+
+// Whether the author and the other one may be in the seen set of what the other one held.
+fn may_have_seen(
+    alloc: Global,
+    past: &[Holding],
+    author: &Unique,
+    other: &Holding,
+) -> Result<bool, Fail> {
+    let seen = set_of(alloc, author, &other.who)?;
+    Ok(all_held(past, &seen, &other.version))
+}
+
+fn may_have_seen_after(
+    alloc: Global,
+    past: &[Holding],
+    author: &Unique,
+    count: u64,
+) -> Result<bool, Fail>
+    requires { count < 10 }
+{
+    let other = held_by(alloc, "b:1#1", author, count)?;
+    may_have_seen(alloc, past, author, &other)
+}
+
+fn author_may_have_seen(alloc: Global, author: &Unique, count: u64) -> Result<bool, Fail>
+    requires { count < 10 }
+{
+    let past = past_of_two(alloc, author)?;
+    may_have_seen_after(alloc, &past, author, count)
 }
 
 // Whether both may be in the seen set of a version that counts so many entries.
@@ -174,12 +235,7 @@ fn both_may_have_seen(alloc: Global, count: u64) -> Result<bool, Fail>
     requires { count < 10 }
 {
     let author = parse_unique(alloc, b"a:1#1")?;
-    let past = past_of_two(alloc, &author)?;
-    let other = held_by(alloc, "b:1#1", &author, count)?;
-    let mut seen = Uniques::empty(alloc);
-    seen.insert(alloc, &author)?;
-    seen.insert(alloc, &other.who)?;
-    Ok(all_held(&past, &seen, &other.version))
+    author_may_have_seen(alloc, &author, count)
 }
 
 #[test]
