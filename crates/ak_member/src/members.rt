@@ -134,6 +134,13 @@ impl Members {
         }
     }
 
+    /// All that are known, members and tombstones, and what is known of each, in the order of processes.
+    pub fn pairs(&self) -> &[(Unique, Standing)]
+        ensures { result.now ≡ map.entries self.now }
+    {
+        self.table.pairs()
+    }
+
     /// How many members there are.
     pub fn len(&self) -> usize
         ensures { result ≡ length (members_of self.now) }
