@@ -34,7 +34,7 @@ fn reads_as(alloc: Global, line: &str, wanted: &str) -> Result<bool, Fail> {
 }
 
 // A line, and what it reads as.
-const LINES: [(&str, &str); 26] = [
+static LINES: [(&str, &str); 26] = [
     ("start n1:1#1", "start n1:1#1"),
     ("  found  n1:01#0001 ", "found n1:1#1"),
     ("join n2:1#2 n1:00001", "join n2:1#2 n1:1"),
@@ -105,7 +105,7 @@ fn settings_with(alloc: Global, index: usize, other: &str) -> Result<Settings, u
 }
 
 // The index of a header line, and another line there.
-const ACCEPTED: [(usize, &str); 20] = [
+static ACCEPTED: [(usize, &str); 20] = [
     (0, "listed a:1"),
     (
         0,
@@ -131,7 +131,7 @@ const ACCEPTED: [(usize, &str); 20] = [
     (8, "limit 1000"),
 ];
 
-const REFUSED: [(usize, &str); 28] = [
+static REFUSED: [(usize, &str); 28] = [
     (0, "listed"),
     (0, "listed a:1 b:1 a:01"),
     (0, "listed a:1 b"),
