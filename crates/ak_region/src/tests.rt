@@ -124,7 +124,7 @@ fn wants(alloc: Global, region: &Region, shards: &[u32]) -> Result<bool, Fail> {
 }
 
 // A shard is hosted again only with a greater number than it was handed off with.
-const LATE_ORDERS: [(Turn, u8); 9] = [
+static LATE_ORDERS: [(Turn, u8); 9] = [
     (Turn::Host(6, 1), b'n'),
     (Turn::HandOff(6, 1), b'g'),
     (Turn::Host(6, 1), b'i'),
@@ -147,7 +147,7 @@ fn late_orders_are_ignored(rt: HostRuntime) -> Result<(), Fail> {
 }
 
 // Two may wait from the beginning of the hand-off until the shard is hosted again.
-const HANDED_OFF: [(Turn, u8); 12] = [
+static HANDED_OFF: [(Turn, u8); 12] = [
     (Turn::Host(CART, 1), b'n'),
     (Turn::Offer("cart", 5), b'd'),
     (Turn::Begin(CART), b'-'),
@@ -172,7 +172,7 @@ fn messages_wait_during_a_hand_off(rt: HostRuntime) -> Result<(), Fail> {
 }
 
 // Messages of two shards, what each turn answers, and the shards whose home is wanted after it.
-const UNKNOWN_HOMES: [(Turn, u8, &[u32]); 12] = [
+static UNKNOWN_HOMES: [(Turn, u8, &[u32]); 12] = [
     (Turn::Offer("cart", 1), b'w', &[CART]),
     (Turn::Offer("zzzzzz", 2), b'w', &[CART, OTHER]),
     (Turn::Offer("cart", 3), b'w', &[CART, OTHER]),
