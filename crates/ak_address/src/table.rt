@@ -115,7 +115,14 @@ impl<V> Table<V> {
     pub fn place(&self, who: &Unique) -> Result<usize, usize>
         ensures { result ≡ index unique_cmp who.now (map.entries self.now) }
     {
-        place_in(&self.entries, who)
+        index_of(&self.entries, who)
+    }
+
+    /// The same; whoever comes after all others is found to do so at once. Takes no memory.
+    pub fn place_from_end(&self, who: &Unique) -> Result<usize, usize>
+        ensures { result ≡ index unique_cmp who.now (map.entries self.now) }
+    {
+        index_from_end(&self.entries, who)
     }
 }
 
@@ -136,7 +143,7 @@ impl<V: Drop> Table<V> {
         ensures err { OnErr result (self.new ≡ self.old) }
         ensures present { IsSome (map.get self.old who) → IsOk result }
     {
-        match place_in(&self.entries, &who) {
+        match index_from_end(&self.entries, &who) {
             Ok(index) => {
                 self.entries[index] = (who, value);
                 Ok(())
@@ -152,6 +159,9 @@ impl<V: Drop> Table<V> {
         ensures ok { OnOk result (self.new ≡ map.insert self.old who value) }
         ensures err { OnErr result (self.new ≡ self.old) }
     {
+        if place == self.entries.len() {
+            return Ok(self.entries.push((who, value))?);
+        }
         Ok(self.entries.insert(place, (who, value))?)
     }
 
@@ -216,7 +226,7 @@ impl<V: Merge + Drop> Table<V> {
 
 // Where the process stands, or as an error where it would go: at the end, where whoever adds processes in their order is
 // answered at once, or where a search finds it.
-fn place_in<V>(entries: &[(Unique, V)], who: &Unique) -> Result<usize, usize>
+fn index_from_end<V>(entries: &[(Unique, V)], who: &Unique) -> Result<usize, usize>
     requires { IsTrue (map.is_sorted unique_cmp entries.now) }
     ensures { result ≡ index unique_cmp who.now entries.now }
 {

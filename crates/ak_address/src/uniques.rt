@@ -49,7 +49,7 @@ impl Uniques {
         ensures err { OnErr result (self.new ≡ self.old) }
         ensures present { IsTrue (has self.old who.now) → IsOk result }
     {
-        match self.table.place(who) {
+        match self.table.place_from_end(who) {
             Ok(_) => Ok(()),
             Err(place) => {
                 let who = who.copy(alloc)?;

@@ -203,7 +203,7 @@ fn reach_in(
     ensures err { OnErr result (counts.new ≡ counts.old) }
     ensures reached { least ≤ count counts.old who.now → IsOk result }
 {
-    match counts.place(who) {
+    match counts.place_from_end(who) {
         Ok(place) => {
             if count_at(counts, place) < least {
                 counts.set_at(place, least);

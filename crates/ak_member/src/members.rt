@@ -240,7 +240,7 @@ impl Members {
         ensures err { OnErr result (self.new ≡ self.old) }
         ensures present { IsSome (map.get self.old who.now) → IsOk result }
     {
-        match self.table.place(who) {
+        match self.table.place_from_end(who) {
             Ok(place) => {
                 let standing = with_known(&self.table, place, standing);
                 self.table.set_at(place, standing);

@@ -81,7 +81,7 @@ impl Rows {
         ensures err { OnErr result (self.new ≡ self.old) }
         ensures kept { IsTrue (is_as_new (map.get self.old observer.now) number) → IsOk result }
     {
-        match self.table.place(observer) {
+        match self.table.place_from_end(observer) {
             Ok(place) => {
                 if is_as_new_at(&self.table, place, number) {
                     return Ok(());
