@@ -13,7 +13,7 @@ use ak_gossip::Gossip;
 use ak_membership::{Change, Closing, MemberFault, Membership, Reply};
 use ak_schedule::Settings;
 use ak_settled::Settled;
-use ak_wire::{Action, Actions, Envelope, Message, sendable};
+use ak_wire::{Action, Actions, Envelope, Message, SharedEnvelope, sendable};
 use std::alloc::{AllocError, Global};
 use std::marker::Model;
 
@@ -111,16 +111,17 @@ struct Cover {
 }
 
 impl Cover {
-    fn around(self, message: Message) -> Action
-        ensures { result ≡ Action.Send (record { from = self.from; to = self.to; uid = self.uid; message = message }) }
+    fn around(self, alloc: Global, message: Message) -> Result<Action, AllocError>
+        ensures { IfOk result (λ action. action ≡ Action.Send (record { from = self.from; to = self.to; uid = self.uid; message = message })) }
     {
         let Cover { from, to, uid } = self;
-        Action::Send(Envelope {
+        let envelope = Envelope {
             from,
             to,
             uid,
             message,
-        })
+        };
+        Ok(Action::Send(SharedEnvelope::of(alloc, envelope)?))
     }
 }
 
@@ -160,15 +161,13 @@ impl State {
     {
         let from = self.me().copy(alloc)?;
         let to = target.copy(alloc)?;
-        one(
-            alloc,
-            Action::Send(Envelope {
-                from,
-                to,
-                uid: 0,
-                message: Message::Join,
-            }),
-        )
+        let envelope = Envelope {
+            from,
+            to,
+            uid: 0,
+            message: Message::Join,
+        };
+        one(alloc, Action::Send(SharedEnvelope::of(alloc, envelope)?))
     }
 
     // Asks the target again, where there is one.
@@ -196,12 +195,12 @@ impl State {
             Reply::Welcome => {
                 let cover = self.cover(alloc, to)?;
                 let gossip = self.membership.gossip().copy(alloc)?;
-                actions.push(cover.around(Message::Welcome(gossip)))
+                actions.push(cover.around(alloc, Message::Welcome(gossip))?)
             }
             Reply::Gossip => {
                 let cover = self.cover(alloc, to)?;
                 let gossip = self.membership.gossip().copy(alloc)?;
-                actions.push(cover.around(Message::Gossip(gossip)))
+                actions.push(cover.around(alloc, Message::Gossip(gossip))?)
             }
         }
     }
@@ -290,7 +289,7 @@ impl State {
             return Ok(Actions::empty(alloc));
         }
         let cover = self.cover(alloc, from)?;
-        one(alloc, cover.around(Message::HeartbeatReply))
+        one(alloc, cover.around(alloc, Message::HeartbeatReply)?)
     }
 
     fn on_heard(&mut self, alloc: Global, from: &Unique) -> Actions
@@ -330,7 +329,7 @@ impl State {
         'pairs: for pair in 0..members.uniques() {
             if let Some((to, _)) = members.counted_at_pair(pair) {
                 let cover = self.cover(alloc, to)?;
-                actions.push(cover.around(Message::ExitingConfirmed))?;
+                actions.push(cover.around(alloc, Message::ExitingConfirmed)?)?;
             }
         }
         Ok(())
@@ -345,7 +344,7 @@ impl State {
                 let cover = self.cover(alloc, to)?;
                 let gossip = self.membership.gossip().copy(alloc)?;
                 let message = Message::Gossip(gossip);
-                actions.push(cover.around(message))
+                actions.push(cover.around(alloc, message)?)
             }
             None => Ok(()),
         }
@@ -391,7 +390,7 @@ impl State {
         'watched: for index in 0..watched.len() {
             if let Some(to) = watched.at(index) {
                 let cover = self.cover(alloc, to)?;
-                actions.push(cover.around(Message::Heartbeat))?;
+                actions.push(cover.around(alloc, Message::Heartbeat)?)?;
             }
         }
         Ok(())
@@ -502,6 +501,31 @@ impl State {
             return one(alloc, Action::Dead);
         }
         self.acts(alloc, event)
+    }
+
+    // A packet that arrives, as such an event: it stays with whoever gave it.
+    fn receive(&mut self, alloc: Global, envelope: &Envelope) -> Result<Actions, AllocError>
+        requires { self.old.steps < 2 ^ 62 }
+        ensures does { IfOk result (λ actions. Does (rules.step (NodeEvent.Packet envelope.now) self.old) self.new actions) }
+        ensures same { IsSameProcess self.old self.new }
+    {
+        if self.runs {
+            self.steps += 1;
+            return self.running_receive(alloc, envelope);
+        }
+        Ok(Actions::empty(alloc))
+    }
+
+    fn running_receive(&mut self, alloc: Global, envelope: &Envelope) -> Result<Actions, AllocError>
+        ensures does { IfOk result (λ actions. Does (rules.running_step (NodeEvent.Packet envelope.now) self.old) self.new actions) }
+        ensures same { IsSameProcess self.old self.new }
+    {
+        if !is_for(self.me(), envelope) {
+            return one(alloc, Action::Dead);
+        }
+        let mut actions = self.on_packet(alloc, envelope)?;
+        self.closes(alloc, &mut actions)?;
+        Ok(actions)
     }
 
     fn acts(&mut self, alloc: Global, event: &NodeEvent) -> Result<Actions, AllocError>
@@ -656,6 +680,36 @@ impl Node {
             }
             Err(error) => {
                 self.state.membership.forget(alloc);
+                self.spent = true;
+                Err(error)
+            }
+        }
+    }
+
+    /// Gives the node a packet, as `step` does with such an event; the packet stays with whoever gave it.
+    pub fn receive(&mut self, alloc: Global, envelope: &Envelope) -> Result<Actions, AllocError>
+        requires { self.old.state.steps < 2 ^ 62 }
+        ensures ok { IfOk result (λ actions. Does (rules.step (NodeEvent.Packet envelope.now) self.old.state) self.new.state actions) }
+        ensures valid { IfOk result (λ actions. AreValid actions) }
+        ensures silent { IfOk result (λ actions. IsSilent self.old.state self.new.state actions) }
+        ensures serves { OnOk result (ServesWhileItRuns self.new.state) }
+        ensures alive { OnOk result (self.old.spent ≡ false) × OnOk result (self.new.spent ≡ false) }
+        ensures spent { OnErr result ((self.new.spent ≡ true) × IsLeftOver self.old.state self.new.state) }
+    {
+        if self.spent {
+            return Err(AllocError);
+        }
+        process(&envelope.from);
+        self.state.process();
+        match self.state.receive(alloc, envelope) {
+            Ok(actions) => {
+                self.state.membership.invariant();
+                sendable(self.state.membership.gossip());
+                Ok(actions)
+            }
+            Err(error) => {
+                let membership = &mut self.state.membership;
+                membership.forget(alloc);
                 self.spent = true;
                 Err(error)
             }

@@ -209,6 +209,7 @@ fn is_gossip_of_nobody(message: &Message) -> bool {
 fn answers_with_nobody(actions: &Actions, from: &Unique, to: &Unique) -> bool {
     match actions.as_slice() {
         [Action::Send(envelope)] => {
+            let envelope = envelope.get();
             goes(envelope, from, to) && is_gossip_of_nobody(&envelope.message)
         }
         _ => false,

@@ -283,7 +283,7 @@ fn print_action(
     ensures { OnOk result (out.new.items ≡ out.old.items ++ text.action_text gossip.now number action.now) }
 {
     match action {
-        Action::Send(envelope) => print_send(number, envelope, out),
+        Action::Send(envelope) => print_send(number, envelope.get(), out),
         Action::Update(update, effects) => {
             print_bytes(b"update ", out)?;
             print_number(*update, out)?;

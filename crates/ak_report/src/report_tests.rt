@@ -5,18 +5,19 @@ use crate::report::{print_actions, print_effects, print_members, print_tombstone
 use ak_address::{Unique, Uniques, parse_address, parse_unique};
 use ak_gossip::Gossip;
 use ak_member::{Effect, Effects, Members, Standing, Status};
-use ak_wire::{Action, Actions, Envelope, Message};
+use ak_wire::{Action, Actions, Envelope, Message, SharedEnvelope};
 use std::alloc::Global;
 use std::test::Fail;
 
 // A packet that asks for membership.
 fn asking(alloc: Global, to: &[u8], uid: u64) -> Result<Action, Fail> {
-    Ok(Action::Send(Envelope {
+    let envelope = Envelope {
         from: parse_unique(alloc, b"a:1#1").map_err(|_| "no unique")?,
         to: parse_address(alloc, to).map_err(|_| "no address")?,
         uid,
         message: Message::Join,
-    }))
+    };
+    Ok(Action::Send(SharedEnvelope::of(alloc, envelope)?))
 }
 
 // One action of each kind, and two packets.

@@ -1,9 +1,5 @@
 -- What nodes say to each other, by its names, and what of it a node's actions send.
-use Rattle.std.specs.Coded.{Coded, coded_ℕ}
-use Rattle.std.specs.FinMap as finmap
 use Rattle.std.specs.Prelude.{ℕ, Bool, true, false, List, [], ◌∷◌, Option, None, Some, codes}
-use Rattle.ak_address.specs.Unique.{coded_unique}
-use Rattle.ak_clock.specs.Version.{Counts}
 use Rattle.ak_gossip.specs.Gossip.{GossipState}
 use Rattle.ak_member.specs.declared.effect.Effect.{Effect}
 use Rattle.ak_wire.specs.declared.envelope.Envelope.{Envelope}
@@ -11,10 +7,6 @@ use Rattle.ak_wire.specs.declared.envelope.Message.{Message}
 use Rattle.ak_wire.specs.declared.envelope.Message as message
 use Rattle.ak_wire.specs.declared.action.Action.{Action}
 use Rattle.ak_wire.specs.declared.action.Action.TheVariants.{Send, Update, View, Settled, MarginEnd, Refused, Dead, Stopped}
-
--- counts are stored as the map that they are
-abbrev pub coded_counts : Coded Counts
-coded_counts = finmap.code coded_unique coded_ℕ
 
 -- the name of a message's kind
 abbrev pub kind_text : Message → List ℕ

@@ -1,7 +1,7 @@
 ghost use Rattle.std.specs.Prelude.{◌≡◌, [], ◌∷◌, ◌++◌, length, slice_get, OnOk, OnErr};
 ghost use Rattle.std.specs.Option.{option_copied};
 
-use crate::envelope::Envelope;
+use crate::shared::SharedEnvelope;
 use ak_address::Unique;
 use ak_member::Effects;
 use std::alloc::{AllocError, Global};
@@ -11,7 +11,7 @@ use std::marker::Model;
 #[derive(Drop)]
 pub enum Action {
     /// It sends a packet.
-    Send(Envelope),
+    Send(SharedEnvelope),
     /// It makes an update: the number of it among the node's own, and its effects.
     Update(u64, Effects),
     /// What it knows has another version than before the step.
@@ -44,7 +44,7 @@ impl Model for Actions {
     ghost use Rattle.ak_gossip.specs.Gossip.{coded_gossip};
     ghost use Rattle.ak_member.specs.View.{coded_uniques};
     ghost use Rattle.ak_promise.specs.Ballot.{coded_ballot};
-    ghost use Rattle.ak_wire.specs.Wire.{coded_counts};
+    ghost use Rattle.ak_wire.specs.Stored.{coded_counts};
 
     ghost Value = { List Action };
 

@@ -1,4 +1,4 @@
-ghost use Rattle.std.specs.Prelude.{◌≡◌, IfOk};
+ghost use Rattle.std.specs.Prelude.{◌≡◌};
 ghost use Rattle.ak_wire.specs.Wire.{kind_text};
 
 use crate::reports::Reports;
@@ -6,7 +6,6 @@ use ak_address::{Address, Text, Unique};
 use ak_clock::Version;
 use ak_gossip::Gossip;
 use ak_promise::Ballot;
-use std::alloc::{AllocError, Global};
 
 /// What one node says to another: one variant for each kind of datagram, in the order of the kinds, 1 to 25, with the fields of
 /// its body.
@@ -97,79 +96,6 @@ impl Message {
             Message::Offer(_, _) => b"offer",
         }
     }
-
-    /// An equal message. Only memory can fail.
-    pub fn copy(&self, alloc: Global) -> Result<Message, AllocError>
-        ensures { IfOk result (λ copy. copy ≡ self.now) }
-    {
-        match self {
-            Message::Join => Ok(Message::Join),
-            Message::Welcome(gossip) => Ok(Message::Welcome(gossip.copy(alloc)?)),
-            Message::Gossip(gossip) => Ok(Message::Gossip(gossip.copy(alloc)?)),
-            Message::Heartbeat => Ok(Message::Heartbeat),
-            Message::HeartbeatReply => Ok(Message::HeartbeatReply),
-            Message::ExitingConfirmed => Ok(Message::ExitingConfirmed),
-            Message::Ask(ballot) => Ok(Message::Ask(ballot.copy(alloc)?)),
-            Message::Granted(ballot, version, reports) => {
-                let ballot = ballot.copy(alloc)?;
-                let version = version.copy(alloc)?;
-                let reports = reports.copy(alloc)?;
-                Ok(Message::Granted(ballot, version, reports))
-            }
-            Message::Busy(ballot, holder) => {
-                let ballot = ballot.copy(alloc)?;
-                let holder = holder.copy(alloc)?;
-                Ok(Message::Busy(ballot, holder))
-            }
-            Message::Old(ballot, last) => {
-                let ballot = ballot.copy(alloc)?;
-                let last = last.copy(alloc)?;
-                Ok(Message::Old(ballot, last))
-            }
-            Message::HandOverToMe(ballot) => Ok(Message::HandOverToMe(ballot.copy(alloc)?)),
-            Message::HandOverDone(ballot, version) => {
-                let ballot = ballot.copy(alloc)?;
-                let version = version.copy(alloc)?;
-                Ok(Message::HandOverDone(ballot, version))
-            }
-            Message::Release(ballot, version) => {
-                let ballot = ballot.copy(alloc)?;
-                let version = version.copy(alloc)?;
-                Ok(Message::Release(ballot, version))
-            }
-            Message::GetHome(ballot, shard) => Ok(Message::GetHome(ballot.copy(alloc)?, *shard)),
-            Message::Home(ballot, shard, owner) => {
-                let ballot = ballot.copy(alloc)?;
-                let owner = owner.copy(alloc)?;
-                Ok(Message::Home(ballot, *shard, owner))
-            }
-            Message::HostShard(ballot, shard, number) => {
-                Ok(Message::HostShard(ballot.copy(alloc)?, *shard, *number))
-            }
-            Message::ShardStarted(ballot, shard, number) => {
-                Ok(Message::ShardStarted(ballot.copy(alloc)?, *shard, *number))
-            }
-            Message::BeginHandOff(ballot, shard, number) => {
-                Ok(Message::BeginHandOff(ballot.copy(alloc)?, *shard, *number))
-            }
-            Message::BeginHandOffAck(ballot, shard, number) => {
-                Ok(Message::BeginHandOffAck(ballot.copy(alloc)?, *shard, *number))
-            }
-            Message::HandOff(ballot, shard, number) => {
-                Ok(Message::HandOff(ballot.copy(alloc)?, *shard, *number))
-            }
-            Message::ShardStopped(ballot, shard, number) => {
-                Ok(Message::ShardStopped(ballot.copy(alloc)?, *shard, *number))
-            }
-            Message::Forward(entity, payload) => Ok(Message::Forward(
-                entity.copy(alloc)?,
-                *payload,
-            )),
-            Message::Leave(who) => Ok(Message::Leave(who.copy(alloc)?)),
-            Message::Down(who) => Ok(Message::Down(who.copy(alloc)?)),
-            Message::Offer(entity, payload) => Ok(Message::Offer(entity.copy(alloc)?, *payload)),
-        }
-    }
 }
 
 /// A message with its sender and its receiver. A uid of 0 means any process at the address.
@@ -179,21 +105,4 @@ pub struct Envelope {
     pub to: Address,
     pub uid: u64,
     pub message: Message,
-}
-
-impl Envelope {
-    /// An equal envelope. Only memory can fail.
-    pub fn copy(&self, alloc: Global) -> Result<Envelope, AllocError>
-        ensures { IfOk result (λ copy. copy ≡ self.now) }
-    {
-        let from = self.from.copy(alloc)?;
-        let to = self.to.copy(alloc)?;
-        let message = self.message.copy(alloc)?;
-        Ok(Envelope {
-            from,
-            to,
-            uid: self.uid,
-            message,
-        })
-    }
 }

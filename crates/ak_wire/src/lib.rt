@@ -12,6 +12,7 @@ mod measuring;
 mod packet;
 mod reading;
 mod reports;
+mod shared;
 mod writing;
 
 pub use action::{Action, Actions};
@@ -24,4 +25,5 @@ pub use laws::{
 pub use packet::Packet;
 pub use reading::decode;
 pub use reports::Reports;
+pub use shared::SharedEnvelope;
 pub use writing::encode;

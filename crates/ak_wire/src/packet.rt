@@ -2,16 +2,17 @@ ghost use Rattle.std.specs.Prelude.{◌≡◌, IfOk};
 ghost use Rattle.ak_wire.specs.Datagram.{IsValid, Spells};
 
 use crate::envelope::Envelope;
+use crate::shared::SharedEnvelope;
 use crate::writing::encode;
 use std::alloc::{AllocError, Global};
 use std::marker::Model;
 
 /// A packet that was sent: an envelope that has a spelling as bytes (an invariant of the type). Contracts see the envelope.
-/// The bytes are made when they are asked for: a gossip in the envelope shares its tables with whoever sent it, and bytes
-/// would not.
+/// The bytes are made when they are asked for: the envelope is shared with the action that sent it, and its gossip with whoever
+/// knew it then; bytes would not be.
 #[derive(Drop)]
 pub struct Packet {
-    envelope: Envelope,
+    envelope: SharedEnvelope,
 }
 
 impl Model for Packet {
@@ -20,7 +21,7 @@ impl Model for Packet {
     ghost use Rattle.ak_gossip.specs.Gossip.{coded_gossip};
     ghost use Rattle.ak_member.specs.View.{coded_uniques};
     ghost use Rattle.ak_promise.specs.Ballot.{coded_ballot};
-    ghost use Rattle.ak_wire.specs.Wire.{coded_counts};
+    ghost use Rattle.ak_wire.specs.Stored.{coded_counts};
     ghost use Rattle.ak_wire.specs.Datagram.{IsValid};
     ghost use Rattle.ak_wire.specs.declared.envelope.Envelope.{Envelope};
 
@@ -34,12 +35,12 @@ impl Model for Packet {
 }
 
 impl Packet {
-    /// The packet of a valid envelope, of which it keeps a copy. Only memory can fail.
-    pub fn of(alloc: Global, envelope: &Envelope) -> Result<Packet, AllocError>
+    /// The packet of a valid envelope, which it shares. It fails only as `share` does.
+    pub fn of(envelope: &SharedEnvelope) -> Result<Packet, AllocError>
         requires { IsValid envelope.now }
         ensures { IfOk result (λ packet. packet ≡ envelope.now) }
     {
-        let envelope = envelope.copy(alloc)?;
+        let envelope = envelope.share()?;
         Ok(Packet { envelope })
     }
 
@@ -47,13 +48,13 @@ impl Packet {
     pub fn envelope(&self) -> &Envelope
         ensures { result.now ≡ self.now }
     {
-        &self.envelope
+        self.envelope.get()
     }
 
     /// Its bytes: the one spelling of its envelope, which `decode` reads again. Only memory can fail.
     pub fn bytes(&self, alloc: Global) -> Result<Vec<u8>, AllocError>
         ensures { IfOk result (λ bytes. Spells bytes.items self.now) }
     {
-        encode(alloc, &self.envelope)
+        encode(alloc, self.envelope.get())
     }
 }

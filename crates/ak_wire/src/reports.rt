@@ -1,7 +1,6 @@
-ghost use Rattle.std.specs.Prelude.{◌≡◌, IfOk};
+ghost use Rattle.std.specs.Prelude.{◌≡◌};
 
 use ak_shard_id::Report;
-use std::alloc::{AllocError, Global};
 use std::marker::Model;
 
 /// What a node reports of its shards, in the order in which it says it.
@@ -35,13 +34,5 @@ impl Reports {
         ensures { result.now ≡ self.now }
     {
         &self.list
-    }
-
-    /// Equal reports. Only memory can fail.
-    pub fn copy(&self, alloc: Global) -> Result<Reports, AllocError>
-        ensures { IfOk result (λ copy. copy ≡ self.now) }
-    {
-        let list = Vec::from_slice(alloc, &self.list)?;
-        Ok(Reports { list })
     }
 }

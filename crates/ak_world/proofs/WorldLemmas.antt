@@ -1,6 +1,6 @@
 -- Lemmas of the definitions of a world: what a list of actions does by parts, how many nodes a run has and how many
 -- events each was given, and which node a process is.
-use Rattle.std.proofs.Common.{◌≡◌, is_ok, OnOk, ℕ, zero, suc, ◌+◌, ◌<◌, ◌≤◌, ◌^◌, leb, ltb, Bool, true, false, cond, not, ◌||◌, List, [], ◌∷◌, ◌++◌, set, length, Option, Some, None, is_some, option_map, position, slice_get, Result, Ok, Err, IsTrue, if◌then◌else◌, refl, sym, ap, ◌∙◌, subst, arith, append_assoc, one-add, le-leb, true≢false, length-append, take, get_or, Contains}
+use Rattle.std.proofs.Common.{◌≡◌, is_ok, IfOk, IfErr, OnOk, ℕ, zero, suc, ◌+◌, ◌<◌, ◌≤◌, ◌^◌, leb, ltb, Bool, true, false, cond, not, ◌||◌, List, [], ◌∷◌, ◌++◌, set, length, Option, Some, None, is_some, option_map, position, slice_get, Result, Ok, Err, IsTrue, if◌then◌else◌, refl, sym, ap, ◌∙◌, subst, arith, append_assoc, one-add, le-leb, true≢false, length-append, take, get_or, get_or-set_same, Contains}
 use Rattle.std.proofs.Math.ListN.{length-set}
 use Rattle.std.proofs.lemmas.Option.{slice_get-map, slice_get-get_or, same_Some}
 use Rattle.std.proofs.lemmas.Bool.{leb-false, lt-leb}
@@ -35,7 +35,7 @@ use Rattle.ak_wire.specs.Wire.{sent, effects_of, envelope_of, put}
 use Rattle.ak_wire.proofs.Sending.{sent-append}
 use Rattle.ak_world.proofs.IndexLemmas.{set_at, push_at}
 use Rattle.ak_world.proofs.WhatHappened.{begins, steps, nobody, IsAnswer, happened}
-use Rattle.ak_world.specs.WorldContracts.{states, IsReady, Went, IsAccepted, Scenes}
+use Rattle.ak_world.specs.WorldContracts.{states, IsReady, Went, Keeps, IsAccepted, Scenes}
 
 -- ---- what actions send and record, by parts
 -- one more action
@@ -204,34 +204,6 @@ state-at xs i n lt is =
     ∙ ap (option_map (λ (m : NodeModel). m.state)) (slice_get-get_or xs i n lt)
     ∙ ap (λ (m : NodeModel). Some m.state) (sym is)
 
--- what a node did with an event is what the world's step says
-pub went-given : (nodes new_nodes : List NodeModel) (packets new_packets : List Envelope) (history new_history : List Entry) (founded : Bool)
-    (index : ℕ) (e : NodeEvent) (n m : NodeModel) (actions : List Action) (u : UniqueModel) (number : Option ℕ) (first : ℕ)
-    → slice_get (states nodes) index ≡ Some n.state → m.state ≡ (step e n.state).0 → actions ≡ (step e n.state).1
-    → new_nodes ≡ set nodes index m → new_packets ≡ packets ++ sent actions → u ≡ me_of m.state → new_history ≡ recorded u actions history
-    → length new_packets < 2 ^ 63 → number ≡ Some index → first ≡ length packets + 1
-    → Went (record { nodes = states nodes; packets = packets; history = history; founded = founded })
-    (gives e index (slice_get (states nodes) index) (record { nodes = states nodes; packets = packets; history = history; founded = founded }))
-    (record { node = number; first_packet = first; actions = actions })
-    (record { nodes = states new_nodes; packets = new_packets; history = new_history; founded = founded })
-went-given nodes new_nodes packets new_packets history new_history founded index e n m actions u number first at state_is actions_are nodes_are packets_are author history_is few number_is first_is =
-    let w : WorldState = record { nodes = states nodes; packets = packets; history = history; founded = founded } in
-    let o = step e n.state in
-    let nodes_eq : states new_nodes ≡ set (states nodes) index o.0 =
-    ap states nodes_are ∙ map-set (λ (x : NodeModel). x.state) nodes index m ∙ ap (λ (x : State). set (states nodes) index x) state_is in
-    let packets_eq : new_packets ≡ packets ++ sent o.1 = packets_are ∙ ap (λ (xs : List Action). packets ++ sent xs) actions_are in
-    let history_eq : new_history ≡ recorded (me_of o.0) o.1 history =
-    history_is ∙ ap (λ (x : UniqueModel). recorded x actions history) (author ∙ ap me_of state_is) ∙ ap (λ (xs : List Action). recorded (me_of o.0) xs history) actions_are in
-    record {
-      done = stepped index o w;
-      happened = ap (λ (x : Option State). gives e index x w) at;
-      world = λ i. record { nodes = nodes_eq i; packets = packets_eq i; history = history_eq i; founded = founded };
-      shown = record { node = number_is; first_packet = first_is; actions = actions_are };
-      numbers =
-          let long : length new_packets ≡ length packets + length (sent actions) = ap length packets_are ∙ length-append packets (sent actions) in
-          omega (arith, long, few, first_is);
-    }
-
 -- what is found is there
 pub position-within : {X : Type 0} (p : X → Bool) (xs : List X) (i : ℕ) → position p xs ≡ Some i → i < length xs
 position-within p xs i h = grind (arith, nat_tests, prefix_len-le-length (λ x. not (p x)) xs)
@@ -258,6 +230,48 @@ ran-out w v a r why accepted is none = subst (λ x. Scenes w a x v) (sym (is ∙
 
 pub given-at : (e : NodeEvent) (index : ℕ) (w : WorldState) (n : State) → slice_get w.nodes index ≡ Some n → IsAccepted (gives e index (slice_get w.nodes index) w)
 given-at e index w n at = (stepped index (step e n) w, ap (λ (o : Option State). gives e index o w) at)
+
+-- the nodes once the one at an index is another, and its state
+pub set-states : (nodes : List NodeModel) (index : ℕ) (m : NodeModel) → states (set nodes index m) ≡ set (states nodes) index m.state
+set-states nodes index m = map-set (λ (x : NodeModel). x.state) nodes index m
+
+pub state-set : (nodes : List NodeModel) (index : ℕ) (m : NodeModel) → index < length nodes → slice_get (states (set nodes index m)) index ≡ Some m.state
+state-set nodes index m lt =
+    let same = length-set nodes index m in
+    state-at (set nodes index m) index m (omega (arith, same, lt)) (sym (get_or-set_same nodes index m m lt))
+
+-- what a node did with an event, and what its actions made of the world then, is what the world's step says
+went-kept : (w u v : WorldState) (index : ℕ) (e : NodeEvent) (n m : State) (actions : List Action) (s : Step)
+    → slice_get w.nodes index ≡ Some n → m ≡ (step e n).0 → actions ≡ (step e n).1 → u ≡ record w { nodes = set w.nodes index m } → Keeps index (me_of m) actions u s v
+    → Went w (gives e index (slice_get w.nodes index) w) s v
+went-kept w u v index e n m actions s at state_is actions_are between kept =
+    let o = step e n in
+    let nodes_eq : v.nodes ≡ set w.nodes index o.0 = kept.nodes ∙ ap (λ (x : WorldState). x.nodes) between ∙ ap (set w.nodes index) state_is in
+    let packets_eq : v.packets ≡ w.packets ++ sent o.1 =
+    kept.packets ∙ ap (λ (x : WorldState). x.packets ++ sent actions) between ∙ ap (λ (xs : List Action). w.packets ++ sent xs) actions_are in
+    let history_eq : v.history ≡ recorded (me_of o.0) o.1 w.history =
+    kept.history ∙ ap (λ (x : WorldState). recorded (me_of m) actions x.history) between ∙ ap (λ (x : State). recorded (me_of x) actions w.history) state_is
+    ∙ ap (λ (xs : List Action). recorded (me_of o.0) xs w.history) actions_are in
+    let founded_eq : v.founded ≡ w.founded = kept.founded ∙ ap (λ (x : WorldState). x.founded) between in
+    record {
+      done = stepped index o w;
+      happened = ap (λ (x : Option State). gives e index x w) at;
+      world = λ i. record { nodes = nodes_eq i; packets = packets_eq i; history = history_eq i; founded = founded_eq i };
+      shown = record { node = kept.node; first_packet = kept.first_packet ∙ ap (λ (x : WorldState). length x.packets + 1) between; actions = kept.actions_shown ∙ actions_are };
+      numbers =
+          let long : length v.packets ≡ length u.packets + length (sent actions) = ap length kept.packets ∙ length-append u.packets (sent actions) in
+          let shows : length (sent s.actions) ≡ length (sent actions) = ap (λ (xs : List Action). length (sent xs)) kept.actions_shown in
+          omega (arith, long, shows, kept.few, kept.first_packet);
+    }
+
+-- the same of both answers: what is not kept ran out of memory
+pub kept-scenes : (w u v : WorldState) (index : ℕ) (e : NodeEvent) (n m : State) (actions : List Action) (r : Result Step Refused)
+    → slice_get w.nodes index ≡ Some n → m ≡ (step e n).0 → actions ≡ (step e n).1 → u ≡ record w { nodes = set w.nodes index m }
+    → IfOk r (λ s. Keeps index (me_of m) actions u s v) → IfErr r (λ why. why ≡ refused.TheVariants.NoMemory)
+    → Scenes w (gives e index (slice_get w.nodes index) w) r v
+kept-scenes w u v index e n m actions (Ok s) at state_is actions_are between kept none = went-kept w u v index e n m actions s at state_is actions_are between kept
+kept-scenes w u v index e n m actions (Err why) at state_is actions_are between kept none =
+    ran-out w v (gives e index (slice_get w.nodes index) w) (Err why) why (given-at e index w n at) refl none
 
 -- which node the code found is which the world names
 pub found-node : (u : UniqueModel) (nodes : List NodeModel) (r o : Option ℕ) → r ≡ position (λ (n : NodeModel). is_process u n.state) nodes → r ≡ o → position (is_process u) (states nodes) ≡ o

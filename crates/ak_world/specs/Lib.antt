@@ -1,6 +1,7 @@
 pub mod Fold
 pub mod Held
 pub mod InRun
+pub mod Kept
 pub mod Margin
 pub mod MarginMark
 pub mod Remembered

@@ -12,8 +12,9 @@ use Rattle.ak_world.specs.declared.world.Refused as refused
 use Rattle.ak_node.specs.declared.node.State.{State}
 use Rattle.ak_node.specs.declared.node.NodeEvent.{NodeEvent}
 use Rattle.ak_node.specs.NodeContracts.{NodeModel}
-use Rattle.ak_world.specs.World.{WorldState, Done, node_of, gives, acts, happens, run}
+use Rattle.ak_world.specs.World.{WorldState, Done, node_of, gives, acts, happens, recorded, run}
 use Rattle.ak_world.specs.Margin.{IsMargin}
+use Rattle.ak_wire.specs.declared.action.Action.{Action}
 use Rattle.ak_wire.specs.Wire.{sent}
 use Rattle.ak_wire.specs.declared.envelope.Envelope.{Envelope}
 use Rattle.ak_wire.specs.Datagram.{Spells}
@@ -46,6 +47,18 @@ pub record Went (old : WorldState) (answer : Result Done Reason) (step : Step) (
   pub world : new ≡ done.world
   pub shown : Shows old step done
   pub numbers : step.first_packet + length (sent step.actions) < 2 ^ 64
+
+-- What the actions of the node at an index make of a world, once the node has done them: each packet that it sends is kept, each
+-- update is recorded as this process's, and the step shows the actions.
+pub record Keeps (index : ℕ) (me : UniqueModel) (actions : List Action) (old : WorldState) (step : Step) (new : WorldState) : Type 0 where
+  pub nodes : new.nodes ≡ old.nodes
+  pub packets : new.packets ≡ old.packets ++ sent actions
+  pub history : new.history ≡ recorded me actions old.history
+  pub founded : new.founded ≡ old.founded
+  pub few : length new.packets < 2 ^ 63
+  pub node : step.node ≡ Some index
+  pub first_packet : step.first_packet ≡ length old.packets + 1
+  pub actions_shown : step.actions ≡ actions
 
 -- An event was refused for this reason, and nothing changed.
 pub record Stayed (old : WorldState) (answer : Result Done Reason) (why : Reason) (new : WorldState) : Type 0 where

@@ -3,6 +3,7 @@
 
 #[cfg(test)]
 mod fold_tests;
+mod kept;
 mod laws;
 #[cfg(test)]
 mod life_tests;

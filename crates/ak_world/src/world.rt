@@ -1,4 +1,4 @@
-ghost use Rattle.std.specs.Prelude.{◌≡◌, ℕ, ◌+◌, ◌-◌, ◌<◌, ◌≤◌, ◌^◌, ◌++◌, ◌∷◌, [], true, false, length, take, slice_get, IfOk, OnOk, OnErr, Option, None, Some, Result, Ok, Err, IsTrue};
+ghost use Rattle.std.specs.Prelude.{◌≡◌, ℕ, ◌+◌, ◌-◌, ◌<◌, ◌≤◌, ◌^◌, ◌++◌, ◌∷◌, [], true, false, length, take, slice_get, IfOk, IfErr, OnOk, OnErr, Option, None, Some, Result, Ok, Err, IsTrue};
 ghost use Rattle.std.specs.Option.{option_copied, option_map};
 ghost use Rattle.ak_wire.specs.Wire.{sent};
 ghost use Rattle.ak_world.specs.World as rules;
@@ -18,10 +18,12 @@ ghost use Rattle.ak_node.specs.declared.node.State.{State};
 ghost use Rattle.ak_world.specs.InRun.{WasStarted, HasStopped, AllServe, RunAlone, IsConfirmed, IsNamedIn, IsSettled, HasNoted};
 ghost use Rattle.ak_world.specs.SettledLine.{WasSettled, IsOverHalf, AreInLine};
 ghost use Rattle.ak_schedule.specs.Settings.{settling_size};
+ghost use Rattle.ak_node.specs.Node as rules_of_nodes;
 ghost use Rattle.ak_node.specs.Sends.{AreValid};
-ghost use Rattle.ak_world.specs.WorldContracts.{AreSpelled, Applies, Scenes, IsReady, Acts, states, state_of};
+ghost use Rattle.ak_world.specs.WorldContracts.{AreSpelled, Applies, Scenes, IsReady, Acts, Keeps, states, state_of};
 ghost use Rattle.ak_node.specs.NodeContracts.{NodeModel};
 
+use crate::kept::KeptEvent;
 use crate::margin::Margin;
 use ak_address::{Address, Unique};
 use ak_history::History;
@@ -294,8 +296,8 @@ impl Scene {
                 actions: Actions::empty(alloc),
             });
         };
-        let envelope = packet.envelope().copy(alloc)?;
-        self.give(alloc, index, NodeEvent::Packet(envelope))
+        let actions = self.nodes[index].receive(alloc, packet.envelope())?;
+        self.keep(alloc, index, actions)
     }
 
     // As many packets were sent as may be.
@@ -340,9 +342,21 @@ impl Scene {
         ensures settings { self.new.settings ≡ self.old.settings }
         ensures scenes { Scenes (state_of self.old) (rules.gives event index (slice_get (state_of self.old).nodes index) (state_of self.old)) result (state_of self.new) }
     {
-        let first_packet = self.next_packet();
         let actions = self.nodes[index].step(alloc, event)?;
-        keep_packets(alloc, actions.as_slice(), &mut self.packets)?;
+        self.keep(alloc, index, actions)
+    }
+
+    // What the node at an index sends and updates is kept.
+    fn keep(&mut self, alloc: Global, index: usize, actions: Actions) -> Result<Step, Refused>
+        requires valid { AreValid actions }
+        requires number { index < 64 }
+        requires index { index < length self.old.nodes.items }
+        ensures settings { self.new.settings ≡ self.old.settings }
+        ensures kept { (n : State) → slice_get (state_of self.old).nodes index ≡ Some n → IfOk result (λ step. Keeps index (rules_of_nodes.me_of n) actions (state_of self.old) step (state_of self.new)) }
+        ensures refused { IfErr result (λ why. why ≡ Refused.NoMemory) }
+    {
+        let first_packet = self.next_packet();
+        keep_packets(actions.as_slice(), &mut self.packets)?;
         keep_entries(
             alloc,
             self.nodes[index].me(),
@@ -427,18 +441,14 @@ fn number_of(index: usize) -> Option<u32>
 }
 
 // What the actions send is kept, each packet once.
-fn keep_packets(
-    alloc: Global,
-    actions: &[Action],
-    packets: &mut Vec<Packet>,
-) -> Result<(), AllocError>
+fn keep_packets(actions: &[Action], packets: &mut Vec<Packet>) -> Result<(), AllocError>
     requires { AreValid actions.now }
     ensures kept { OnOk result (packets.new.items ≡ packets.old.items ++ sent actions.now) }
     ensures numbered { OnOk result (length packets.new.items < 2 ^ 63) }
 {
     'actions: for action in actions {
         if let Action::Send(envelope) = action {
-            packets.push(Packet::of(alloc, envelope)?)?;
+            packets.push(Packet::of(envelope)?)?;
         }
     }
     Ok(())
@@ -482,17 +492,17 @@ impl<T: Drop> From<AllocFailed<T>> for Refused {
 }
 
 // An event is added to the accepted ones. An error leaves them as they were.
-fn keep_event(alloc: Global, event: &Event, accepted: &mut Vec<Event>) -> Result<(), AllocError>
+fn keep_event(alloc: Global, event: &Event, accepted: &mut Vec<KeptEvent>) -> Result<(), AllocError>
     ensures ok { OnOk result (accepted.new.items ≡ accepted.old.items ++ event.now ∷ []) }
     ensures err { OnErr result (accepted.new.items ≡ accepted.old.items) }
 {
-    let kept = event.copy(alloc)?;
+    let kept = KeptEvent::of(alloc, event)?;
     accepted.push(kept)?;
     Ok(())
 }
 
 // How many events there are.
-fn count_of(events: &[Event]) -> u64
+fn count_of(events: &[KeptEvent]) -> u64
     ensures { result ≡ length events.now }
 {
     events.len() as u64
@@ -503,7 +513,7 @@ fn count_of(events: &[Event]) -> u64
 #[derive(Drop)]
 pub struct World {
     scene: Scene,
-    accepted: Vec<Event>,
+    accepted: Vec<KeptEvent>,
     margin: Margin,
     is_spent: bool,
 }
@@ -516,7 +526,7 @@ impl Model for World {
     ghost use Rattle.ak_member.specs.View.{coded_uniques};
     ghost use Rattle.ak_membership.specs.contracts.membership.Membership as membership;
     ghost use Rattle.ak_promise.specs.Ballot.{coded_ballot};
-    ghost use Rattle.ak_wire.specs.Wire.{coded_counts};
+    ghost use Rattle.ak_wire.specs.Stored.{coded_counts};
     ghost use Rattle.ak_world.specs.WorldContracts.{WorldModel, state_of, IsWorld};
 
     ghost Value = { WorldModel };

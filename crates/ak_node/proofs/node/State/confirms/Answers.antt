@@ -10,7 +10,7 @@ use Rattle.ak_node.specs.declared.node.Cover.{Cover}
 use Rattle.ak_node.specs.Node.{to_process, to_each, known}
 use Rattle.ak_node.proofs.SendLemmas.{processes_of, counted_processes, keeps_processes, done_next, done_none, done_all}
 use Rattle.ak_node.proofs.node.State.confirms.Goals as goal
-use Rattle.ak_node.proofs.node.State.confirms.Goals.{in-Some+in_ok-cover+in_ok-push, in_default}
+use Rattle.ak_node.proofs.node.State.confirms.Goals.{in-Some+in_ok-cover+in_ok-around+in_ok-push, in_default}
 
 pub pairs-init : goal.pairs-init
 pairs-init c =
@@ -22,9 +22,9 @@ pairs-preserved c =
     let each : UniqueModel → Action = λ to. to_process c.args.self.now to message.ExitingConfirmed in
     let es = finmap.entries c.members-members.result.now in
     elim c.match-counted_at_pair.branch [
-      | in-Some+in_ok-cover+in_ok-push w ↦
+      | in-Some+in_ok-cover+in_ok-around+in_ok-push w ↦
           done_next each counted_processes keeps_processes es c.pairs.pair w.in-Some.to.now c.pairs.actions c.match-counted_at_pair.actions _ (ap processes_of w.in-Some.ensures)
-          (w.actions-is ∙ (w.in_ok-push.ensures {u = tt}).ok ∙ ap (λ (a : Action). c.pairs.actions ++ a ∷ []) (w.around.ensures ∙ ap (λ (cover : Cover). action.Send (record { from = cover.from; to = cover.to; uid = cover.uid; message = message.ExitingConfirmed })) (w.in_ok-cover.ensures {u = tt}))) c.pairs.invariant
+          (w.actions-is ∙ (w.in_ok-push.ensures {u = tt}).ok ∙ ap (λ (a : Action). c.pairs.actions ++ a ∷ []) ((w.in_ok-around.ensures {u = tt}) ∙ ap (λ (cover : Cover). action.Send (record { from = cover.from; to = cover.to; uid = cover.uid; message = message.ExitingConfirmed })) (w.in_ok-cover.ensures {u = tt}))) c.pairs.invariant
       | in_default w ↦ done_none each counted_processes keeps_processes es c.pairs.pair c.pairs.actions c.match-counted_at_pair.actions _ (ap processes_of w.in_default.ensures) w.actions-is c.pairs.invariant
     ]
 

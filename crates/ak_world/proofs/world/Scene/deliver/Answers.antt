@@ -1,14 +1,51 @@
-use Rattle.std.proofs.Common.{◌≡◌, List, Some, None, position, refl, sym, ap, ◌∙◌}
+use Rattle.std.proofs.Common.{◌≡◌, ◌<◌, List, Some, None, length, position, refl, sym, ap, ◌∙◌, arith, set}
+use Rattle.std.proofs.Math.ListN.{length-set}
 use Rattle.std.proofs.lemmas.Result.{err_from_is_err_and}
 use Rattle.ak_wire.specs.declared.envelope.Envelope.{Envelope}
+use Rattle.ak_node.specs.declared.node.NodeEvent.TheVariants.{Packet}
+use Rattle.ak_node.specs.declared.node.State.{State}
 use Rattle.ak_node.specs.NodeContracts.{NodeModel}
 use Rattle.ak_world.specs.World.{is_reached, numbered}
-use Rattle.ak_world.specs.WorldContracts.{state_of}
-use Rattle.ak_world.proofs.WorldLemmas.{found-receiver, same-answer, ran-out, dead-delivery, delivery, delivery-accepted}
+use Rattle.ak_world.specs.WorldContracts.{state_of, states}
+use Rattle.ak_world.proofs.WorldLemmas.{found-receiver, same-answer, ran-out, dead-delivery, delivery, delivery-accepted, position-within, length-states, state-at, state-set, set-states, kept-scenes}
 use Rattle.ak_world.proofs.world.Scene.deliver.Goals as goal
 
-pub returns-in_err-envelope-clause-scenes : goal.returns-in_err-envelope-clause-scenes
-returns-in_err-envelope-clause-scenes c =
+pub receive-requires : goal.receive-requires
+receive-requires c =
+    let e = c.in-Some.packet.now in
+    let nodes = c.args.self.now.nodes.items in
+    let reached = found-receiver e nodes c.receiver_of.result (Some c.in-Some-receiver_of.index)
+    (c.receiver_of.ensures ∙ ap (λ (f : Envelope). position (λ (n : NodeModel). is_reached f n.state) c.deref-2.result.now) c.envelope.ensures ∙ ap (position (λ (n : NodeModel). is_reached e n.state)) c.deref-2.ensures.value) c.in-Some-receiver_of.is in
+    let among = position-within (is_reached e) (states nodes) c.in-Some-receiver_of.index reached in
+    let same = length-states nodes in
+    let within : c.in-Some-receiver_of.index < length nodes = omega (arith, among, same) in
+    c.requires.ready.few_steps c.in-Some-receiver_of.index c.index_mut.result.now.state (state-at nodes c.in-Some-receiver_of.index c.index_mut.result.now within c.index_mut.ensures.value)
+
+pub keep-requires-clause-index : goal.keep-requires-clause-index
+keep-requires-clause-index c =
+    let e = c.in-Some.packet.now in
+    let nodes = c.args.self.now.nodes.items in
+    let reached = found-receiver e nodes c.receiver_of.result (Some c.in-Some-receiver_of.index)
+    (c.receiver_of.ensures ∙ ap (λ (f : Envelope). position (λ (n : NodeModel). is_reached f n.state) c.deref-2.result.now) c.envelope.ensures ∙ ap (position (λ (n : NodeModel). is_reached e n.state)) c.deref-2.ensures.value) c.in-Some-receiver_of.is in
+    let among = position-within (is_reached e) (states nodes) c.in-Some-receiver_of.index reached in
+    let same = length-states nodes in
+    let within : c.in-Some-receiver_of.index < length nodes = omega (arith, among, same) in
+    let long = length-set nodes c.in-Some-receiver_of.index c.receive.new.self in
+    omega (arith, long, within)
+
+pub keep-requires-clause-number : goal.keep-requires-clause-number
+keep-requires-clause-number c =
+    let e = c.in-Some.packet.now in
+    let nodes = c.args.self.now.nodes.items in
+    let reached = found-receiver e nodes c.receiver_of.result (Some c.in-Some-receiver_of.index)
+    (c.receiver_of.ensures ∙ ap (λ (f : Envelope). position (λ (n : NodeModel). is_reached f n.state) c.deref-2.result.now) c.envelope.ensures ∙ ap (position (λ (n : NodeModel). is_reached e n.state)) c.deref-2.ensures.value) c.in-Some-receiver_of.is in
+    let among = position-within (is_reached e) (states nodes) c.in-Some-receiver_of.index reached in
+    let same = length-states nodes in
+    let within : c.in-Some-receiver_of.index < length nodes = omega (arith, among, same) in
+    omega (arith, among, c.requires.ready.few_nodes)
+
+pub returns-in_err-actions-clause-scenes : goal.returns-in_err-actions-clause-scenes
+returns-in_err-actions-clause-scenes c =
     let packet : numbered c.args.self.now.packets.items c.args.number ≡ Some c.in-Some.packet.now =
     sym (ap (λ (ps : List Envelope). numbered ps c.args.number) c.deref.ensures.value) ∙ sym c.in-Some.ensures in
     let p = err_from_is_err_and c.from_residual.result c.from_residual.ensures.1 in
@@ -26,8 +63,21 @@ returns-in_default-receiver_of-clause-scenes c =
 pub returns-clause-scenes : goal.returns-clause-scenes
 returns-clause-scenes c =
     let e = c.in-Some.packet.now in
+    let nodes = c.args.self.now.nodes.items in
+    let reached = found-receiver e nodes c.receiver_of.result (Some c.in-Some-receiver_of.index)
+    (c.receiver_of.ensures ∙ ap (λ (f : Envelope). position (λ (n : NodeModel). is_reached f n.state) c.deref-2.result.now) c.envelope.ensures ∙ ap (position (λ (n : NodeModel). is_reached e n.state)) c.deref-2.ensures.value) c.in-Some-receiver_of.is in
+    let among = position-within (is_reached e) (states nodes) c.in-Some-receiver_of.index reached in
+    let same = length-states nodes in
+    let within : c.in-Some-receiver_of.index < length nodes = omega (arith, among, same) in
+    let w = state_of c.args.self.now in
+    let index = c.in-Some-receiver_of.index in
+    let m = c.receive.new.self in
     let packet : numbered c.args.self.now.packets.items c.args.number ≡ Some e =
     sym (ap (λ (ps : List Envelope). numbered ps c.args.number) c.deref.ensures.value) ∙ sym c.in-Some.ensures in
-    let reached = found-receiver e c.args.self.now.nodes.items c.receiver_of.result (Some c.in-Some-receiver_of.index)
-    (c.receiver_of.ensures ∙ ap (λ (f : Envelope). position (λ (n : NodeModel). is_reached f n.state) c.deref-2.result.now) c.envelope.ensures ∙ ap (position (λ (n : NodeModel). is_reached e n.state)) c.deref-2.ensures.value) c.in-Some-receiver_of.is in
-    same-answer _ _ _ _ _ (delivery (state_of c.args.self.now) c.args.number e c.in_ok-envelope.envelope c.in-Some-receiver_of.index packet (sym c.is_full-is_full.ensures ∙ c.if-is_full.false) reached (c.in_ok-envelope.ensures ∙ c.envelope-2.ensures)) c.give.ensures.scenes
+    same-answer _ _ _ _ _ (delivery w c.args.number e c.envelope-2.result.now index packet (sym c.is_full-is_full.ensures ∙ c.if-is_full.false) reached c.envelope-2.ensures)
+    (kept-scenes w (record w { nodes = states (set nodes index m) }) _ index (Packet c.envelope-2.result.now) c.index_mut.result.now.state m.state c.in_ok-actions.actions _
+    (state-at nodes index c.index_mut.result.now within c.index_mut.ensures.value)
+    c.in_ok-actions.ensures.ok.state_after c.in_ok-actions.ensures.ok.actions_done
+    (ap (λ (xs : List State). record w { nodes = xs }) (set-states nodes index m))
+    (c.keep.ensures.kept m.state (state-set nodes index m within))
+    c.keep.ensures.refused)
