@@ -5,7 +5,7 @@ ghost use Rattle.ak_address.specs.Changed.{keys_of};
 ghost use Rattle.ak_address.specs.Counters.{counter, with_each};
 ghost use Rattle.ak_address.specs.Uniques.{with_one, in_order};
 ghost use Rattle.ak_member.specs.Standing.{is_member};
-ghost use Rattle.ak_detector.specs.Detector.{silent, watching, heard, ticked};
+ghost use Rattle.ak_detector.specs.Detector.{silent, watching, watch_ring, heard, ticked};
 ghost use Rattle.ak_detector.specs.Sides.{above_pairs};
 
 use crate::ring::{is_ring, watch_ring};
@@ -68,7 +68,8 @@ impl Detector {
     /// Whether it is known, without a look at the counters, that the detector that watches by these members is this one: who
     /// is watched is the ring. No answer but a yes says anything. Takes no memory.
     pub fn watches_already(&self, me: &Unique, members: &Members) -> bool
-        ensures { (deadline : ℕ) → IsTrue result → watching me.now members.now deadline self.now ≡ self.now }
+        ensures same { (deadline : ℕ) → IsTrue result → watching me.now members.now deadline self.now ≡ self.now }
+        ensures ring { IsTrue result → keys_of self.now ≡ watch_ring me.now members.now }
     {
         is_ring(me, members, &self.watched)
     }

@@ -4,6 +4,7 @@ pub mod MayMake
 pub mod MayRise
 pub mod MembershipLemmas
 pub mod MovedLaws
+pub mod RestLemmas
 pub mod RuleLemmas
 pub mod SightLaws
 pub mod Walk

@@ -1,10 +1,13 @@
 -- Words of the contracts of a membership's calls.
-use Rattle.std.specs.Prelude.{◌≡◌, true, false, Result, Ok, Err}
+use Rattle.std.specs.Prelude.{◌≡◌, Bool, true, false, Result, Ok, Err, ⊤}
 use Rattle.std.specs.FinMap as map
 use Rattle.std.specs.Coded.{Coded, coded_ℕ}
+use Rattle.ak_address.specs.Changed.{keys_of}
 use Rattle.ak_address.specs.Unique.{UniqueModel, coded_unique}
 use Rattle.ak_clock.specs.Version.{Counts, Covers}
+use Rattle.ak_detector.specs.Detector.{watch_ring}
 use Rattle.ak_gossip.specs.declared.gossip.Received.{Received}
+use Rattle.ak_gossip.specs.declared.gossip.Received.TheVariants as received
 use Rattle.ak_gossip.specs.declared.gossip.GossipFault.{GossipFault}
 use Rattle.ak_gossip.specs.declared.gossip.GossipFault.TheVariants as gossip
 use Rattle.ak_gossip.specs.Gossip.{GossipState, is_known, receive}
@@ -15,7 +18,8 @@ use Rattle.ak_membership.specs.declared.change.Closing.{Closing}
 use Rattle.ak_membership.specs.declared.change.MemberFault.{MemberFault}
 use Rattle.ak_membership.specs.declared.change.MemberFault.TheVariants.{NotUp, UnknownMember, NotMember, Unlisted, ForeignCount, TooManyUniques, NoMemory}
 use Rattle.ak_membership.specs.declared.state.MembershipState.{MembershipState}
-use Rattle.ak_membership.specs.Membership.{Outcome, started, knowing}
+use Rattle.ak_membership.specs.Membership.{Outcome, started, knowing, is_gone}
+use Rattle.ak_membership.specs.Closing.{is_noted}
 
 -- the version that was last shown is stored as its counts
 abbrev pub coded_counts : Coded Counts
@@ -39,6 +43,26 @@ pub record IsMembership (m : MembershipState) : Type 0 where
 -- remove a member.
 abbrev pub IsWatching : MembershipState → Type 0
 IsWatching m = (who : UniqueModel) → map.contains_key m.detector who ≡ true → is_member m.gossip.view.standings who ≡ true
+
+-- A closing would find nothing due: the version of what is known was shown, it does not show the node as gone, no settled view is
+-- to be noted, and whom the node watches is its ring.
+pub record IsAtRest (m : MembershipState) : Type 0 where
+  pub shown : m.shown ≡ m.gossip.version
+  pub here : is_gone m ≡ false
+  pub noted : is_noted m ≡ false
+  pub ring : keys_of m.detector ≡ watch_ring m.me m.gossip.view.standings
+
+-- a membership of which it is kept whether it is at rest
+abbrev pub RestsIf : Bool → MembershipState → Type 0
+RestsIf at_rest m = at_rest ≡ true → IsAtRest m
+
+-- A gossip that was received so leaves what is known at rest: it knew no more, and if both knew the same, no settled view is to be
+-- noted though more members have seen it.
+abbrev pub LeavesAtRest : Received → MembershipState → Type 0
+LeavesAtRest received.Same m = is_noted m ≡ false
+LeavesAtRest received.Newer m = ⊥
+LeavesAtRest received.Older m = ⊤
+LeavesAtRest received.Merged m = ⊥
 
 -- whatever a rule answers, it is the same process with the same settings
 pub record IsSameProcess (old new : MembershipState) : Type 0 where

@@ -3,6 +3,7 @@
 #![tactic(auto)]
 
 mod change;
+mod closing;
 mod laws;
 mod lost;
 mod members;

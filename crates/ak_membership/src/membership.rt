@@ -23,10 +23,12 @@ use std::marker::Model;
 #[derive(Drop)]
 pub struct Membership {
     state: MembershipState,
+    // It is known that a closing would find nothing due, so that none need look.
+    at_rest: bool,
 }
 
 impl Model for Membership {
-    ghost use Rattle.ak_membership.specs.MembershipContracts.{IsMembership, coded_counts};
+    ghost use Rattle.ak_membership.specs.MembershipContracts.{IsMembership, RestsIf, coded_counts};
     ghost use Rattle.ak_membership.specs.declared.state.MembershipState.{MembershipState};
     ghost use Rattle.std.specs.Coded.{codes};
     ghost use Rattle.ak_address.specs.Unique.{coded_address, coded_unique};
@@ -42,7 +44,7 @@ impl Model for Membership {
 
     ghost view = { λ m. m.state };
 
-    ghost invariant = { λ m. IsMembership m.state };
+    ghost invariant = { λ m. IsMembership m.state × RestsIf m.at_rest m.state };
 }
 
 impl Membership {
@@ -52,7 +54,10 @@ impl Membership {
     {
         let settings = settings.copy(alloc)?;
         let state = nothing(alloc, me, settings);
-        Ok(Membership { state })
+        Ok(Membership {
+            state,
+            at_rest: false,
+        })
     }
 
     /// The node founds the cluster: it becomes its first member, where its view does not know it yet (this project's choice;
@@ -63,6 +68,7 @@ impl Membership {
         ensures err { OnErr result (self.new ≡ self.old) }
         ensures same { IsSameProcess self.old self.new }
     {
+        self.at_rest = false;
         self.state.found(alloc)
     }
 
@@ -95,6 +101,7 @@ impl Membership {
         ensures answers { Answers (IsAccepted (rules.on_join from.now self.old)) (rules.on_join from.now self.old) self.old result self.new }
         ensures same { IsSameProcess self.old self.new }
     {
+        self.at_rest = false;
         self.state.on_join(alloc, from)
     }
 
@@ -106,7 +113,7 @@ impl Membership {
         ensures answers { Answers (Unit {0}) (rules.on_gossip incoming.now self.old) self.old result self.new }
         ensures same { IsSameProcess self.old self.new }
     {
-        self.state.on_gossip(alloc, incoming)
+        self.state.on_gossip(alloc, incoming, &mut self.at_rest)
     }
 
     /// The node is asked that a member leaves, and an Up one does (Akka's Cluster Specification, "Leaving"). Refused, in this
@@ -116,6 +123,7 @@ impl Membership {
         ensures answers { Answers (IsAccepted (rules.leave who.now self.old)) (rules.leave who.now self.old) self.old result self.new }
         ensures same { IsSameProcess self.old self.new }
     {
+        self.at_rest = false;
         self.state.leave(alloc, who)
     }
 
@@ -126,6 +134,7 @@ impl Membership {
         ensures answers { Answers (IsAccepted (rules.down who.now self.old)) (rules.down who.now self.old) self.old result self.new }
         ensures same { IsSameProcess self.old self.new }
     {
+        self.at_rest = false;
         self.state.down(alloc, who)
     }
 
@@ -137,6 +146,7 @@ impl Membership {
         ensures err { OnErr result (self.new ≡ self.old) }
         ensures same { IsSameProcess self.old self.new }
     {
+        self.at_rest = false;
         self.state.on_confirmed(alloc, from)
     }
 
@@ -162,7 +172,9 @@ impl Membership {
         ensures err { OnErr result (self.new ≡ self.old) }
         ensures same { IsSameProcess self.old self.new }
     {
-        self.state.tick(alloc)
+        let change = self.state.tick(alloc)?;
+        self.at_rest = self.at_rest && change.number.is_none();
+        Ok(change)
     }
 
     /// To whom the node gossips now, chosen by a word; none where it does not: it gossips at every third tick, and while fewer
@@ -183,13 +195,19 @@ impl Membership {
         ensures err { OnErr result (self.new ≡ self.old) }
         ensures same { IsSameProcess self.old self.new }
     {
-        self.state.close(alloc, stopping)
+        if self.at_rest && !stopping {
+            return Ok(self.state.close_at_rest());
+        }
+        let (due, at_rest) = self.state.close(alloc, stopping)?;
+        self.at_rest = at_rest;
+        Ok(due)
     }
 
     /// Forgets all but the process and its settings: it is as one that starts. Takes no memory.
     pub fn forget(&mut self, alloc: Global)
         ensures { self.new ≡ rules.started self.old.me self.old.settings }
     {
+        self.at_rest = false;
         self.state.forget(alloc);
     }
 

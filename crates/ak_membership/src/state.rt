@@ -1,27 +1,23 @@
-ghost use Rattle.std.specs.Prelude.{◌≡◌, ◌<◌, ◌^◌, nat_le, [], ◌∷◌, IfOk, OnOk, OnErr, MatchOption, IsTrue, true, false, None, option_copied, if◌then◌else◌};
+ghost use Rattle.std.specs.Prelude.{◌≡◌, ◌<◌, ◌^◌, nat_le, [], ◌∷◌, IfOk, OnOk, OnErr, IsTrue, true, false, None, option_copied, if◌then◌else◌};
 ghost use Rattle.std.specs.FinMap as map;
 ghost use Rattle.ak_address.specs.Uniques.{has};
-ghost use Rattle.ak_clock.specs.Version.{Covers};
-ghost use Rattle.ak_detector.specs.Detector.{watching};
 ghost use Rattle.ak_gossip.specs.Gossip.{MayUpdate, is_known};
 ghost use Rattle.ak_member.specs.Standing as standing;
 ghost use Rattle.ak_schedule.specs.Settings.{is_listed};
-ghost use Rattle.ak_settled.specs.Settled.{version_of, after_note};
 ghost use Rattle.ak_leader.specs.Leader as leads;
-ghost use Rattle.ak_membership.specs.Closing as closing;
 ghost use Rattle.ak_membership.specs.Membership as rules;
-ghost use Rattle.ak_membership.specs.MembershipContracts.{Makes, Answers, IsAccepted, Closes, IsWatching, KnowsItself, Receives, or_no_memory};
+ghost use Rattle.ak_membership.specs.MembershipContracts.{Makes, Answers, IsAccepted, RestsIf, LeavesAtRest, IsWatching, KnowsItself, Receives, or_no_memory};
 ghost use Rattle.ak_membership.specs.Sight.{is_news};
 ghost use Rattle.ak_membership.specs.Tick as ticks;
 
-use crate::change::{Change, Closing, MemberFault, Reply};
+use crate::change::{Change, MemberFault, Reply};
 use crate::lost::{has_lost, lacks, members_among, some_counts};
 use crate::members::{
     downed_beside, has_member_beside, is_down, is_joining, is_known, is_up, joining_addresses,
 };
 use crate::sight::moves;
 use ak_address::{Address, Unique, Uniques};
-use ak_clock::{BOUND, Relation, Version};
+use ak_clock::{BOUND, Version};
 use ak_converge::{converged, settled_by};
 use ak_detector::Detector;
 use ak_downing::{decide, downs};
@@ -102,18 +98,6 @@ fn is_news(received: Received) -> bool
         Received::Newer => true,
         Received::Older => false,
         Received::Merged => true,
-    }
-}
-
-fn is_other(old: &Version, new: &Version) -> bool
-    ensures value { result ≡ closing.is_other old.now new.now }
-    ensures same { result ≡ false → new.now ≡ old.now }
-{
-    match old.compare(new) {
-        Relation::Same => false,
-        Relation::Before => true,
-        Relation::After => true,
-        Relation::Concurrent => true,
     }
 }
 
@@ -339,17 +323,21 @@ impl MembershipState {
         Ok(change)
     }
 
+    // Whether it stays known that all is at rest is kept beside.
     pub(crate) fn on_gossip(
         &mut self,
         alloc: Global,
         incoming: &Gossip,
+        at_rest: &mut bool,
     ) -> Result<Change, MemberFault>
-        ensures { Answers (Unit {0}) (rules.on_gossip incoming.now self.old) self.old result self.new }
+        requires { RestsIf at_rest.old self.old }
+        ensures answers { Answers (Unit {0}) (rules.on_gossip incoming.now self.old) self.old result self.new }
+        ensures rest { RestsIf at_rest.new self.new }
     {
         if !self.is_known_in(incoming) {
             return Ok(unchanged(alloc));
         }
-        match self.receive(alloc, incoming) {
+        match self.receive(alloc, incoming, at_rest) {
             Err(GossipFault::ForeignCount { own, theirs }) => {
                 return Err(MemberFault::ForeignCount { own, theirs });
             }
@@ -357,13 +345,20 @@ impl MembershipState {
                 return Err(MemberFault::TooManyUniques { union });
             }
             Err(GossipFault::NoMemory) => return Err(MemberFault::NoMemory),
-            Ok(received) => return Ok(self.hears(alloc, received, incoming)),
+            Ok(received) => return Ok(self.hears(alloc, received, incoming, *at_rest)),
         }
     }
 
     // Accepts a gossip, unless it is refused. What moves is found beside a copy, which shares all with what was known.
-    fn receive(&mut self, alloc: Global, incoming: &Gossip) -> Result<Received, GossipFault>
-        ensures { Receives incoming.now self.old result self.new }
+    fn receive(
+        &mut self,
+        alloc: Global,
+        incoming: &Gossip,
+        at_rest: &mut bool,
+    ) -> Result<Received, GossipFault>
+        requires { RestsIf at_rest.old self.old }
+        ensures received { Receives incoming.now self.old result self.new }
+        ensures rest { RestsIf at_rest.new self.new }
     {
         let before = match self.gossip.copy(alloc) {
             Ok(before) => before,
@@ -371,12 +366,25 @@ impl MembershipState {
         };
         match self.gossip.receive(alloc, &self.me, incoming) {
             Ok(received) => {
+                *at_rest = *at_rest && self.stays_at_rest(received);
                 if is_news(received) {
                     self.moved = moves(self.moved, &before, &self.gossip);
                 }
                 return Ok(received);
             }
             Err(fault) => return Err(fault),
+        }
+    }
+
+    // A gossip that was received so leaves all at rest.
+    fn stays_at_rest(&self, received: Received) -> bool
+        ensures { IsTrue result → LeavesAtRest received self.now }
+    {
+        match received {
+            Received::Same => !self.is_noted(),
+            Received::Newer => false,
+            Received::Older => true,
+            Received::Merged => false,
         }
     }
 
@@ -389,15 +397,16 @@ impl MembershipState {
 
     // What is answered to a gossip that was accepted. Its sender is answered with what the node knows then, but where both
     // know the same and the sender knows that the node does; a node that is Down or a tombstone then answers nobody (this
-    // project's choice).
-    fn hears(&self, alloc: Global, received: Received, incoming: &Gossip) -> Change
+    // project's choice). One at rest is neither.
+    fn hears(&self, alloc: Global, received: Received, incoming: &Gossip, at_rest: bool) -> Change
+        requires { RestsIf at_rest self.now }
         ensures { result ≡ (rules.hears (has incoming.now.seen self.now.me) received self.now).1 }
     {
         let mut change = unchanged(alloc);
         if received == Received::Same && incoming.seen().contains(&self.me) {
             return change;
         }
-        if self.is_gone() {
+        if !at_rest && self.is_gone() {
             return change;
         }
         change.reply = Reply::Gossip;
@@ -435,7 +444,7 @@ impl MembershipState {
         self.settings.settling() <= joining_addresses(self.gossip.members())
     }
 
-    fn has_settled(&self) -> bool
+    pub(crate) fn has_settled(&self) -> bool
         ensures { result ≡ ticks.has_settled self.now }
     {
         self.gossip.invariant();
@@ -668,43 +677,6 @@ impl MembershipState {
         seen < members && seen < members - seen
     }
 
-    // A settled view is to be noted.
-    fn is_noted(&self) -> bool
-        ensures { result ≡ closing.is_noted self.now }
-    {
-        if self.settled.exists() && !is_other(self.settled.version(), self.gossip.version()) {
-            return false;
-        }
-        self.has_settled()
-    }
-
-    // Notes the settled view, where it is to be noted. An error leaves it as it was.
-    fn note(&mut self, alloc: Global, settled: bool) -> Result<(), AllocError>
-        requires { Covers self.old.gossip.version (version_of self.old.settled.view) }
-        ensures ok { OnOk result (self.new ≡ record self.old { settled = if settled then after_note self.old.gossip.version self.old.gossip.view.standings self.old.settled else self.old.settled }) }
-        ensures err { OnErr result (self.new ≡ self.old) }
-    {
-        if settled {
-            return self
-                .settled
-                .note(alloc, self.gossip.version(), self.gossip.members());
-        }
-        Ok(())
-    }
-
-    // The detector that watches by what is known now, where it is another.
-    fn watching(&self, alloc: Global) -> Result<Option<Detector>, AllocError>
-        ensures { IfOk result (λ detector. MatchOption detector (watching self.now.me self.now.gossip.view.standings self.now.settings.deadline self.now.detector ≡ self.now.detector) (λ other. other ≡ watching self.now.me self.now.gossip.view.standings self.now.settings.deadline self.now.detector)) }
-    {
-        let members = self.gossip.members();
-        if self.detector.watches_already(&self.me, members) {
-            return Ok(None);
-        }
-        let deadline = self.settings.deadline;
-        let detector = self.detector.watching(alloc, &self.me, members, deadline)?;
-        Ok(Some(detector))
-    }
-
     pub(crate) fn forget(&mut self, alloc: Global)
         ensures { self.new ≡ rules.started self.old.me self.old.settings }
     {
@@ -718,45 +690,5 @@ impl MembershipState {
         self.detector = Detector::new(alloc);
         self.confirmed = Uniques::empty(alloc);
         self.settled = Settled::none(alloc);
-    }
-
-    // The version that is shown from now on, where it is another.
-    fn newly_shown(&self, alloc: Global, viewed: bool) -> Result<Option<Version>, AllocError>
-        requires { viewed ≡ false → self.now.gossip.version ≡ self.now.shown }
-        ensures { IfOk result (λ shown. MatchOption shown (self.now.gossip.version ≡ self.now.shown) (λ version. version ≡ self.now.gossip.version)) }
-    {
-        if !viewed {
-            return Ok(None);
-        }
-        let version = self.gossip.version().copy(alloc)?;
-        Ok(Some(version))
-    }
-
-    pub(crate) fn close(&mut self, alloc: Global, stopping: bool) -> Result<Closing, AllocError>
-        requires { Covers self.old.gossip.version (version_of self.old.settled.view) }
-        ensures ok { IfOk result (λ due. Closes (closing.close stopping self.old) self.new due) }
-        ensures err { OnErr result (self.new ≡ self.old) }
-    {
-        let viewed = is_other(&self.shown, self.gossip.version());
-        let stopped = stopping || self.is_gone();
-        let settled = !stopped && self.is_noted();
-        let shown = self.newly_shown(alloc, viewed)?;
-        let detector = self.watching(alloc)?;
-        self.note(alloc, settled)?;
-        if let Some(detector) = detector {
-            self.detector = detector;
-        }
-        if let Some(shown) = shown {
-            self.shown = shown;
-        }
-        if self.moved {
-            self.stable = 0;
-            self.moved = false;
-        }
-        Ok(Closing {
-            viewed,
-            stopped,
-            settled,
-        })
     }
 }

@@ -1,11 +1,18 @@
-use Rattle.std.proofs.Common.{subst}
-use Rattle.ak_membership.specs.declared.state.MembershipState.{MembershipState}
-use Rattle.ak_membership.specs.MembershipContracts.{IsSameProcess}
-use Rattle.ak_membership.proofs.MembershipLemmas.{closed_keeps, closed_same}
+use Rattle.std.proofs.Common.{false, sym, subst}
+use Rattle.ak_membership.specs.MembershipContracts.{IsMembership, IsAtRest}
+use Rattle.ak_membership.proofs.MembershipLemmas.{close_keeps}
+use Rattle.ak_membership.proofs.RestLemmas.{rests_closed_again}
 use Rattle.ak_membership.proofs.membership.Membership.close.Goals as goal
 
 pub invariant_of-self : goal.invariant_of-self
-invariant_of-self c = closed_keeps c.self.inside.state c.close.new.self c.self.invariant c.args.stopping c.close.result c.close.ensures.ok c.close.ensures.err
+invariant_of-self c =
+    let closed = c.close_at_rest.ensures.state_after in (
+      subst IsMembership (sym closed) (close_keeps false c.self.inside.state c.self.invariant.0),
+      λ rests. subst IsAtRest (sym closed) (rests_closed_again c.self.inside.state (c.self.invariant.1 rests)),
+    )
 
-pub returns-clause-same : goal.returns-clause-same
-returns-clause-same c = subst (λ (m : MembershipState). IsSameProcess m c.close.new.self) c.self.view_is (closed_same c.self.inside.state c.close.new.self c.args.stopping c.close.result c.close.ensures.ok c.close.ensures.err)
+pub invariant_of-self-2 : goal.invariant_of-self-2
+invariant_of-self-2 c = (
+  subst IsMembership (sym (c.in_ok-due.ensures {u = tt}).ok.state_after) (close_keeps c.args.stopping c.self.inside.state c.self.invariant.0),
+  (c.in_ok-due.ensures {u = tt}).rest,
+)

@@ -1,4 +1,4 @@
-use Rattle.std.proofs.Common.{subst, true, None, refl}
+use Rattle.std.proofs.Common.{subst, true, None, refl, sym, true≢false}
 use Rattle.ak_membership.specs.Membership.{found}
 use Rattle.ak_membership.specs.declared.state.MembershipState.{MembershipState}
 use Rattle.ak_membership.specs.MembershipContracts.{IsSameProcess}
@@ -7,8 +7,10 @@ use Rattle.ak_membership.proofs.Walk.{found_learns}
 use Rattle.ak_membership.proofs.membership.Membership.found.Goals as goal
 
 pub invariant_of-self : goal.invariant_of-self
-invariant_of-self c =
-    made_keeps c.self.inside.state c.found.new.self c.self.invariant (record { founds = true; asks = None; brings = None }) (found c.self.inside.state) c.found.result (found_learns _ c.self.inside.state refl) c.found.ensures.ok c.found.ensures.err
+invariant_of-self c = (
+  made_keeps c.self.inside.state c.found.new.self c.self.invariant.0 (record { founds = true; asks = None; brings = None }) (found c.self.inside.state) c.found.result (found_learns _ c.self.inside.state refl) c.found.ensures.ok c.found.ensures.err,
+  λ is. absurd (true≢false (sym is)),
+)
 
 pub returns-clause-same : goal.returns-clause-same
 returns-clause-same c = subst (λ (m : MembershipState). IsSameProcess m c.found.new.self) c.self.view_is (made_same c.self.inside.state c.found.new.self (record { founds = true; asks = None; brings = None }) (found c.self.inside.state) c.found.result (found_learns _ c.self.inside.state refl) c.found.ensures.ok c.found.ensures.err)

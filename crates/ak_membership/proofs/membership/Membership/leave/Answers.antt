@@ -1,4 +1,4 @@
-use Rattle.std.proofs.Common.{subst}
+use Rattle.std.proofs.Common.{subst, sym, true≢false}
 use Rattle.ak_membership.specs.Knowledge.{nothing_given}
 use Rattle.ak_membership.specs.declared.state.MembershipState.{MembershipState}
 use Rattle.ak_membership.specs.Membership.{leave}
@@ -8,7 +8,10 @@ use Rattle.ak_membership.proofs.Walk.{leave_learns}
 use Rattle.ak_membership.proofs.membership.Membership.leave.Goals as goal
 
 pub invariant_of-self : goal.invariant_of-self
-invariant_of-self c = answered_keeps c.self.inside.state c.leave.new.self c.self.invariant nothing_given _ _ c.leave.result (leave_learns nothing_given c.self.inside.state c.args.who.now) c.leave.ensures
+invariant_of-self c = (
+  answered_keeps c.self.inside.state c.leave.new.self c.self.invariant.0 nothing_given _ _ c.leave.result (leave_learns nothing_given c.self.inside.state c.args.who.now) c.leave.ensures,
+  λ is. absurd (true≢false (sym is)),
+)
 
 pub returns-clause-answers : goal.returns-clause-answers
 returns-clause-answers c = subst (λ (m : MembershipState). Answers (IsAccepted (leave c.args.who.now m)) (leave c.args.who.now m) m c.leave.result c.leave.new.self) c.self.view_is c.leave.ensures

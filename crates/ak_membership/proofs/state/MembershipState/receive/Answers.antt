@@ -3,8 +3,8 @@ use Rattle.ak_membership.proofs.SightLaws.{received_no_news, received_news}
 use Rattle.ak_membership.proofs.state.MembershipState.receive.Goals as goal
 use Rattle.ak_membership.proofs.state.MembershipState.receive.Goals.{then-is_news, else-is_news}
 
-pub returns-in-Ok-receive : goal.returns-in-Ok-receive
-returns-in-Ok-receive c =
+pub returns-in-Ok-receive-clause-received : goal.returns-in-Ok-receive-clause-received
+returns-in-Ok-receive-clause-received c =
     let heard = c.args.incoming.now in
     let known = c.args.self.now in
     let received = c.in-Ok-receive.received in

@@ -1,0 +1,133 @@
+-- What is at rest stays so, and a closing of it finds nothing due.
+use Rattle.std.proofs.Common.{◌≡◌, ℕ, Bool, true, false, not, ◌&&◌, ◌||◌, if◌then◌else◌, List, [], ◌∷◌, Option, Some, None, is_some, refl, sym, ap, ◌∙◌, subst, true≢false}
+use Rattle.ak_address.specs.Changed.{keys_of}
+use Rattle.ak_address.specs.Counters.{Counters}
+use Rattle.ak_address.specs.Unique.{UniqueModel}
+use Rattle.ak_clock.specs.Version.{Counts, relation_by}
+use Rattle.ak_clock.proofs.VersionLaws.{covers_itself, test_from_covers}
+use Rattle.ak_detector.specs.Detector.{watch_ring, watching, heard, ticked}
+use Rattle.ak_detector.proofs.DetectorLemmas.{keys-heard, keys-ticked}
+use Rattle.ak_detector.proofs.RingLaws.{watches_on}
+use Rattle.ak_member.specs.declared.effect.Effect.{Effect}
+use Rattle.ak_member.specs.declared.effect.Effect.TheVariants.{Observed}
+use Rattle.ak_leader.specs.Leader.{leaders_effects, founding_effects}
+use Rattle.ak_settled.specs.Settled as settled
+use Rattle.ak_settled.specs.Settled.{version_of}
+use Rattle.ak_settled.specs.SettledView.{SettledView, SettledModel}
+use Rattle.ak_membership.specs.declared.change.Closing.{Closing}
+use Rattle.ak_membership.specs.declared.state.MembershipState.{MembershipState}
+use Rattle.ak_membership.specs.Membership.{Outcome, unchanged, made, update, update_any, may_count, is_gone, is_member}
+use Rattle.ak_membership.specs.Tick.{tick, updates, counted, silent, decided, observes, decides, founds, leads, has_settled}
+use Rattle.ak_membership.specs.Closing.{is_other, is_same, is_viewed, stops, is_noted, notes, settled_after, stable_after, close}
+use Rattle.ak_membership.specs.MembershipContracts.{IsAtRest, Closes}
+
+-- ---- what does not look at what is known
+pub rests_heard : (m : MembershipState) (who : UniqueModel) (detector : Counters) → detector ≡ heard who m.detector → IsAtRest m → IsAtRest (record m { detector = detector })
+rests_heard m who detector is rest = record { shown = rest.shown; here = rest.here; noted = rest.noted; ring = ap keys_of is ∙ keys-heard who m.detector ∙ rest.ring }
+
+-- a settled view of which nothing but its counters is another is to be noted where it was
+noted_by : SettledView → Counts → Bool
+noted_by view version = not (is_some view) || is_other (version_of view) version
+
+noted_ticked : (margin : ℕ) (view : SettledView) (version : Counts) → noted_by (settled.ticked margin view) version ≡ noted_by view version
+unfolding noted_by
+noted_ticked margin None version = refl
+noted_ticked margin (Some noted) version = refl
+
+rests_counted : (m : MembershipState) → IsAtRest m → IsAtRest (counted m)
+unfolding noted_by
+rests_counted m rest = record {
+  shown = rest.shown;
+  here = rest.here;
+  noted = ap (λ b. has_settled m && b) (noted_ticked m.settings.margin m.settled.view m.gossip.version) ∙ rest.noted;
+  ring = keys-ticked m.settings.deadline m.detector ∙ rest.ring;
+}
+
+-- nothing is there
+pub none_there : {X : Type 0} (o : Option X) → is_some o ≡ false → o ≡ None
+none_there None is = refl
+none_there (Some x) is = absurd (true≢false is)
+
+-- ---- a tick that makes no update leaves what is known
+update_none : (effects : List Effect) (m : MembershipState) → (update effects m).1.number ≡ None → (update effects m).0 ≡ m
+update_none effects m = by_case (may_count m)
+  where
+    by_case : (b : Bool) → (if b then made effects m else unchanged m).1.number ≡ None → (if b then made effects m else unchanged m).0 ≡ m
+    by_case true none = absurd (true≢false (ap is_some none))
+    by_case false none = refl
+
+update_any_none : (effects : List Effect) (m : MembershipState) → (update_any effects m).1.number ≡ None → (update_any effects m).0 ≡ m
+update_any_none [] m none = refl
+update_any_none (effect ∷ effects) m none = update_none (effect ∷ effects) m none
+
+-- one of two, as a test chooses
+either_none : (b : Bool) (m : MembershipState) (o p : Outcome) → (o.1.number ≡ None → o.0 ≡ m) → (p.1.number ≡ None → p.0 ≡ m) → (if b then o else p).1.number ≡ None → (if b then o else p).0 ≡ m
+either_none true m o p first second none = first none
+either_none false m o p first second none = second none
+
+updates_none : (m : MembershipState) → (updates m).1.number ≡ None → (updates m).0 ≡ m
+updates_none m =
+    either_none (observes m) m _ _ (update_none (Observed (silent m) ∷ []) m)
+    (either_none (decides m) m _ _ (update_none (decided m) m)
+    (either_none (founds m) m _ _ (update_none (founding_effects m.gossip.view.standings) m)
+    (either_none (leads m) m _ _ (update_any_none (leaders_effects m.gossip.view m.confirmed) m) (λ none. refl))))
+
+pub rests_ticked : (m : MembershipState) → (tick m).1.number ≡ None → IsAtRest m → IsAtRest (tick m).0
+rests_ticked m none rest = by_case (is_member m) none
+  where
+    by_case : (b : Bool) → (if b then (counted (updates m).0, (updates m).1) else unchanged m).1.number ≡ None → IsAtRest (if b then (counted (updates m).0, (updates m).1) else unchanged m).0
+    by_case true none = rests_counted (updates m).0 (subst IsAtRest (sym (updates_none m none)) rest)
+    by_case false none = rest
+
+-- ---- closings
+
+-- a version is no other than itself
+no_other : (v : Counts) → is_other v v ≡ false
+no_other v = let itself = test_from_covers v v (covers_itself v) in λ i. not (is_same (relation_by (itself i) (itself i)))
+
+-- a closing of what is at rest
+pub closes_at_rest : (m new : MembershipState) → IsAtRest m → new ≡ record m { stable = stable_after m; moved = false } → (due : Closing) → due ≡ record { viewed = false; stopped = false; settled = false }
+    → Closes (close false m) new due
+closes_at_rest m new rest anew due is = record {
+  state_after = anew ∙ λ i. record m { shown = rest.shown i; stable = stable_after m; moved = false; detector = sym watched i; settled = sym settled_same i };
+  is_due = is ∙ (λ i. record { viewed = sym viewed i; stopped = sym rest.here i; settled = sym none i });
+}
+  where
+    watched : watching m.me m.gossip.view.standings m.settings.deadline m.detector ≡ m.detector
+    watched = watches_on m.me m.gossip.view.standings m.settings.deadline m.detector (keys_of m.detector) refl rest.ring
+
+    none : notes false m ≡ false
+    none = (λ i. not (rest.here i) && is_noted m) ∙ rest.noted
+
+    settled_same : settled_after false m ≡ m.settled
+    settled_same = ap (λ b. if b then settled.after_note m.gossip.version m.gossip.view.standings m.settled else m.settled) none
+
+    viewed : is_viewed m ≡ false
+    viewed = ap (λ (v : Counts). is_other v m.gossip.version) rest.shown ∙ no_other m.gossip.version
+
+-- after a closing at which nothing but the view was due, and the ring was watched already
+module _ (stopping : Bool) (m : MembershipState) where
+  not_either : (a b : Bool) → (a || b) ≡ false → b ≡ false
+  not_either true b is = absurd (true≢false is)
+  not_either false b is = is
+
+  not_both : (a b : Bool) → a ≡ false → (not a && b) ≡ false → b ≡ false
+  not_both true b first is = absurd (true≢false first)
+  not_both false b first is = is
+
+  pub rests_closed : stops stopping m ≡ false → notes stopping m ≡ false → keys_of (close stopping m).0.detector ≡ watch_ring m.me m.gossip.view.standings → IsAtRest (close stopping m).0
+  rests_closed running none ring = record {
+    shown = refl;
+    here = not_either stopping (is_gone m) running;
+    noted = ap (λ (s : SettledModel). has_settled m && (not (is_some s.view) || is_other (version_of s.view) m.gossip.version)) settled_same ∙ not_both (stops stopping m) (is_noted m) running none;
+    ring = ring;
+  }
+    where
+      settled_same : settled_after stopping m ≡ m.settled
+      settled_same = ap (λ b. if b then settled.after_note m.gossip.version m.gossip.view.standings m.settled else m.settled) none
+
+-- a closing of what is at rest leaves it so
+pub rests_closed_again : (m : MembershipState) → IsAtRest m → IsAtRest (close false m).0
+rests_closed_again m rest =
+    rests_closed false m rest.here ((λ i. not (rest.here i) && is_noted m) ∙ rest.noted)
+    (ap keys_of (watches_on m.me m.gossip.view.standings m.settings.deadline m.detector (keys_of m.detector) refl rest.ring) ∙ rest.ring)
