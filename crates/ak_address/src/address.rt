@@ -48,7 +48,7 @@ impl Address {
         ensures value { result ≡ is_eq (address_cmp self.now other.now) }
         ensures meaning { IsTrue result ↔ self.now ≡ other.now }
     {
-        self.port == other.port && self.host.bytes() == other.host.bytes()
+        self.port == other.port && self.host.is(&other.host)
     }
 
     /// An equal address. Only memory can fail.

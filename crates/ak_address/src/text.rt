@@ -1,4 +1,5 @@
-ghost use Rattle.std.specs.Prelude.{◌≡◌, ℕ, List, IfOk};
+ghost use Rattle.std.specs.Prelude.{◌≡◌, ◌↔◌, ℕ, List, IfOk, IsTrue, nat_eq};
+ghost use Rattle.std.specs.Cmp.Lexicographic.{pointwise};
 
 use smallvec::SmallVec;
 use std::alloc::{AllocError, Global};
@@ -33,6 +34,16 @@ impl Text {
         self.letters.as_slice()
     }
 
+    /// Whether both have the same bytes. The last ones are compared first, since names that differ mostly differ there. Takes
+    /// no memory.
+    pub fn is(&self, other: &Text) -> bool
+        ensures value { result ≡ pointwise nat_eq self.now other.now }
+        ensures meaning { IsTrue result ↔ self.now ≡ other.now }
+    {
+        let (mine, others) = (self.bytes(), other.bytes());
+        end_alike(mine, others) && mine == others
+    }
+
     /// An equal text. Only memory can fail.
     pub fn copy(&self, alloc: Global) -> Result<Text, AllocError>
         ensures { IfOk result (λ text. text ≡ self.now) }
@@ -46,5 +57,18 @@ impl Drop for Text {
     fn drop(self) {
         let Text { letters } = self;
         drop(letters);
+    }
+}
+
+// Both have as many bytes, and the same last one.
+fn end_alike(some: &[u8], others: &[u8]) -> bool
+    ensures { some.now ≡ others.now → IsTrue result }
+{
+    if some.len() != others.len() {
+        return false;
+    }
+    match (some.last(), others.last()) {
+        (Some(last), Some(other)) => *last == *other,
+        _ => true,
     }
 }

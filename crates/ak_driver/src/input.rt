@@ -1,10 +1,12 @@
 //! The reading of a schedule, as far as its limits on lines let it go.
 
-ghost use Rattle.std.specs.Prelude.{◌≡◌, ℕ, ◌+◌, ◌≤◌, ◌++◌, ◌∷◌, List, [], false, length, MatchResult, IfOk, IfSome};
+ghost use Rattle.std.specs.Prelude.{◌≡◌, ℕ, ◌+◌, ◌≤◌, ◌==◌, ◌++◌, ◌∷◌, List, [], false, length, MatchResult, IfOk, IfSome, IsTrue};
+ghost use Rattle.std.specs.List.{slice_split};
 ghost use Rattle.std.specs.Bool.{OnFalse};
 ghost use Rattle.ak_driver.specs.InputContracts.{reach, UnreadCause, IsExtent, Reads};
 
 use ak_outside::{Read, Source};
+use ak_schedule::cut;
 use std::alloc::{AllocError, Global};
 
 /// A schedule may have this many lines.
@@ -71,9 +73,39 @@ impl Extent {
         ensures kept { OnFalse self.new.past (self.old.past ≡ false) }
         ensures come { (seen : List ℕ) → IsExtent seen self.old.past self.old.lines self.old.bytes → IsExtent (seen ++ bytes.now) self.new.past self.new.lines self.new.bytes }
     {
-        'bytes: for byte in bytes {
+        let mut rest = bytes;
+        'runs: while let Some((part, after_it)) = cut(rest, b'\n') {
+            self.take_run(part);
+            self.take(b'\n');
+            rest = after_it;
+        }
+        self.take_run(rest);
+    }
+
+    // Some bytes that end no line: at once where they come near no limit, as mostly.
+    fn take_run(&mut self, run: &[u8])
+        requires { slice_split (λ b. b == 10) run.now ≡ run.now ∷ [] }
+        ensures grown { OnFalse self.new.past (reach self.old.lines self.old.bytes + length run.now ≤ reach self.new.lines self.new.bytes) }
+        ensures kept { OnFalse self.new.past (self.old.past ≡ false) }
+        ensures come { (seen : List ℕ) → IsExtent seen self.old.past self.old.lines self.old.bytes → IsExtent (seen ++ run.now) self.new.past self.new.lines self.new.bytes }
+    {
+        if self.has_room(run) {
+            self.bytes += run.len() as u32;
+            return;
+        }
+        'bytes: for byte in run {
             self.take(*byte);
         }
+    }
+
+    // No limit is passed, nor by so many bytes more in this line.
+    fn has_room(&self, run: &[u8]) -> bool
+        ensures { IsTrue result → (self.now.past ≡ false) × (self.now.bytes + length run.now ≤ 4096) }
+    {
+        if self.past || self.lines == MOST_LINES {
+            return false;
+        }
+        run.len() <= MOST_BYTES as usize && self.bytes + run.len() as u32 <= MOST_BYTES
     }
 }
 

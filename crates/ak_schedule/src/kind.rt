@@ -1,4 +1,4 @@
-ghost use Rattle.std.specs.Prelude.{◌≡◌, ◌↔◌, IsTrue, MatchOption};
+ghost use Rattle.std.specs.Prelude.{◌≡◌, ◌↔◌, IsTrue, MatchOption, codes};
 ghost use Rattle.ak_schedule.specs.Kind.{kind_name};
 
 /// What the first word of an event line says.
@@ -19,6 +19,9 @@ pub(crate) enum Kind {
 pub(crate) fn kind_of(word: &[u8]) -> Option<Kind>
     ensures { MatchOption result ((kind : Kind) → word.now ≡ kind_name kind → ⊥) (λ kind. word.now ≡ kind_name kind) }
 {
+    if is_deliver(word) {
+        return Some(Kind::Deliver);
+    }
     if is_text(word, b"start") {
         return Some(Kind::Start);
     }
@@ -30,9 +33,6 @@ pub(crate) fn kind_of(word: &[u8]) -> Option<Kind>
     }
     if is_text(word, b"tick") {
         return Some(Kind::Tick);
-    }
-    if is_text(word, b"deliver") {
-        return Some(Kind::Deliver);
     }
     if is_text(word, b"leave") {
         return Some(Kind::Leave);
@@ -47,6 +47,16 @@ pub(crate) fn kind_of(word: &[u8]) -> Option<Kind>
         return Some(Kind::Stop);
     }
     None
+}
+
+// Most events are deliveries, so that this word is asked for first, and byte by byte.
+fn is_deliver(word: &[u8]) -> bool
+    ensures { IsTrue result ↔ (word.now ≡ codes "deliver") }
+{
+    match word {
+        [b'd', b'e', b'l', b'i', b'v', b'e', b'r'] => true,
+        _ => false,
+    }
 }
 
 /// Whether these are the bytes of the text.

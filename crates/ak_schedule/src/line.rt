@@ -61,8 +61,8 @@ fn begins_comment(line: &[u8]) -> bool
     }
 }
 
-// What stands before the first such byte, and what stands after it.
-fn cut(bytes: &[u8], byte: u8) -> Option<(&[u8], &[u8])>
+/// What stands before the first such byte, and what stands after it. `None` exactly where there is none. Takes no memory.
+pub fn cut(bytes: &[u8], byte: u8) -> Option<(&[u8], &[u8])>
     ensures { MatchOption result
         (slice_split (λ b. b == byte) bytes.now ≡ bytes.now ∷ [])
         (λ parts. IsFirstPart byte bytes.now parts.0.now parts.1.now) }

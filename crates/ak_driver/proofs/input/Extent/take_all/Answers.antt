@@ -1,19 +1,34 @@
-use Rattle.std.proofs.Common.{◌≡◌, false, ◌<◌, ℕ, ◌+◌, ◌++◌, ◌∷◌, [], List, take, get_or, length, subst, sym, ap, ◌∙◌, append_assoc}
-use Rattle.std.proofs.lemmas.List.{take_more}
-use Rattle.ak_driver.specs.InputContracts.{IsExtent, reach}
-use Rattle.ak_driver.proofs.InputLemmas.{grown_more, kept_more}
+use Rattle.std.proofs.Common.{◌∷◌, [], refl, sym, append-nil}
+use Rattle.ak_driver.proofs.InputLemmas.{HasTaken, taken_none, taken_more, taken_all, part_whole}
 use Rattle.ak_driver.proofs.input.Extent.take_all.Goals as goal
 
-pub bytes-preserved : goal.bytes-preserved
-bytes-preserved c = (
-  grown_more c.bytes.self.past c.take.new.self.past (reach c.args.self.now.lines c.args.self.now.bytes) (reach c.bytes.self.lines c.bytes.self.bytes) (reach c.take.new.self.lines c.take.new.self.bytes) c.bytes.byte-index c.bytes.invariant.0 c.take.ensures.kept c.take.ensures.grown,
-  kept_more c.bytes.self.past c.take.new.self.past (c.args.self.now.past ≡ false) c.bytes.invariant.1 c.take.ensures.kept,
-  λ seen h.
-      let now = c.take.new.self in
-      let piece = c.args.bytes.now in
-      let i = c.bytes.byte-index in
-      let within : i < length piece = c.bytes-test.true in
-      let joined : (seen ++ take i piece) ++ get_or piece i 0 ∷ [] ≡ seen ++ take (i + 1) piece =
-      append_assoc seen (take i piece) (get_or piece i 0 ∷ []) ∙ ap (λ (l : List ℕ). seen ++ l) (sym (take_more piece i 0 within)) in
-      subst (λ (l : List ℕ). IsExtent l now.past now.lines now.bytes) joined (c.take.ensures.come (seen ++ take i piece) (c.bytes.invariant.2 seen h)),
-)
+pub runs-init : goal.runs-init
+runs-init c = taken_none c.args.bytes.now c.args.self.now.past c.args.self.now.lines c.args.self.now.bytes
+
+pub take_run-requires : goal.take_run-requires
+take_run-requires c = part_whole c.runs.rest.now c.in-Some.part.now _ c.in-Some.ensures.parts
+
+pub runs-preserved : goal.runs-preserved
+runs-preserved c =
+    let before = c.args.self.now in
+    let here = c.runs.self in
+    let mid = c.take_run.new.self in
+    let after = c.take.new.self in
+    let bytes = c.args.bytes.now in
+    let next = c.in-Some.after_it.now in
+    let taken : HasTaken bytes (10 ∷ next) before.past before.lines before.bytes mid.past mid.lines mid.bytes =
+    taken_more bytes c.runs.rest.now c.in-Some.part.now (10 ∷ next) before.past before.lines before.bytes here.past here.lines here.bytes mid.past mid.lines mid.bytes
+    c.runs.invariant c.in-Some.ensures.whole c.take_run.ensures.grown c.take_run.ensures.kept c.take_run.ensures.come in
+    taken_more bytes (10 ∷ next) (10 ∷ []) next before.past before.lines before.bytes mid.past mid.lines mid.bytes after.past after.lines after.bytes
+    taken refl c.take.ensures.grown c.take.ensures.kept c.take.ensures.come
+
+pub returns-clause-come : goal.returns-clause-come
+returns-clause-come c =
+    let before = c.args.self.now in
+    let here = c.runs.self in
+    let after = c.take_run-2.new.self in
+    let bytes = c.args.bytes.now in
+    let taken : HasTaken bytes [] before.past before.lines before.bytes after.past after.lines after.bytes =
+    taken_more bytes c.runs.rest.now c.runs.rest.now [] before.past before.lines before.bytes here.past here.lines here.bytes after.past after.lines after.bytes
+    c.runs.invariant (sym (append-nil c.runs.rest.now)) c.take_run-2.ensures.grown c.take_run-2.ensures.kept c.take_run-2.ensures.come in
+    (taken_all bytes before.past before.lines before.bytes after.past after.lines after.bytes taken).2

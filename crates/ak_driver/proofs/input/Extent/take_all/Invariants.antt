@@ -1,10 +1,9 @@
-use Rattle.std.proofs.Common.{◌≡◌, ℕ, ◌+◌, ◌≤◌, ◌++◌, List, take, false}
-use Rattle.std.specs.Bool.{OnFalse}
-use Rattle.ak_driver.specs.InputContracts.{reach, IsExtent}
+use Rattle.std.proofs.Common.{length}
+use Rattle.ak_driver.proofs.InputLemmas.{HasTaken}
 use Rattle.ak_driver.proofs.input.Extent.take_all.Given as goal
 
-abbrev pub invariant-bytes : goal.invariant-bytes
-invariant-bytes l =
-    OnFalse l.self.past (reach l.initial.self.lines l.initial.self.bytes + l.byte-index ≤ reach l.self.lines l.self.bytes)
-    × OnFalse l.self.past (l.initial.self.past ≡ false)
-    × ((seen : List ℕ) → IsExtent seen l.initial.self.past l.initial.self.lines l.initial.self.bytes → IsExtent (seen ++ take l.byte-index l.bytes) l.self.past l.self.lines l.self.bytes)
+abbrev pub invariant-runs : goal.invariant-runs
+invariant-runs l = HasTaken l.fn.bytes l.rest l.initial.self.past l.initial.self.lines l.initial.self.bytes l.self.past l.self.lines l.self.bytes
+
+abbrev pub decreases-runs : goal.decreases-runs
+decreases-runs l = length l.rest
