@@ -15,7 +15,7 @@ use ak_address::print_number;
 use ak_outside::{Sink, Source, Status, write_all};
 use ak_report::print_bytes;
 use ak_schedule::{Draft, Event, LineFault, is_passed_over, next_line, read_line};
-use ak_world::{Reason, Refused, World, print_step, print_summary};
+use ak_world::{Reason, Refused, World, append_step, print_summary};
 use std::alloc::{AllocError, Global};
 use std::mem;
 
@@ -123,7 +123,13 @@ impl Replay {
     }
 
     // What one line does.
-    fn turn(&mut self, alloc: Global, line: &[u8], out: &mut Vec<u8>) -> Result<(), Stop>
+    fn turn(
+        &mut self,
+        alloc: Global,
+        line: &[u8],
+        text: &mut Vec<u8>,
+        out: &mut Vec<u8>,
+    ) -> Result<(), Stop>
         requires { IsReady self.old.stage self.old.steps }
         ensures ready { OnOk result (IsReady self.new.stage self.new.steps) }
         ensures line { OnErr result (self.new.line ≡ self.old.line) }
@@ -133,13 +139,19 @@ impl Replay {
             return Err(Stop::Refused(Code::PastLimit));
         }
         if !is_passed_over(line) {
-            self.advance(alloc, line, out)?;
+            self.advance(alloc, line, text, out)?;
         }
         self.line += 1;
         Ok(())
     }
 
-    fn advance(&mut self, alloc: Global, line: &[u8], out: &mut Vec<u8>) -> Result<(), Stop>
+    fn advance(
+        &mut self,
+        alloc: Global,
+        line: &[u8],
+        text: &mut Vec<u8>,
+        out: &mut Vec<u8>,
+    ) -> Result<(), Stop>
         requires ready { IsReady self.old.stage self.old.steps }
         requires few { self.old.line ≤ 200_000 }
         requires open { IsPassedOver line.now → ⊥ }
@@ -158,7 +170,7 @@ impl Replay {
                 if self.steps >= MOST_EVENTS {
                     return Err(Stop::Refused(Code::PastLimit));
                 }
-                running(alloc, world, self.steps + 1, line, out)?;
+                running(alloc, world, self.steps + 1, line, text, out)?;
                 self.steps += 1;
                 Ok(())
             }
@@ -208,12 +220,13 @@ fn heading(alloc: Global, draft: &mut Draft, line: &[u8]) -> Result<bool, Stop>
     }
 }
 
-// One event line: the event is read, applied and printed.
+// One event line: the event is read, applied and printed, whole or not at all, by way of the text.
 fn running(
     alloc: Global,
     world: &mut World,
     number: u64,
     line: &[u8],
+    text: &mut Vec<u8>,
     out: &mut Vec<u8>,
 ) -> Result<(), Stop>
     requires { length world.old.events < 2 ^ 62 }
@@ -228,7 +241,9 @@ fn running(
         Ok(step) => step,
         Err(why) => return Err(stop_of(why)),
     };
-    print_step(alloc, world, number, &event, &step, out)?;
+    text.clear();
+    append_step(alloc, world, number, &event, &step, text)?;
+    print_bytes(text, out)?;
     Ok(())
 }
 
@@ -315,10 +330,11 @@ fn replay_bytes<W: Sink>(alloc: Global, bytes: &[u8], output: &mut W) -> Status
     ensures prints { Prints bytes.now result (W.written output.old) (W.written output.new) }
 {
     let mut replay = Replay::new(alloc);
+    let mut text = Vec::new(alloc);
     let mut out = Vec::new(alloc);
     let mut rest = bytes;
     'lines: while let Some((line, after_it)) = next_line(rest) {
-        if let Err(stop) = replay.turn(alloc, line, &mut out) {
+        if let Err(stop) = replay.turn(alloc, line, &mut text, &mut out) {
             return ended(alloc, Err(stop), replay.line, &mut out, output);
         }
         rest = after_it;

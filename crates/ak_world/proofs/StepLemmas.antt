@@ -62,14 +62,21 @@ margin_done a b c d e f g text t0 t1 t2 t3 t4 t5 t6 t7 e1 e2 e3 e4 e5 e6 is prin
     margin_printed a b c d e f g t0 t1 t2 t3 t4 t5 t6 t7 e1 e2 e3 e4 e5 e6 printed ∙ ap (λ (t : List ℕ). t0 ++ t) (sym is)
 
 -- the parts of a step, one after another
-pub step_printed : (first number : ℕ) (e : Event) (done : Done) (n : Option State) (t0 t1 t2 t3 : List ℕ) → n ≡ acting done → t0 ≡ []
+pub step_printed : (first number : ℕ) (e : Event) (done : Done) (n : Option State) (t0 t1 t2 t3 : List ℕ) → n ≡ acting done
     → t1 ≡ t0 ++ (decimal number ++ codes " " ++ event_text e ++ 10 ∷ [])
     → t2 ≡ t1 ++ delivery_text e done.world n
     → t3 ≡ t2 ++ actions_text (shown n) first done.actions
-    → t3 ≡ step_text first number e done
-step_printed first number e done n t0 t1 t2 t3 acts e0 e1 e2 e3 =
+    → t3 ≡ t0 ++ step_text first number e done
+step_printed first number e done n t0 t1 t2 t3 acts e1 e2 e3 =
+    let head = decimal number ++ codes " " ++ event_text e ++ 10 ∷ [] in
+    let arrival = delivery_text e done.world n in
+    let items = actions_text (shown n) first done.actions in
     e3
-    ∙ ap (λ (t : List ℕ). t ++ actions_text (shown n) first done.actions)
-    (e2 ∙ ap (λ (t : List ℕ). t ++ delivery_text e done.world n)
-    (e1 ∙ ap (λ (t : List ℕ). t ++ (decimal number ++ codes " " ++ event_text e ++ 10 ∷ [])) e0))
-    ∙ ap (λ (m : Option State). decimal number ++ codes " " ++ event_text e ++ 10 ∷ [] ++ delivery_text e done.world m ++ actions_text (shown m) first done.actions) acts
+    ∙ ap (λ (t : List ℕ). t ++ items) (e2 ∙ ap (λ (t : List ℕ). t ++ arrival) e1)
+    ∙ append_assoc (t0 ++ head) arrival items
+    ∙ append_assoc t0 head (arrival ++ items)
+    ∙ ap (λ (m : Option State). t0 ++ (head ++ (delivery_text e done.world m ++ actions_text (shown m) first done.actions))) acts
+    ∙ ap (λ (t : List ℕ). t0 ++ t) (in_order (decimal number) (codes " ") (event_text e) (10 ∷ []) (delivery_text e done.world (acting done)) (actions_text (shown (acting done)) first done.actions))
+  where
+    in_order : (a b c d e f : List ℕ) → ((a ++ b ++ c ++ d) ++ (e ++ f)) ≡ a ++ b ++ c ++ d ++ e ++ f
+    in_order a b c d e f = simp append_assoc

@@ -27,5 +27,5 @@ pub use laws::{
     who_knows_an_entry_knows_what_its_author_knew, who_was_told_has_stopped,
 };
 pub use margin::Margin;
-pub use print::{print_step, print_summary};
+pub use print::{append_step, print_step, print_summary};
 pub use world::{Reason, Refused, Step, World};

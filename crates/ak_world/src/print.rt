@@ -76,11 +76,27 @@ pub fn print_step(
     ensures err { OnErr result (out.new.items ≡ out.old.items) }
 {
     let mut text = Vec::with_capacity(alloc, STEP_BYTES)?;
-    let node = acting(world, step);
-    print_head(step_number, event, &mut text)?;
-    print_delivery(world, event, node, &mut text)?;
-    print_done(alloc, node, step, &mut text)?;
+    append_step(alloc, world, step_number, event, step, &mut text)?;
     print_bytes(&text, out)
+}
+
+/// Appends the text of a step as `print_step` does, at once: an error may leave a part of it. For whoever prints many steps,
+/// each into a text that is emptied before. Only memory can fail.
+pub fn append_step(
+    alloc: Global,
+    world: &World,
+    step_number: u64,
+    event: &Event,
+    step: &Step,
+    out: &mut Vec<u8>,
+) -> Result<(), AllocError>
+    ensures { OnOk result (out.new.items
+        ≡ out.old.items ++ text.step_text step.now.first_packet step_number event.now (record { world = world.now.state; node = step.now.node; actions = step.now.actions })) }
+{
+    let node = acting(world, step);
+    print_head(step_number, event, out)?;
+    print_delivery(world, event, node, out)?;
+    print_done(alloc, node, step, out)
 }
 
 // What arrived, where the event is a delivery.
