@@ -277,8 +277,15 @@ kept-scenes w u v index e n m actions (Err why) at state_is actions_are between 
 pub found-node : (u : UniqueModel) (nodes : List NodeModel) (r o : Option ℕ) → r ≡ position (λ (n : NodeModel). is_process u n.state) nodes → r ≡ o → position (is_process u) (states nodes) ≡ o
 found-node u nodes r o answers is = position-states (is_process u) nodes ∙ sym answers ∙ is
 
-pub found-receiver : (e : Envelope) (nodes : List NodeModel) (r o : Option ℕ) → r ≡ position (λ (n : NodeModel). is_reached e n.state) nodes → r ≡ o → position (is_reached e) (states nodes) ≡ o
-found-receiver e nodes r o answers is = position-states (is_reached e) nodes ∙ sym answers ∙ is
+pub found-receiver : (e f : Envelope) (nodes all : List NodeModel) (r o : Option ℕ) → r ≡ position (λ (n : NodeModel). is_reached f n.state) all → f ≡ e → all ≡ nodes → r ≡ o → position (is_reached e) (states nodes) ≡ o
+found-receiver e f nodes all r o answers same are is =
+    position-states (is_reached e) nodes
+    ∙ sym (answers ∙ ap (λ (f : Envelope). position (λ (n : NodeModel). is_reached f n.state) all) same ∙ ap (position (λ (n : NodeModel). is_reached e n.state)) are)
+    ∙ is
+
+-- it stands there
+pub receiver-within : (e : Envelope) (nodes : List NodeModel) (index : ℕ) → position (is_reached e) (states nodes) ≡ Some index → index < length nodes
+receiver-within e nodes index reached = omega (arith, position-within (is_reached e) (states nodes) index reached, length-states nodes)
 
 -- one answer in place of another
 pub same-answer : (w v : WorldState) (a b : Result Done reason.Reason) (r : Result Step Refused) → b ≡ a → Scenes w a r v → Scenes w b r v

@@ -1,35 +1,28 @@
-use Rattle.std.proofs.Common.{◌≡◌, ◌<◌, List, Some, None, length, position, refl, sym, ap, ◌∙◌, arith, set}
+use Rattle.std.proofs.Common.{◌≡◌, List, Some, refl, sym, ap, ◌∙◌, arith, set}
 use Rattle.std.proofs.Math.ListN.{length-set}
 use Rattle.std.proofs.lemmas.Result.{err_from_is_err_and}
 use Rattle.ak_wire.specs.declared.envelope.Envelope.{Envelope}
 use Rattle.ak_node.specs.declared.node.NodeEvent.TheVariants.{Packet}
 use Rattle.ak_node.specs.declared.node.State.{State}
-use Rattle.ak_node.specs.NodeContracts.{NodeModel}
-use Rattle.ak_world.specs.World.{is_reached, numbered}
+use Rattle.ak_world.specs.World.{numbered}
 use Rattle.ak_world.specs.WorldContracts.{state_of, states}
-use Rattle.ak_world.proofs.WorldLemmas.{found-receiver, same-answer, ran-out, dead-delivery, delivery, delivery-accepted, position-within, length-states, state-at, state-set, set-states, kept-scenes}
+use Rattle.ak_world.proofs.WorldLemmas.{found-receiver, same-answer, ran-out, dead-delivery, delivery, delivery-accepted, receiver-within, length-states, state-at, state-set, set-states, kept-scenes}
 use Rattle.ak_world.proofs.world.Scene.deliver.Goals as goal
 
 pub receive-requires : goal.receive-requires
 receive-requires c =
     let e = c.in-Some.packet.now in
     let nodes = c.args.self.now.nodes.items in
-    let reached = found-receiver e nodes c.receiver_of.result (Some c.in-Some-receiver_of.index)
-    (c.receiver_of.ensures ∙ ap (λ (f : Envelope). position (λ (n : NodeModel). is_reached f n.state) c.deref-2.result.now) c.envelope.ensures ∙ ap (position (λ (n : NodeModel). is_reached e n.state)) c.deref-2.ensures.value) c.in-Some-receiver_of.is in
-    let among = position-within (is_reached e) (states nodes) c.in-Some-receiver_of.index reached in
-    let same = length-states nodes in
-    let within : c.in-Some-receiver_of.index < length nodes = omega (arith, among, same) in
+    let reached = found-receiver e _ nodes _ _ _ c.receiver_of.ensures c.envelope.ensures c.deref-2.ensures.value c.in-Some-receiver_of.is in
+    let within = receiver-within e nodes c.in-Some-receiver_of.index reached in
     c.requires.ready.few_steps c.in-Some-receiver_of.index c.index_mut.result.now.state (state-at nodes c.in-Some-receiver_of.index c.index_mut.result.now within c.index_mut.ensures.value)
 
 pub keep-requires-clause-index : goal.keep-requires-clause-index
 keep-requires-clause-index c =
     let e = c.in-Some.packet.now in
     let nodes = c.args.self.now.nodes.items in
-    let reached = found-receiver e nodes c.receiver_of.result (Some c.in-Some-receiver_of.index)
-    (c.receiver_of.ensures ∙ ap (λ (f : Envelope). position (λ (n : NodeModel). is_reached f n.state) c.deref-2.result.now) c.envelope.ensures ∙ ap (position (λ (n : NodeModel). is_reached e n.state)) c.deref-2.ensures.value) c.in-Some-receiver_of.is in
-    let among = position-within (is_reached e) (states nodes) c.in-Some-receiver_of.index reached in
-    let same = length-states nodes in
-    let within : c.in-Some-receiver_of.index < length nodes = omega (arith, among, same) in
+    let reached = found-receiver e _ nodes _ _ _ c.receiver_of.ensures c.envelope.ensures c.deref-2.ensures.value c.in-Some-receiver_of.is in
+    let within = receiver-within e nodes c.in-Some-receiver_of.index reached in
     let long = length-set nodes c.in-Some-receiver_of.index c.receive.new.self in
     omega (arith, long, within)
 
@@ -37,12 +30,9 @@ pub keep-requires-clause-number : goal.keep-requires-clause-number
 keep-requires-clause-number c =
     let e = c.in-Some.packet.now in
     let nodes = c.args.self.now.nodes.items in
-    let reached = found-receiver e nodes c.receiver_of.result (Some c.in-Some-receiver_of.index)
-    (c.receiver_of.ensures ∙ ap (λ (f : Envelope). position (λ (n : NodeModel). is_reached f n.state) c.deref-2.result.now) c.envelope.ensures ∙ ap (position (λ (n : NodeModel). is_reached e n.state)) c.deref-2.ensures.value) c.in-Some-receiver_of.is in
-    let among = position-within (is_reached e) (states nodes) c.in-Some-receiver_of.index reached in
-    let same = length-states nodes in
-    let within : c.in-Some-receiver_of.index < length nodes = omega (arith, among, same) in
-    omega (arith, among, c.requires.ready.few_nodes)
+    let reached = found-receiver e _ nodes _ _ _ c.receiver_of.ensures c.envelope.ensures c.deref-2.ensures.value c.in-Some-receiver_of.is in
+    let within = receiver-within e nodes c.in-Some-receiver_of.index reached in
+    omega (arith, within, length-states nodes, c.requires.ready.few_nodes)
 
 pub returns-in_err-actions-clause-scenes : goal.returns-in_err-actions-clause-scenes
 returns-in_err-actions-clause-scenes c =
@@ -56,19 +46,15 @@ returns-in_default-receiver_of-clause-scenes c =
     let e = c.in-Some.packet.now in
     let packet : numbered c.args.self.now.packets.items c.args.number ≡ Some e =
     sym (ap (λ (ps : List Envelope). numbered ps c.args.number) c.deref.ensures.value) ∙ sym c.in-Some.ensures in
-    let nobody = found-receiver e c.args.self.now.nodes.items c.receiver_of.result None
-    (c.receiver_of.ensures ∙ ap (λ (f : Envelope). position (λ (n : NodeModel). is_reached f n.state) c.deref-2.result.now) c.envelope.ensures ∙ ap (position (λ (n : NodeModel). is_reached e n.state)) c.deref-2.ensures.value) c.in_default-receiver_of.is in
+    let nobody = found-receiver e _ c.args.self.now.nodes.items _ _ _ c.receiver_of.ensures c.envelope.ensures c.deref-2.ensures.value c.in_default-receiver_of.is in
     dead-delivery (state_of c.args.self.now) c.args.number e _ packet (sym c.is_full-is_full.ensures ∙ c.if-is_full.false) nobody refl c.next_packet.ensures c.next_packet.type_inv c.empty.ensures
 
 pub returns-clause-scenes : goal.returns-clause-scenes
 returns-clause-scenes c =
     let e = c.in-Some.packet.now in
     let nodes = c.args.self.now.nodes.items in
-    let reached = found-receiver e nodes c.receiver_of.result (Some c.in-Some-receiver_of.index)
-    (c.receiver_of.ensures ∙ ap (λ (f : Envelope). position (λ (n : NodeModel). is_reached f n.state) c.deref-2.result.now) c.envelope.ensures ∙ ap (position (λ (n : NodeModel). is_reached e n.state)) c.deref-2.ensures.value) c.in-Some-receiver_of.is in
-    let among = position-within (is_reached e) (states nodes) c.in-Some-receiver_of.index reached in
-    let same = length-states nodes in
-    let within : c.in-Some-receiver_of.index < length nodes = omega (arith, among, same) in
+    let reached = found-receiver e _ nodes _ _ _ c.receiver_of.ensures c.envelope.ensures c.deref-2.ensures.value c.in-Some-receiver_of.is in
+    let within = receiver-within e nodes c.in-Some-receiver_of.index reached in
     let w = state_of c.args.self.now in
     let index = c.in-Some-receiver_of.index in
     let m = c.receive.new.self in
