@@ -1,6 +1,7 @@
 -- What a change of the sorted list that underlies a table makes of the table.
-use Rattle.std.proofs.Common.{◌≡◌, ℕ, Bool, true, false, cond, not, T, IsTrue, List, [], ◌∷◌, ◌<◌, length, set, get_or, slice_get, option_map, is_some, None, Result, Ok, Err, MatchResult, refl, sym, ap, ◌∙◌, subst, arith}
+use Rattle.std.proofs.Common.{◌≡◌, ℕ, Bool, true, false, cond, not, T, IsTrue, List, [], ◌∷◌, ◌++◌, ◌<◌, length, set, insert, get_or, slice_get, option_map, is_some, None, Result, Ok, Err, MatchResult, refl, sym, ap, ◌∙◌, subst, arith}
 use Rattle.std.proofs.lemmas.Option.{slice_get-get_or}
+use Rattle.std.proofs.lemmas.List.Edits.{insert_end}
 use Rattle.std.specs.Ordering.{is_eq, eq_by_cmp}
 use Rattle.std.specs.Cmp.{alike_right, eq_by_cmp_equiv}
 use Rattle.std.specs.FinMap as map
@@ -72,6 +73,14 @@ module _ {X : Type 0} where
 
     pub goes_at : (q : UniqueModel) (fs : List (UniqueModel × X)) (n : ℕ) → fs ≡ es → Err n ≡ index unique_cmp q fs → Goes unique_cmp q es n
     goes_at q fs n same is = known_in q fs (Err n) same is
+
+    -- a new pair at the place where it goes
+    pub underlies_placed : (q : UniqueModel) (v : X) (n : ℕ) (fs : List (UniqueModel × X)) → Err n ≡ index unique_cmp q (map.entries m) → fs ≡ insert es n (q, v) → Underlies fs (map.insert m q v)
+    underlies_placed q v n fs goes is = underlies_put q v fs ((goes_at q _ n pairs goes).put_there v ∙ sym is)
+
+    -- where that is the end, it is pushed
+    pub underlies_pushed : (q : UniqueModel) (v : X) (n : ℕ) (fs : List (UniqueModel × X)) → Err n ≡ index unique_cmp q (map.entries m) → n ≡ length es → fs ≡ es ++ (q, v) ∷ [] → Underlies fs (map.insert m q v)
+    underlies_pushed q v n fs goes at_end is = underlies_placed q v n fs goes (is ∙ sym (ap (λ n. insert es n (q, v)) at_end ∙ insert_end es (q, v)))
 
     pub absent_in : (q : UniqueModel) (n : ℕ) → Goes unique_cmp q es n → map.get m q ≡ None
     absent_in q n g = sym (found_in q) ∙ g.absent
