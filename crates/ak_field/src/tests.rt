@@ -238,7 +238,7 @@ fn numbers_are_written_and_read(rt: HostRuntime) -> Result<(), Fail> {
 fn version(alloc: Global) -> Result<Version, Fail> {
     match Fields::new(&VERSION).version(alloc) {
         Ok(version) => Ok(version),
-        Err(_) => Err("it is read")?,
+        Err(_) => Err("the version is refused")?,
     }
 }
 

@@ -27,7 +27,7 @@ impl Model for SharedEnvelope {
 }
 
 impl SharedEnvelope {
-    /// Shares this envelope. Only memory can fail.
+    /// Shares this envelope. Only memory can fail, and then the envelope is gone.
     pub fn of(alloc: Global, envelope: Envelope) -> Result<SharedEnvelope, AllocError>
         ensures { IfOk result (λ shared. shared ≡ envelope) }
     {
