@@ -200,6 +200,7 @@ taken_none bytes past ended count = record {
     not_less : (past : Bool) (n : ℕ) → OnFalse past (n + 0 ≤ n)
     not_less true n = tt
     not_less false n = omega arith
+
     not_past : (past : Bool) → OnFalse past (past ≡ false)
     not_past true = tt
     not_past false = refl
@@ -221,8 +222,7 @@ taken_more bytes rest piece next past ended count past2 ended2 count2 past3 ende
 pub taken_all : (bytes : List ℕ) (past : Bool) (ended count : ℕ) (past2 : Bool) (ended2 count2 : ℕ) → HasTaken bytes [] past ended count past2 ended2 count2
     → OnFalse past2 (reach ended count + length bytes ≤ reach ended2 count2) × OnFalse past2 (past ≡ false) × ((seen : List ℕ) → IsExtent seen past ended count → IsExtent (seen ++ bytes) past2 ended2 count2)
 taken_all bytes past ended count past2 ended2 count2 h =
-    let all : h.taken ≡ bytes = sym (h.whole ∙ append-nil h.taken) in
-    (
+    let all : h.taken ≡ bytes = sym (h.whole ∙ append-nil h.taken) in (
       subst (λ (l : List ℕ). OnFalse past2 (reach ended count + length l ≤ reach ended2 count2)) all h.grown,
       h.kept,
       λ seen extent. subst (λ (l : List ℕ). IsExtent (seen ++ l) past2 ended2 count2) all (h.come seen extent),
