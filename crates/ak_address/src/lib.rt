@@ -7,8 +7,6 @@ mod laws;
 mod parse;
 mod print;
 mod table;
-#[cfg(test)]
-mod table_tests;
 mod text;
 mod uniques;
 mod values;

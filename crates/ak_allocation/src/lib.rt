@@ -4,8 +4,6 @@
 mod allocation;
 mod laws;
 mod load;
-#[cfg(test)]
-mod tests;
 
 pub use allocation::{choose, rebalance};
 pub use laws::the_chosen_have_least_and_most;

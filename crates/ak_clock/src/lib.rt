@@ -4,8 +4,6 @@
 
 mod laws;
 mod version;
-#[cfg(test)]
-mod version_tests;
 
 pub use laws::{
     bump_raises_one_count, covering_is_an_order, merge_is_the_least_cover, merges_in_any_order,

@@ -3,8 +3,6 @@
 
 mod converge;
 mod laws;
-#[cfg(test)]
-mod tests;
 
 pub use converge::{converged, settled_by};
 pub use laws::settled_views;

@@ -6,8 +6,6 @@ mod entry;
 mod laws;
 mod loads;
 mod orders;
-#[cfg(test)]
-mod tests;
 mod tick;
 
 pub use coordinator::Coordinator;

@@ -2,8 +2,6 @@
 #![tactic(auto)]
 
 mod detector;
-#[cfg(test)]
-mod detector_tests;
 mod laws;
 mod ring;
 

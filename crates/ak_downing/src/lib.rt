@@ -6,8 +6,6 @@ mod downed;
 mod laws;
 mod resolve;
 mod side;
-#[cfg(test)]
-mod tests;
 
 pub use decision::Decision;
 pub use downed::downs;

@@ -98,6 +98,3 @@ pub fn exit(status: Status) -> ExitCode
 {
     ExitCode::from(status.code())
 }
-
-#[cfg(test)]
-mod tests;

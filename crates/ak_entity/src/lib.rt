@@ -4,8 +4,6 @@
 mod activity;
 mod entities;
 mod laws;
-#[cfg(test)]
-mod tests;
 
 pub use entities::Entities;
 pub use laws::entities_are_by_themselves;

@@ -11,8 +11,6 @@ mod measure;
 mod parts;
 mod process;
 mod reports;
-#[cfg(test)]
-mod tests;
 mod valid;
 mod version;
 mod write;

@@ -11,7 +11,7 @@ use Rattle.ak_address.specs.Table.{merged_at, value_with}
 use Rattle.ak_address.proofs.TableLaws.{same_key, same_or_apart, get-empty, get-insert, get-insert_here, get-insert_elsewhere, get-merged_tables}
 use Rattle.ak_address.proofs.UniquesLaws.{has-no_one, has-with_one, has-those, has-union}
 use Rattle.ak_clock.specs.declared.version.TheConstants.{BOUND}
-use Rattle.ak_clock.specs.Version.{Counts, count, merged, bumped}
+use Rattle.ak_clock.specs.Version.{Counts, count, bumped}
 use Rattle.ak_clock.proofs.VersionLaws.{count-empty, count-merged, empty_is_version, merged_is_version, bumped_is_version, merged_covers_first, merged_covers_second, bumped_covers, count-bumped_author, count-bumped_others}
 use Rattle.ak_member.specs.declared.effect.Effect.{Effect}
 use Rattle.ak_member.specs.declared.effect.Effect.TheVariants.{Joined, Rise, Removed, Observed}
@@ -20,7 +20,7 @@ use Rattle.ak_member.specs.declared.standing.Standing.TheVariants.{Member, Burie
 use Rattle.ak_member.specs.declared.status.Status.{Status}
 use Rattle.ak_member.specs.declared.status.Status.TheVariants.{Joining, Up, Leaving, Exiting, Down}
 use Rattle.ak_member.specs.Standing.{Standings, rank, greater_status, older_number, merged_standing, merged_standings, known, member_of, is_member}
-use Rattle.ak_member.specs.View.{Row, RowTable, later_row, merged_rows, after_effect, after_effects, after_observed, observed}
+use Rattle.ak_member.specs.View.{Row, RowTable, later_row, after_effect, after_effects, after_observed, observed}
 use Rattle.ak_member.proofs.StandingLaws.{rank-greater_status}
 use Rattle.ak_gossip.specs.Gossip.{GossipState, most_uniques, is_known, IsNumber, IsStanding, IsRow, IsGossip, nothing_known, updated, MayUpdate, seen_by, same, both}
 
@@ -266,13 +266,6 @@ few_as own one incoming other is are few =
     subst (λ (n : ℕ). n ≤ most_uniques) (λ i. map.len (merged_standings (sym is i).view.standings (sym are i).view.standings)) few
 
 -- the parts of what two gossips come to, where a node is among those that have seen it
-pub merged_parts_kept : (me : UniqueModel) (own incoming : GossipState) → IsGossip own → IsGossip incoming → map.len (merged_standings own.view.standings incoming.view.standings) ≤ most_uniques
-    → (v : Counts) (s : Standings) (r : RowTable) (seen none : UniqueSet) → v ≡ merged own.version incoming.version → s ≡ merged_standings own.view.standings incoming.view.standings → r ≡ merged_rows own.view.rows incoming.view.rows
-    → none ≡ no_one → seen ≡ (if is_member s me then with_one none me else none)
-    → IsGossip (record { version = v; view = record { standings = s; rows = r }; seen = seen })
-merged_parts_kept me own incoming p q few v s r seen none a b c e d =
-    parts_kept v _ s _ r _ seen _ a b c (d ∙ (λ i. if is_member (b i) me then with_one (e i) me else (e i))) (noted_kept me (both own incoming) (both_kept own incoming p q few))
-
 -- ---- an entry
 pub updated_kept : (author : UniqueModel) (effects : List Effect) (g : GossipState) → IsGossip g → MayUpdate author effects g → IsGossip (updated author effects g)
 updated_kept author effects g p may = record {

@@ -1,12 +1,14 @@
-ghost use Rattle.std.specs.Prelude.{◌≡◌, ◌+◌, ◌≤◌, if◌then◌else◌, Some, option_copied, IfOk, OnOk, OnErr, IsFalse, IsTrue};
+ghost use Rattle.std.specs.Prelude.{◌≡◌, ◌+◌, ◌<◌, ◌≤◌, if◌then◌else◌, Some, option_copied, IfOk, OnOk, OnErr, IsFalse, IsTrue};
 ghost use Rattle.std.specs.FinMap as map;
 ghost use Rattle.ak_address.specs.Unique.{UniqueModel};
-ghost use Rattle.ak_address.specs.Uniques.{has, with_one, those, union};
-ghost use Rattle.ak_clock.specs.Version.{count, Relates};
+ghost use Rattle.ak_address.specs.Uniques.{has, no_one, with_one, those, union};
+ghost use Rattle.ak_clock.specs.declared.version.TheConstants.{BOUND};
+ghost use Rattle.ak_clock.specs.Version.{count, bumped, merged, Relates};
 ghost use Rattle.ak_member.specs.Standing.{is_member, merged_standings};
-ghost use Rattle.ak_member.specs.View.{observed, after_observed};
+ghost use Rattle.ak_member.specs.View.{observed, after_observed, merged_rows};
 ghost use Rattle.ak_reach.specs.Reach.{is_as_new};
 ghost use Rattle.ak_gossip.specs.Gossip.{GossipState, IsGossip, most_uniques, nothing_known, MayUpdate, updated, seen_by, same, both};
+ghost use Rattle.ak_gossip.specs.Held.{said_by};
 ghost use Rattle.ak_gossip.specs.GossipContracts.{Receives, excess_of, foreign_of};
 
 use crate::known::{Known, Tables};
@@ -137,21 +139,35 @@ impl Gossip {
         ensures ok { OnOk result (self.new ≡ updated author.now effects.now self.old) }
         ensures err { OnErr result (self.new ≡ self.old) }
     {
+        let (tables, number) = self.tables_after(alloc, author, effects)?;
         let mut only_author = Uniques::empty(alloc);
         only_author.insert(alloc, author)?;
+        let known = Known::of_tables(alloc, tables, only_author)?;
+        *self = Gossip { known };
+        Ok(number)
+    }
+
+    // The tables after the author's entry with these effects, and the number of that entry.
+    fn tables_after(
+        &self,
+        alloc: Global,
+        author: &Unique,
+        effects: &Effects,
+    ) -> Result<(Tables, u64), AllocError>
+        requires { MayUpdate author.now effects.now self.now }
+        ensures tables { IfOk result (λ made. said_by made.0 (with_one no_one author.now) ≡ updated author.now effects.now self.now) }
+        ensures lawful { IfOk result (λ made. IsGossip (said_by made.0 (with_one no_one author.now))) }
+        ensures number { IfOk result (λ made. made.1 ≡ count self.now.version author.now + 1) }
+    {
+        let (version, number) = bumped_version(alloc, self.known.version(), author)?;
+        let rows = rows_after(alloc, author, number, effects, self.known.rows())?;
         let members = self.known.members().copy(alloc)?.after(alloc, effects)?;
-        let mut version = self.known.version().copy(alloc)?;
-        let number = version.bump(alloc, author)?;
-        let mut rows = self.known.rows().copy(alloc)?;
-        observe(alloc, author, number, effects, &mut rows)?;
         let tables = Tables {
             version,
             members,
             rows,
         };
-        let known = Known::of_tables(alloc, tables, only_author)?;
-        *self = Gossip { known };
-        Ok(number)
+        Ok((tables, number))
     }
 
     /// Takes in a gossip that came to the node `me` (Akka's Cluster Specification, "Gossip": the same, the newer one,
@@ -241,22 +257,28 @@ impl Gossip {
         ensures answer { IfOk result (λ r. r ≡ Received.Merged) }
         ensures err { OnErr result (self.new ≡ self.old) }
     {
-        let mut version = self.known.version().copy(alloc)?;
-        version.merge(alloc, incoming.known.version())?;
-        let mut members = self.known.members().copy(alloc)?;
-        members.merge(alloc, incoming.known.members())?;
-        let mut rows = self.known.rows().copy(alloc)?;
-        rows.merge(alloc, incoming.known.rows())?;
+        let tables = self.tables_of_both(alloc, incoming)?;
         let mut seen = Uniques::empty(alloc);
-        add_member(alloc, me, &members, &mut seen)?;
-        let tables = Tables {
-            version,
-            members,
-            rows,
-        };
+        add_member(alloc, me, &tables.members, &mut seen)?;
         let known = Known::of_tables(alloc, tables, seen)?;
         *self = Gossip { known };
         Ok(Received::Merged)
+    }
+
+    // The tables of what either knows.
+    fn tables_of_both(&self, alloc: Global, incoming: &Gossip) -> Result<Tables, AllocError>
+        requires { map.len (merged_standings self.now.view.standings incoming.now.view.standings) ≤ most_uniques }
+        ensures tables { IfOk result (λ tables. said_by tables no_one ≡ both self.now incoming.now) }
+        ensures lawful { IfOk result (λ tables. IsGossip (said_by tables no_one)) }
+    {
+        let version = both_versions(alloc, self.known.version(), incoming.known.version())?;
+        let members = both_members(alloc, self.known.members(), incoming.known.members())?;
+        let rows = both_rows(alloc, self.known.rows(), incoming.known.rows())?;
+        Ok(Tables {
+            version,
+            members,
+            rows,
+        })
     }
 
     // What is counted of the node here and there, where the gossip counts more of it. One that brings nothing new does not.
@@ -287,7 +309,7 @@ impl Gossip {
         if own + theirs <= MOST_UNIQUES {
             return Ok(None);
         }
-        let union = size_of_both(alloc, self.known.members(), incoming.known.members())?;
+        let union = both_members(alloc, self.known.members(), incoming.known.members())?.uniques();
         if union <= MOST_UNIQUES {
             return Ok(None);
         }
@@ -298,30 +320,61 @@ impl Gossip {
 // A gossip may hold this many processes, members and tombstones together.
 pub(crate) const MOST_UNIQUES: usize = 128;
 
-// How many processes are known to either.
-fn size_of_both(alloc: Global, one: &Members, other: &Members) -> Result<usize, AllocError>
-    ensures { IfOk result (λ size. size ≡ map.len (merged_standings one.now other.now)) }
+// The version with one entry more of the author, and the number of that entry.
+fn bumped_version(
+    alloc: Global,
+    version: &Version,
+    author: &Unique,
+) -> Result<(Version, u64), AllocError>
+    requires { count version.now author.now < BOUND }
+    ensures version { IfOk result (λ made. made.0 ≡ bumped version.now author.now) }
+    ensures number { IfOk result (λ made. made.1 ≡ count version.now author.now + 1) }
 {
-    let mut both = one.copy(alloc)?;
-    both.merge(alloc, other)?;
-    Ok(both.uniques())
+    let mut version = version.copy(alloc)?;
+    let number = version.bump(alloc, author)?;
+    Ok((version, number))
 }
 
-// The author's row after its entry of this number, where that observes.
-fn observe(
+// The rows with that of the author after its entry of this number, where that observes.
+fn rows_after(
     alloc: Global,
     author: &Unique,
     number: u64,
     effects: &Effects,
-    rows: &mut Rows,
-) -> Result<(), AllocError>
-    requires { IsFalse (is_as_new (map.get rows.old author.now) number) }
-    ensures { OnOk result (rows.new ≡ after_observed author.now number (observed effects.now) rows.old) }
+    rows: &Rows,
+) -> Result<Rows, AllocError>
+    requires { IsFalse (is_as_new (map.get rows.now author.now) number) }
+    ensures { IfOk result (λ after. after ≡ after_observed author.now number (observed effects.now) rows.now) }
 {
-    match effects.observed() {
-        Some(subjects) => rows.set_row(alloc, author, number, subjects),
-        None => Ok(()),
+    let mut rows = rows.copy(alloc)?;
+    if let Some(subjects) = effects.observed() {
+        rows.set_row(alloc, author, number, subjects)?;
     }
+    Ok(rows)
+}
+
+fn both_versions(alloc: Global, one: &Version, other: &Version) -> Result<Version, AllocError>
+    ensures { IfOk result (λ both. both ≡ merged one.now other.now) }
+{
+    let mut both = one.copy(alloc)?;
+    both.merge(alloc, other)?;
+    Ok(both)
+}
+
+fn both_members(alloc: Global, one: &Members, other: &Members) -> Result<Members, AllocError>
+    ensures { IfOk result (λ both. both ≡ merged_standings one.now other.now) }
+{
+    let mut both = one.copy(alloc)?;
+    both.merge(alloc, other)?;
+    Ok(both)
+}
+
+fn both_rows(alloc: Global, one: &Rows, other: &Rows) -> Result<Rows, AllocError>
+    ensures { IfOk result (λ both. both ≡ merged_rows one.now other.now) }
+{
+    let mut both = one.copy(alloc)?;
+    both.merge(alloc, other)?;
+    Ok(both)
 }
 
 // What is known, and seen by the node where it is a member of that.

@@ -7,10 +7,6 @@ mod known;
 mod laws;
 mod part;
 mod parts;
-#[cfg(test)]
-mod parts_tests;
-#[cfg(test)]
-mod tests;
 
 pub use gossip::{Gossip, GossipFault, Received};
 pub use laws::{

@@ -3,8 +3,6 @@
 
 mod entry;
 mod history;
-#[cfg(test)]
-mod history_tests;
 mod laws;
 mod view;
 

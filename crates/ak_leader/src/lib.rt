@@ -5,8 +5,6 @@ mod founds;
 mod laws;
 mod leads;
 mod passes;
-#[cfg(test)]
-mod tests;
 
 pub use founds::founding;
 pub use laws::{

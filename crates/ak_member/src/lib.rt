@@ -8,8 +8,6 @@ mod laws;
 mod members;
 mod standing;
 mod status;
-#[cfg(test)]
-mod tests;
 
 pub use effect::{Effect, Effects};
 pub use laws::{

@@ -5,7 +5,7 @@ use Rattle.ak_address.specs.Counters.{Counters}
 use Rattle.ak_address.specs.Unique.{UniqueModel}
 use Rattle.ak_clock.specs.Version.{Counts, relation_by}
 use Rattle.ak_clock.proofs.VersionLaws.{covers_itself, test_from_covers}
-use Rattle.ak_detector.specs.Detector.{watch_ring, watching, heard, ticked}
+use Rattle.ak_detector.specs.Detector.{watch_ring, watching, heard}
 use Rattle.ak_detector.proofs.DetectorLemmas.{keys-heard, keys-ticked}
 use Rattle.ak_detector.proofs.RingLaws.{watches_on}
 use Rattle.ak_member.specs.declared.effect.Effect.{Effect}

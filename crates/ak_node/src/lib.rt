@@ -4,8 +4,6 @@
 
 mod laws;
 mod node;
-#[cfg(test)]
-mod node_tests;
 
 pub use ak_wire::{Action, Actions};
 pub use laws::steps_update_once;

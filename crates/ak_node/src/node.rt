@@ -447,23 +447,6 @@ impl State {
         }
     }
 
-    fn rule(&mut self, alloc: Global, event: &NodeEvent) -> Result<Actions, AllocError>
-        requires ticks { self.old.membership.ticks < 2 ^ 62 }
-        requires watching { IsWatching self.old.membership }
-        ensures does { IfOk result (λ actions. Does (rules.rule event.now self.old) self.new actions) }
-        ensures same { IsSameProcess self.old self.new }
-    {
-        match event {
-            NodeEvent::Found => self.found(alloc),
-            NodeEvent::Join(target) => self.join(alloc, target),
-            NodeEvent::Tick(word) => self.tick(alloc, *word),
-            NodeEvent::Packet(envelope) => self.on_packet(alloc, envelope),
-            NodeEvent::Leave(who) => self.leave(alloc, who),
-            NodeEvent::Down(who) => self.down(alloc, who),
-            NodeEvent::Stop => self.stop(alloc),
-        }
-    }
-
     // The closing after a rule: the view where it is another, and then that the node stops, or that its view is settled.
     fn closes(&mut self, alloc: Global, actions: &mut Actions) -> Result<(), AllocError>
         ensures state { OnOk result (self.new ≡ (rules.closes self.old).0) }
@@ -476,11 +459,11 @@ impl State {
     }
 
     // One event: its rule and then the closing. A node that has stopped does nothing, and a packet for another process is dead.
-    fn step(&mut self, alloc: Global, event: &NodeEvent) -> Result<Actions, AllocError>
+    fn step<E: Given>(&mut self, alloc: Global, event: &E) -> Result<Actions, AllocError>
         requires steps { self.old.steps < 2 ^ 62 }
         requires ticked { self.old.membership.ticks ≤ self.old.steps }
         requires watching { IsWatching self.old.membership }
-        ensures does { IfOk result (λ actions. Does (rules.step event.now self.old) self.new actions) }
+        ensures does { IfOk result (λ actions. Does (rules.step (E.event event.now) self.old) self.new actions) }
         ensures same { IsSameProcess self.old self.new }
     {
         if !self.runs {
@@ -491,52 +474,115 @@ impl State {
     }
 
     // The event of a node that runs.
-    fn running_step(&mut self, alloc: Global, event: &NodeEvent) -> Result<Actions, AllocError>
+    fn running_step<E: Given>(&mut self, alloc: Global, event: &E) -> Result<Actions, AllocError>
         requires ticks { self.old.membership.ticks < 2 ^ 62 }
         requires watching { IsWatching self.old.membership }
-        ensures does { IfOk result (λ actions. Does (rules.running_step event.now self.old) self.new actions) }
+        ensures does { IfOk result (λ actions. Does (rules.running_step (E.event event.now) self.old) self.new actions) }
         ensures same { IsSameProcess self.old self.new }
     {
-        if is_dead(self.me(), event) {
+        if event.is_dead(self.me()) {
             return one(alloc, Action::Dead);
         }
         self.acts(alloc, event)
     }
 
-    // A packet that arrives, as such an event: it stays with whoever gave it.
-    fn receive(&mut self, alloc: Global, envelope: &Envelope) -> Result<Actions, AllocError>
-        requires { self.old.steps < 2 ^ 62 }
-        ensures does { IfOk result (λ actions. Does (rules.step (NodeEvent.Packet envelope.now) self.old) self.new actions) }
-        ensures same { IsSameProcess self.old self.new }
-    {
-        if self.runs {
-            self.steps += 1;
-            return self.running_receive(alloc, envelope);
-        }
-        Ok(Actions::empty(alloc))
-    }
-
-    fn running_receive(&mut self, alloc: Global, envelope: &Envelope) -> Result<Actions, AllocError>
-        ensures does { IfOk result (λ actions. Does (rules.running_step (NodeEvent.Packet envelope.now) self.old) self.new actions) }
-        ensures same { IsSameProcess self.old self.new }
-    {
-        if !is_for(self.me(), envelope) {
-            return one(alloc, Action::Dead);
-        }
-        let mut actions = self.on_packet(alloc, envelope)?;
-        self.closes(alloc, &mut actions)?;
-        Ok(actions)
-    }
-
-    fn acts(&mut self, alloc: Global, event: &NodeEvent) -> Result<Actions, AllocError>
+    fn acts<E: Given>(&mut self, alloc: Global, event: &E) -> Result<Actions, AllocError>
         requires ticks { self.old.membership.ticks < 2 ^ 62 }
         requires watching { IsWatching self.old.membership }
-        ensures does { IfOk result (λ actions. Does (rules.and_then rules.closes (rules.rule event.now self.old)) self.new actions) }
+        ensures does { IfOk result (λ actions. Does (rules.and_then rules.closes (rules.rule (E.event event.now) self.old)) self.new actions) }
         ensures same { IsSameProcess self.old self.new }
     {
-        let mut actions = self.rule(alloc, event)?;
+        let mut actions = event.rule(alloc, self)?;
         self.closes(alloc, &mut actions)?;
         Ok(actions)
+    }
+}
+
+// What a node is given: an event, or a packet. It stays with whoever gives it.
+trait Given {
+    ghost use Rattle.ak_node.specs.declared.node.NodeEvent.{NodeEvent};
+
+    // The event that it is.
+    ghost event: { Self → NodeEvent };
+
+    // A packet for another process is dead.
+    fn is_dead(&self, me: &Unique) -> bool
+        ensures { result ≡ rules.is_dead me.now (event self.now) };
+
+    // Its rule.
+    fn rule(&self, alloc: Global, state: &mut State) -> Result<Actions, AllocError>
+        requires ticks { state.old.membership.ticks < 2 ^ 62 }
+        requires watching { IsWatching state.old.membership }
+        ensures does { IfOk result (λ actions. Does (rules.rule (event self.now) state.old) state.new actions) }
+        ensures same { IsSameProcess state.old state.new };
+
+    // Tells a proof that the process or the address in it is in its ranges.
+    fn said(&self)
+        ensures { IsSaid (event self.now) };
+}
+
+impl Given for NodeEvent {
+    ghost event = { λ e. e };
+
+    fn is_dead(&self, me: &Unique) -> bool
+        ensures { result ≡ rules.is_dead me.now self.now }
+    {
+        match self {
+            NodeEvent::Packet(envelope) => envelope.is_dead(me),
+            _ => false,
+        }
+    }
+
+    fn rule(&self, alloc: Global, state: &mut State) -> Result<Actions, AllocError>
+        requires ticks { state.old.membership.ticks < 2 ^ 62 }
+        requires watching { IsWatching state.old.membership }
+        ensures does { IfOk result (λ actions. Does (rules.rule self.now state.old) state.new actions) }
+        ensures same { IsSameProcess state.old state.new }
+    {
+        match self {
+            NodeEvent::Found => state.found(alloc),
+            NodeEvent::Join(target) => state.join(alloc, target),
+            NodeEvent::Tick(word) => state.tick(alloc, *word),
+            NodeEvent::Packet(envelope) => state.on_packet(alloc, envelope),
+            NodeEvent::Leave(who) => state.leave(alloc, who),
+            NodeEvent::Down(who) => state.down(alloc, who),
+            NodeEvent::Stop => state.stop(alloc),
+        }
+    }
+
+    fn said(&self)
+        ensures { IsSaid self.now }
+    {
+        match self {
+            NodeEvent::Join(target) => address(target),
+            NodeEvent::Packet(envelope) => process(&envelope.from),
+            _ => {}
+        }
+    }
+}
+
+impl Given for Envelope {
+    ghost use Rattle.ak_node.specs.declared.node.NodeEvent.TheVariants.{Packet};
+
+    ghost event = { λ p. Packet p };
+
+    fn is_dead(&self, me: &Unique) -> bool
+        ensures { result ≡ rules.is_dead me.now (NodeEvent.Packet self.now) }
+    {
+        !is_for(me, self)
+    }
+
+    fn rule(&self, alloc: Global, state: &mut State) -> Result<Actions, AllocError>
+        ensures does { IfOk result (λ actions. Does (rules.rule (NodeEvent.Packet self.now) state.old) state.new actions) }
+        ensures same { IsSameProcess state.old state.new }
+    {
+        state.on_packet(alloc, self)
+    }
+
+    fn said(&self)
+        ensures { IsSaid (NodeEvent.Packet self.now) }
+    {
+        process(&self.from)
     }
 }
 
@@ -566,16 +612,6 @@ pub fn is_for(me: &Unique, envelope: &Envelope) -> bool
     envelope.uid == 0 || envelope.uid == me.uid
 }
 
-// A packet for another process is dead.
-fn is_dead(me: &Unique, event: &NodeEvent) -> bool
-    ensures { result ≡ rules.is_dead me.now event.now }
-{
-    match event {
-        NodeEvent::Packet(envelope) => !is_for(me, envelope),
-        _ => false,
-    }
-}
-
 // Each tells a proof what is true of every value of a type. They do nothing.
 fn process(who: &Unique)
     ensures { IsUnique who.now }
@@ -587,16 +623,6 @@ fn address(place: &Address)
     ensures { IsAddress place.now }
 {
     let _port = place.port;
-}
-
-fn said(event: &NodeEvent)
-    ensures { IsSaid event.now }
-{
-    match event {
-        NodeEvent::Join(target) => address(target),
-        NodeEvent::Packet(envelope) => process(&envelope.from),
-        _ => {}
-    }
 }
 
 /// A node. Once out of memory it is spent: it is the same process with the same settings and knows nothing, and each later
@@ -658,9 +684,9 @@ impl Node {
     }
 
     // The event is taken, and stays with whoever gave it.
-    fn take(&mut self, alloc: Global, event: &NodeEvent) -> Result<Actions, AllocError>
+    fn take<E: Given>(&mut self, alloc: Global, event: &E) -> Result<Actions, AllocError>
         requires { self.old.state.steps < 2 ^ 62 }
-        ensures ok { IfOk result (λ actions. Does (rules.step event.now self.old.state) self.new.state actions) }
+        ensures ok { IfOk result (λ actions. Does (rules.step (E.event event.now) self.old.state) self.new.state actions) }
         ensures valid { IfOk result (λ actions. AreValid actions) }
         ensures silent { IfOk result (λ actions. IsSilent self.old.state self.new.state actions) }
         ensures serves { OnOk result (ServesWhileItRuns self.new.state) }
@@ -670,7 +696,7 @@ impl Node {
         if self.spent {
             return Err(AllocError);
         }
-        said(event);
+        event.said();
         self.state.process();
         match self.state.step(alloc, event) {
             Ok(actions) => {
@@ -696,24 +722,7 @@ impl Node {
         ensures alive { OnOk result (self.old.spent ≡ false) × OnOk result (self.new.spent ≡ false) }
         ensures spent { OnErr result ((self.new.spent ≡ true) × IsLeftOver self.old.state self.new.state) }
     {
-        if self.spent {
-            return Err(AllocError);
-        }
-        process(&envelope.from);
-        self.state.process();
-        match self.state.receive(alloc, envelope) {
-            Ok(actions) => {
-                self.state.membership.invariant();
-                sendable(self.state.membership.gossip());
-                Ok(actions)
-            }
-            Err(error) => {
-                let membership = &mut self.state.membership;
-                membership.forget(alloc);
-                self.spent = true;
-                Err(error)
-            }
-        }
+        self.take(alloc, envelope)
     }
 
     /// The process that it is.

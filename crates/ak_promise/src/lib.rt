@@ -5,8 +5,6 @@
 mod ballot;
 mod laws;
 mod promise;
-#[cfg(test)]
-mod promise_tests;
 
 pub use ballot::Ballot;
 pub use laws::{

@@ -4,11 +4,7 @@
 mod laws;
 mod row;
 mod rows;
-#[cfg(test)]
-mod rows_tests;
 mod unreachable;
-#[cfg(test)]
-mod unreachable_tests;
 
 pub use laws::rows_are_merged;
 pub use row::Row;

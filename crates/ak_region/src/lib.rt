@@ -6,8 +6,6 @@ mod buffer;
 mod laws;
 mod region;
 mod slot;
-#[cfg(test)]
-mod tests;
 mod walks;
 
 pub use ak_shard_id::Report;

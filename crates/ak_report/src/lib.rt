@@ -2,7 +2,5 @@
 #![tactic(auto)]
 
 mod report;
-#[cfg(test)]
-mod report_tests;
 
 pub use report::{append_actions, print_actions, print_bytes};

@@ -12,7 +12,8 @@ use ak_member::{Effect, Members, Standing, Status};
 use ak_wire::{Action, Actions, Envelope};
 use std::alloc::{AllocError, Global};
 
-// Each printer below may leave a part of its text where memory ends. What is public prints into a text of its own first.
+// Each printer below may leave a part of its text where memory ends, and so may `append_actions`; `print_actions` prints into a text
+// of its own first.
 
 /// Appends these bytes. An error leaves the text as it was; only memory can fail.
 pub fn print_bytes(bytes: &[u8], out: &mut Vec<u8>) -> Result<(), AllocError>
@@ -125,7 +126,7 @@ fn tombstone_pair(members: &Members, pair: usize) -> Option<(&Unique, bool)>
     }
 }
 
-pub(crate) fn print_members(members: &Members, out: &mut Vec<u8>) -> Result<(), AllocError>
+fn print_members(members: &Members, out: &mut Vec<u8>) -> Result<(), AllocError>
     ensures { OnOk result (out.new.items ≡ out.old.items ++ text.listed_text (map text.member_text (members_of members.now))) }
 {
     let mut printed = 0;
@@ -139,7 +140,7 @@ pub(crate) fn print_members(members: &Members, out: &mut Vec<u8>) -> Result<(), 
     print_none(printed, out)
 }
 
-pub(crate) fn print_tombstones(members: &Members, out: &mut Vec<u8>) -> Result<(), AllocError>
+fn print_tombstones(members: &Members, out: &mut Vec<u8>) -> Result<(), AllocError>
     ensures { OnOk result (out.new.items ≡ out.old.items ++ text.listed_text (map text.tombstone_text (tombstones_of members.now))) }
 {
     let mut printed = 0;
@@ -238,7 +239,7 @@ fn print_effect(effect: &Effect, out: &mut Vec<u8>) -> Result<(), AllocError>
     }
 }
 
-pub(crate) fn print_effects(effects: &[Effect], out: &mut Vec<u8>) -> Result<(), AllocError>
+fn print_effects(effects: &[Effect], out: &mut Vec<u8>) -> Result<(), AllocError>
     ensures { OnOk result (out.new.items ≡ out.old.items ++ text.listed_text (map text.effect_text effects.now)) }
 {
     if effects.len() == 0 {

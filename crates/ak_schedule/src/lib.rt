@@ -11,8 +11,6 @@ mod line;
 mod print;
 mod read;
 mod settings;
-#[cfg(test)]
-mod tests;
 
 pub use draft::Draft;
 pub use event::Event;

@@ -3,8 +3,6 @@
 
 mod laws;
 mod select;
-#[cfg(test)]
-mod tests;
 
 pub use laws::the_peer_is_another_reachable_member;
 pub use select::peer;

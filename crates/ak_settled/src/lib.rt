@@ -3,8 +3,6 @@
 
 mod laws;
 mod settled;
-#[cfg(test)]
-mod settled_tests;
 mod ticks;
 
 pub use laws::{

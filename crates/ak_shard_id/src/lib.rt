@@ -4,8 +4,6 @@
 mod laws;
 mod report;
 mod shard;
-#[cfg(test)]
-mod tests;
 
 pub use laws::hashes_go_on;
 pub use report::Report;

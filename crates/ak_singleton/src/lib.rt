@@ -5,8 +5,6 @@ mod laws;
 mod phase;
 mod sets;
 mod singleton;
-#[cfg(test)]
-mod singleton_tests;
 
 pub use laws::{
     activations_are_exact, grants_and_older_ballots_are_exact, new_ballots_are_higher,

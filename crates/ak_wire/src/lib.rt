@@ -4,8 +4,6 @@
 mod action;
 mod bodies;
 mod checking;
-#[cfg(test)]
-mod datagram_tests;
 mod envelope;
 mod laws;
 mod measuring;

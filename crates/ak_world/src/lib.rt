@@ -1,20 +1,10 @@
 //! A recorded world: the nodes that were started, every packet that was ever sent, and the history of the cluster.
 #![tactic(auto)]
 
-#[cfg(test)]
-mod fold_tests;
 mod kept;
 mod laws;
-#[cfg(test)]
-mod life_tests;
-#[cfg(test)]
-mod line_tests;
 mod margin;
-#[cfg(test)]
-mod margin_tests;
 mod print;
-#[cfg(test)]
-mod seen_tests;
 mod world;
 
 pub use laws::{

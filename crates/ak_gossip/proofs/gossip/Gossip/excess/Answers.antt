@@ -25,7 +25,8 @@ pub overflow_cast-result : goal.overflow_cast-result
 overflow_cast-result c =
     omega (
       arith,
-      c.in_ok-union.ensures,
+      c.uniques-union.ensures,
+      ap (λ (s : Standings). map.len s) c.in_ok-both_members.ensures,
       c.self.invariant.few,
       c.incoming.invariant.few,
       ap (λ (s : Standings). map.len s) c.members-3.ensures,

@@ -1,0 +1,176 @@
+use crate::build::{members_of, note};
+use ak_address::{Unique, Uniques, parse_unique};
+use ak_member::{Effect, Effects, Member, Members, Standing, Status};
+use std::alloc::{AllocError, Global};
+use std::test::Fail;
+
+const JOINING: Standing = Standing::Member(Status::Joining, 0);
+
+fn up(number: u64) -> Standing {
+    Standing::Member(Status::Up, number)
+}
+
+fn down(number: u64) -> Standing {
+    Standing::Member(Status::Down, number)
+}
+
+fn copy_of(alloc: Global, pairs: &[(&str, Standing)]) -> Result<Members, Fail> {
+    let members = members_of(alloc, pairs)?;
+    Ok(members.copy(alloc)?)
+}
+
+fn merge_in(alloc: Global, both: &mut Members, pairs: &[(&str, Standing)]) -> Result<(), Fail> {
+    let other = members_of(alloc, pairs)?;
+    Ok(both.merge(alloc, &other)?)
+}
+
+// A copy of the members of the own pairs, merged with those of the others.
+fn merged(
+    alloc: Global,
+    own: &[(&str, Standing)],
+    other: &[(&str, Standing)],
+) -> Result<Members, Fail> {
+    let mut both = copy_of(alloc, own)?;
+    merge_in(alloc, &mut both, other)?;
+    Ok(both)
+}
+
+// A process by the first letter of its host, and its uid.
+fn name(who: &Unique) -> (u8, u64) {
+    let letter = who.address.host.bytes().first().copied();
+    (letter.unwrap_or(0), who.uid)
+}
+
+// Who stands at a row, and what is known of it.
+fn pair(members: &Members, pair: usize) -> Option<((u8, u64), Standing)> {
+    match members.pair(pair) {
+        Some((who, standing)) => Some((name(who), standing)),
+        None => None,
+    }
+}
+
+fn stands(members: &Members, index: usize, who: (u8, u64), standing: Standing) -> bool {
+    pair(members, index) == Some((who, standing))
+}
+
+// Whether a is Up with number 1, and b stays buried.
+fn keep_the_tombstone(both: &Members) -> bool {
+    let up = stands(both, 0, (b'a', 1), up(1));
+    let buried = stands(both, 1, (b'b', 1), Standing::Buried(false));
+    up && buried && both.len() == 1 && both.buried_len() == 1 && both.uniques() == 2
+}
+
+#[test]
+fn members_merge_with_tombstones(rt: HostRuntime) -> Result<(), Fail> {
+    let own = [("a:1#1", up(1)), ("b:1#1", Standing::Buried(false))];
+    let other = [("a:1#1", up(1)), ("b:1#1", up(2))];
+    assert!(rt; keep_the_tombstone(&merged(rt.alloc(), &own, &other)?));
+    Ok(())
+}
+
+// Whether the two standings of one process merge to the wanted one.
+fn merge_to(alloc: Global, own: Standing, other: Standing, wanted: Standing) -> Result<bool, Fail> {
+    let both = merged(alloc, &[("a:1#1", own)], &[("a:1#1", other)])?;
+    Ok(stands(&both, 0, (b'a', 1), wanted))
+}
+
+#[test]
+fn standings_of_one_process_merge(rt: HostRuntime) -> Result<(), Fail> {
+    let confirmed = Standing::Buried(true);
+    let unconfirmed = Standing::Buried(false);
+    let cases = [
+        (up(3), up(2), up(2)),
+        (JOINING, up(2), up(2)),
+        (up(2), JOINING, up(2)),
+        (up(2), down(0), down(2)),
+        (down(2), up(2), down(2)),
+        (confirmed, unconfirmed, confirmed),
+        (unconfirmed, confirmed, confirmed),
+        (unconfirmed, up(1), unconfirmed),
+        (up(1), confirmed, confirmed),
+    ];
+    for (own, other, wanted) in &cases {
+        assert!(rt;
+            merge_to(rt.alloc(), *own, *other, *wanted)?,
+            "{own:?} and {other:?}"
+        );
+    }
+    Ok(())
+}
+
+// Whether b is the oldest, two addresses are counted, and the three members of them stand in this order by age.
+fn stand_by_age(alloc: Global, members: &Members) -> Result<bool, Fail> {
+    if members.uniques() >= 100 {
+        return Ok(false);
+    }
+    let oldest = members.oldest().map(name) == Some((b'b', 1));
+    let counted = members.counted() == 2;
+    let indices = members.by_age(alloc)?;
+    Ok(oldest && counted && indices.as_slice() == [1, 2, 0].as_slice())
+}
+
+#[test]
+fn up_and_leaving_members_have_an_age(rt: HostRuntime) -> Result<(), Fail> {
+    let pairs = [
+        ("a:1#1", up(3)),
+        ("b:1#1", Standing::Member(Status::Leaving, 1)),
+        ("b:1#2", up(1)),
+        ("c:1#1", JOINING),
+        ("d:1#1", down(2)),
+    ];
+    let members = members_of(rt.alloc(), &pairs)?;
+    assert!(rt; stand_by_age(rt.alloc(), &members)?);
+    Ok(())
+}
+
+fn joined(alloc: Global, who: &[u8]) -> Result<Effect, Fail> {
+    Ok(Effect::Joined(parse_unique(alloc, who)?))
+}
+
+fn risen(alloc: Global, who: &[u8], number: u64) -> Result<Effect, Fail> {
+    Ok(Effect::Rise(parse_unique(alloc, who)?, Status::Up, number))
+}
+
+fn removed(alloc: Global, who: &[u8]) -> Result<Effect, Fail> {
+    Ok(Effect::Removed(parse_unique(alloc, who)?, true))
+}
+
+// The effects that make b a member with number 2, bury a, and find nobody unreachable.
+fn push_all(alloc: Global, effects: &mut Effects) -> Result<(), Fail> {
+    effects.push(joined(alloc, b"b:1#1")?)?;
+    effects.push(risen(alloc, b"b:1#1", 2)?)?;
+    effects.push(removed(alloc, b"a:1#1")?)?;
+    effects.push(Effect::Observed(Uniques::empty(alloc)))?;
+    Ok(())
+}
+
+// A copy of these effects.
+fn effects(alloc: Global) -> Result<Effects, Fail> {
+    let mut effects = Effects::empty(alloc);
+    push_all(alloc, &mut effects)?;
+    Ok(effects.copy(alloc)?)
+}
+
+fn are_four(effects: &Effects) -> bool {
+    let found = matches!(effects.at(3), Some(Effect::Observed(_)));
+    effects.len() == 4 && effects.as_slice().len() == 4 && found
+}
+
+// Whether a is buried after the effects, and b is Up.
+fn are_applied(alloc: Global, effects: &Effects) -> Result<bool, Fail> {
+    let members = members_of(alloc, &[("a:1#1", up(1))])?;
+    Ok(bury_and_raise(&members.after(alloc, effects)?))
+}
+
+fn bury_and_raise(members: &Members) -> bool {
+    let buried = stands(members, 0, (b'a', 1), Standing::Buried(true));
+    buried && stands(members, 1, (b'b', 1), up(2))
+}
+
+#[test]
+fn effects_are_applied_in_order(rt: HostRuntime) -> Result<(), Fail> {
+    let effects = effects(rt.alloc())?;
+    assert!(rt; are_four(&effects));
+    assert!(rt; are_applied(rt.alloc(), &effects)?);
+    Ok(())
+}

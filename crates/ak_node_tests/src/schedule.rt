@@ -1,0 +1,236 @@
+use ak_address::parse_address;
+use ak_schedule::{Draft, Event, LineFault, Settings, Strategy, print_event, read_line};
+use std::alloc::{AllocError, Global};
+use std::test::Fail;
+
+fn print_copy(copy: &Result<Event, AllocError>, out: &mut Vec<u8>) -> Result<(), Fail> {
+    match copy {
+        Ok(event) => Ok(print_event(event, out)?),
+        Err(_) => Err("out of memory")?,
+    }
+}
+
+fn print_copy_of(alloc: Global, event: &Event, out: &mut Vec<u8>) -> Result<(), Fail> {
+    print_copy(&event.copy(alloc), out)
+}
+
+fn print_code(alloc: Global, fault: &LineFault, out: &mut Vec<u8>) -> Result<(), Fail> {
+    let code = format!(in alloc; "{fault}")?;
+    Ok(out.extend_from_slice(code.as_bytes())?)
+}
+
+// Whether a copy of the event is printed so, or the fault has this code.
+fn shows(alloc: Global, read: &Result<Event, LineFault>, wanted: &str) -> Result<bool, Fail> {
+    let mut out = Vec::new(alloc);
+    match read {
+        Ok(event) => print_copy_of(alloc, event, &mut out)?,
+        Err(fault) => print_code(alloc, fault, &mut out)?,
+    }
+    Ok(out.as_slice() == wanted.as_bytes())
+}
+
+fn reads_as(alloc: Global, line: &str, wanted: &str) -> Result<bool, Fail> {
+    shows(alloc, &read_line(alloc, line.as_bytes()), wanted)
+}
+
+// A line, and what it reads as.
+static LINES: [(&str, &str); 26] = [
+    ("start n1:1#1", "start n1:1#1"),
+    ("  found  n1:01#0001 ", "found n1:1#1"),
+    ("join n2:1#2 n1:00001", "join n2:1#2 n1:1"),
+    ("tick n1:1#1 0", "tick n1:1#1 0"),
+    ("tick n1:1#1 4294967295", "tick n1:1#1 4294967295"),
+    ("tick n1:1#1 4294967296", "S1"),
+    ("deliver 00000000000000000007", "deliver 7"),
+    ("deliver 000000000000000000007", "S1"),
+    ("deliver 9223372036854775807", "deliver 9223372036854775807"),
+    ("deliver 9223372036854775808", "S1"),
+    ("leave n1:1#1 n2:1#2", "leave n1:1#1 n2:1#2"),
+    ("down n1:1#1 n2:1#2", "down n1:1#1 n2:1#2"),
+    ("offer n1:1#1 !~# 5", "offer n1:1#1 !~# 5"),
+    ("offer n1:1#1 e\u{7f} 5", "S1"),
+    (
+        "offer n1:1#1 0123456789012345678901234567890123456789012345678901234567890123 0",
+        "offer n1:1#1 0123456789012345678901234567890123456789012345678901234567890123 0",
+    ),
+    (
+        "offer n1:1#1 01234567890123456789012345678901234567890123456789012345678901234 0",
+        "S1",
+    ),
+    ("stop n1:1#1", "stop n1:1#1"),
+    ("stop\tn1:1#1", "S1"),
+    ("stop n1:1#1\t", "S1"),
+    ("stop n1:1#1 n1:1#1", "S1"),
+    ("Stop n1:1#1", "S1"),
+    ("stop n1:1", "S1"),
+    ("join n2:1#2 n1:1#1", "S1"),
+    ("margin 6", "S1"),
+    ("", "S1"),
+    ("# start n1:1#1", "S1"),
+];
+
+#[test]
+fn events_are_read_copied_and_printed(rt: HostRuntime) -> Result<(), Fail> {
+    for (line, wanted) in &LINES {
+        assert!(rt; reads_as(rt.alloc(), line, wanted)?, "{line}");
+    }
+    Ok(())
+}
+
+const HEADER_LINES: [&str; 9] = [
+    "listed n1:1 n2:1",
+    "strategy static-quorum 2",
+    "margin 6",
+    "deadline 5",
+    "stable 4",
+    "shards 10",
+    "buffer 7",
+    "threshold 3",
+    "limit 2",
+];
+
+// The settings of nine header lines, one of them another; or how many are read before the refused one.
+fn settings_with(alloc: Global, index: usize, other: &str) -> Result<Settings, usize> {
+    let mut draft = Draft::new(alloc);
+    'headers: for (i, usual) in HEADER_LINES.iter().enumerate() {
+        let line = if i == index { other } else { *usual };
+        let Ok(done) = draft.header(alloc, line.as_bytes()) else {
+            return Err(i);
+        };
+        if done {
+            return draft.finish().map_err(|_| i);
+        }
+    }
+    Err(HEADER_LINES.len())
+}
+
+// The index of a header line, and another line there.
+static ACCEPTED: [(usize, &str); 20] = [
+    (0, "listed a:1"),
+    (
+        0,
+        "listed a:1 a:2 a:3 a:4 a:5 a:6 a:7 a:8 b:1 b:2 b:3 b:4 b:5 b:6 b:7 b:8 c:1 c:2 c:3 c:4 c:5 c:6 c:7 c:8 d:1 d:2 d:3 d:4 d:5 d:6 d:7 d:8",
+    ),
+    (1, "strategy static-quorum 1"),
+    (1, "strategy static-quorum 32"),
+    (1, "strategy keep-majority"),
+    (1, "  strategy   down-all "),
+    (2, "margin 1"),
+    (2, "margin 1000000"),
+    (3, "deadline 1"),
+    (3, "deadline 1000000"),
+    (4, "stable 1"),
+    (4, "stable 0001000000"),
+    (5, "shards 1"),
+    (5, "shards 1000"),
+    (6, "buffer 1"),
+    (6, "buffer 100000"),
+    (7, "threshold 1"),
+    (7, "threshold 1000"),
+    (8, "limit 1"),
+    (8, "limit 1000"),
+];
+
+static REFUSED: [(usize, &str); 28] = [
+    (0, "listed"),
+    (0, "listed a:1 b:1 a:01"),
+    (0, "listed a:1 b"),
+    (
+        0,
+        "listed a:1 a:2 a:3 a:4 a:5 a:6 a:7 a:8 b:1 b:2 b:3 b:4 b:5 b:6 b:7 b:8 c:1 c:2 c:3 c:4 c:5 c:6 c:7 c:8 d:1 d:2 d:3 d:4 d:5 d:6 d:7 d:8 e:1",
+    ),
+    (0, "strategy down-all"),
+    (1, "strategy static-quorum 0"),
+    (1, "strategy static-quorum 33"),
+    (1, "strategy static-quorum"),
+    (1, "strategy keep-majority 1"),
+    (1, "strategy keep-oldest"),
+    (1, "margin 6"),
+    (2, "margin 0"),
+    (2, "margin 1000001"),
+    (2, "margin 6 6"),
+    (2, "margin"),
+    (3, "deadline 0"),
+    (3, "deadline 1000001"),
+    (4, "stable 0"),
+    (4, "stable 1000001"),
+    (5, "shards 0"),
+    (5, "shards 1001"),
+    (6, "buffer 0"),
+    (6, "buffer 100001"),
+    (7, "threshold 0"),
+    (7, "threshold 1001"),
+    (8, "limit 0"),
+    (8, "limit 1001"),
+    (8, "limit\t1"),
+];
+
+#[test]
+fn headers_are_read_in_their_order_and_ranges(rt: HostRuntime) -> Result<(), Fail> {
+    for (index, line) in &ACCEPTED {
+        assert!(rt; settings_with(rt.alloc(), *index, line).is_ok());
+    }
+    for (index, line) in &REFUSED {
+        assert_eq!(rt; settings_with(rt.alloc(), *index, line).err(), Some(*index));
+    }
+    Ok(())
+}
+
+// How many addresses are listed, the quorum, and then the settings in their order.
+fn numbers(settings: &Settings) -> [usize; 9] {
+    [
+        settings.listed.len(),
+        settings.settling() as usize,
+        settings.margin as usize,
+        settings.deadline as usize,
+        settings.stable as usize,
+        settings.shards as usize,
+        settings.buffer as usize,
+        settings.threshold as usize,
+        settings.limit as usize,
+    ]
+}
+
+fn lists(alloc: Global, settings: &Settings, address: &str) -> Result<bool, Fail> {
+    Ok(settings.is_listed(&parse_address(alloc, address.as_bytes())?))
+}
+
+// A copy of the settings that all nine usual lines make.
+fn usual(alloc: Global) -> Result<Settings, Fail> {
+    match settings_with(alloc, 0, HEADER_LINES[0]) {
+        Ok(settings) => Ok(settings.copy(alloc)?),
+        Err(_) => Err("refused")?,
+    }
+}
+
+#[test]
+fn settings_are_those_of_the_lines(rt: HostRuntime) -> Result<(), Fail> {
+    let settings = usual(rt.alloc())?;
+    assert_eq!(rt; numbers(&settings), [2, 2, 6, 5, 4, 10, 7, 3, 2]);
+    assert_eq!(rt; settings.strategy, Strategy::StaticQuorum(2));
+    assert!(rt; lists(rt.alloc(), &settings, "n2:1")?);
+    assert!(rt; !lists(rt.alloc(), &settings, "n2:2")?);
+    Ok(())
+}
+
+#[test]
+fn a_draft_without_its_lines_is_not_finished(rt: HostRuntime) {
+    assert!(rt; Draft::new(rt.alloc()).finish().is_err());
+}
+
+fn shows_as(alloc: Global, fault: &LineFault, code: &str) -> Result<bool, Fail> {
+    Ok(format!(in alloc; "{fault}")?.as_str() == code)
+}
+
+#[test]
+fn a_fault_shows_as_its_code(rt: HostRuntime) -> Result<(), Fail> {
+    let faults = [
+        (LineFault::Malformed, "S1"),
+        (LineFault::BadHeader, "S2"),
+        (LineFault::NoMemory, "memory"),
+    ];
+    for (fault, code) in &faults {
+        assert!(rt; shows_as(rt.alloc(), fault, code)?);
+    }
+    Ok(())
+}

@@ -1,0 +1,185 @@
+use ak_address::{Unique, Uniques, parse_unique};
+use ak_downing::{Decision, decide, downs, reachable_addresses};
+use ak_member::{Effect, Members, Status};
+use ak_reach::Rows;
+use ak_schedule::Strategy;
+use std::alloc::Global;
+use std::test::Fail;
+
+// Sides are written in bits: the last one is a's.
+const NAMES: [&str; 6] = ["a:1#1", "b:1#1", "c:1#1", "d:1#1", "e:1#1", "f:1#1"];
+
+fn members_of(alloc: Global, texts: &[&str]) -> Result<Members, Fail> {
+    let mut members = Members::empty(alloc);
+    for text in texts {
+        members.raise(alloc, &parse_unique(alloc, text.as_bytes())?, Status::Up, 1)?;
+    }
+    Ok(members)
+}
+
+fn side_of(alloc: Global, bits: u32) -> Result<Uniques, Fail> {
+    let mut side = Uniques::empty(alloc);
+    let mut rest = bits;
+    for name in NAMES {
+        if rest % 2 == 1 {
+            side.insert(alloc, &parse_unique(alloc, name.as_bytes())?)?;
+        }
+        rest /= 2;
+    }
+    Ok(side)
+}
+
+fn first_of(bits: u32) -> &'static str {
+    let mut rest = bits;
+    for name in NAMES {
+        if rest % 2 == 1 {
+            return name;
+        }
+        rest /= 2;
+    }
+    NAMES[0]
+}
+
+// The one row that there is: this observer's, with those of the other side.
+fn rows_of(alloc: Global, observer: &Unique, other: u32) -> Result<Rows, Fail> {
+    let mut rows = Rows::empty(alloc);
+    rows.set_row(alloc, observer, 1, &side_of(alloc, other)?)?;
+    Ok(rows)
+}
+
+// What the first node of a side decides, which finds the other side unreachable; none where there are too many to count.
+fn decided(
+    alloc: Global,
+    strategy: &Strategy,
+    members: &Members,
+    side: u32,
+    other: u32,
+) -> Result<Option<Decision>, Fail> {
+    let me = parse_unique(alloc, first_of(side).as_bytes())?;
+    let rows = rows_of(alloc, &me, other)?;
+    if members.uniques() < 100 {
+        return Ok(Some(decide(strategy, members, &rows, &me)));
+    }
+    Ok(None)
+}
+
+// Whose status the effect raises to Down, by the first letter; 0 for another effect, and for none.
+fn downed(effect: Option<&Effect>) -> u8 {
+    match effect {
+        Some(Effect::Rise(who, Status::Down, 0)) => {
+            who.address.host.bytes().first().copied().unwrap_or(0)
+        }
+        _ => 0,
+    }
+}
+
+// The first three that the decision downs at that node.
+fn first_downed(alloc: Global, decision: Decision, side: u32, other: u32) -> Result<[u8; 3], Fail> {
+    let members = members_of(alloc, &NAMES[..5])?;
+    let me = parse_unique(alloc, first_of(side).as_bytes())?;
+    let rows = rows_of(alloc, &me, other)?;
+    let effects = downs(alloc, decision, &members, &rows, &me)?;
+    Ok([
+        downed(effects.at(0)),
+        downed(effects.at(1)),
+        downed(effects.at(2)),
+    ])
+}
+
+#[test]
+fn quorum_decisions(rt: HostRuntime) -> Result<(), Fail> {
+    let members = members_of(rt.alloc(), &NAMES[..5])?;
+    for (quorum, side, other, wanted) in [
+        (3, 0b00111, 0b11000, Decision::DownUnreachable),
+        (3, 0b11000, 0b00111, Decision::DownReachable),
+        (2, 0b00111, 0b11000, Decision::DownAll),
+        (0, 0b00111, 0b11000, Decision::DownAll),
+        (4294967295, 0b00111, 0b11000, Decision::DownReachable),
+    ] {
+        let strategy = Strategy::StaticQuorum(quorum);
+        let decision = decided(rt.alloc(), &strategy, &members, side, other)?;
+        assert_eq!(rt; decision, Some(wanted), "{quorum}");
+    }
+    Ok(())
+}
+
+#[test]
+fn majority_decisions(rt: HostRuntime) -> Result<(), Fail> {
+    let members = members_of(rt.alloc(), &NAMES[..4])?;
+    for (side, other, wanted) in [
+        (0b0011, 0b1100, Decision::DownUnreachable),
+        (0b1100, 0b0011, Decision::DownReachable),
+        (0b1110, 0b0001, Decision::DownUnreachable),
+    ] {
+        let decision = decided(rt.alloc(), &Strategy::KeepMajority, &members, side, other)?;
+        assert_eq!(rt; decision, Some(wanted));
+    }
+    Ok(())
+}
+
+#[test]
+fn a_decision_downs_its_members(rt: HostRuntime) -> Result<(), Fail> {
+    let unreachable = first_downed(rt.alloc(), Decision::DownUnreachable, 0b00111, 0b11000)?;
+    assert_eq!(rt; unreachable, [b'd', b'e', 0]);
+    let reachable = first_downed(rt.alloc(), Decision::DownReachable, 0b11000, 0b00111)?;
+    assert_eq!(rt; reachable, [b'd', b'e', 0]);
+    let all = first_downed(rt.alloc(), Decision::DownAll, 0b00111, 0b11000)?;
+    assert_eq!(rt; all, [b'a', b'b', b'c']);
+    Ok(())
+}
+
+#[test]
+fn an_address_counts_once(rt: HostRuntime) -> Result<(), Fail> {
+    let members = members_of(rt.alloc(), &["a:1#1", "a:1#2", "b:1#1", "c:1#1"])?;
+    let me = parse_unique(rt.alloc(), b"c:1#1")?;
+    let rows = rows_of(rt.alloc(), &me, 0b101)?;
+    assert!(rt; members.uniques() < 100);
+    assert_eq!(rt; reachable_addresses(&members, &rows, &me), 3);
+    Ok(())
+}
+
+// Whether both sides of a split go on.
+fn both_go_on(
+    alloc: Global,
+    strategy: &Strategy,
+    members: &Members,
+    side: u32,
+    other: u32,
+) -> Result<bool, Fail> {
+    let one = decided(alloc, strategy, members, side, other)?;
+    let another = decided(alloc, strategy, members, other, side)?;
+    Ok(one == Some(Decision::DownUnreachable) && another == one)
+}
+
+// Whether some split in two of the members that these bits name goes on at both sides.
+fn some_split_goes_on_twice(
+    alloc: Global,
+    strategy: &Strategy,
+    members: &Members,
+    all: u32,
+) -> Result<bool, Fail> {
+    for side in 1..all {
+        if both_go_on(alloc, strategy, members, side, all - side)? {
+            return Ok(true);
+        }
+    }
+    Ok(false)
+}
+
+#[test]
+fn no_split_goes_on_twice(rt: HostRuntime) -> Result<(), Fail> {
+    let five = members_of(rt.alloc(), &NAMES[..5])?;
+    let six = members_of(rt.alloc(), &NAMES)?;
+    for strategy in [
+        Strategy::StaticQuorum(3),
+        Strategy::StaticQuorum(4),
+        Strategy::KeepMajority,
+        Strategy::DownAll,
+    ] {
+        let twice = some_split_goes_on_twice(rt.alloc(), &strategy, &five, 0b11111)?;
+        assert!(rt; !twice);
+        let twice = some_split_goes_on_twice(rt.alloc(), &strategy, &six, 0b111111)?;
+        assert!(rt; !twice);
+    }
+    Ok(())
+}

@@ -1,0 +1,370 @@
+use ak_address::{Address, Text, Unique, parse_address, parse_unique};
+use ak_wire::{Envelope, Message, decode, encode, valid};
+use std::alloc::{AllocError, Global};
+use std::test::Fail;
+
+// A heartbeat from a:1#1 to b:1#1, in its 29 bytes.
+static HEARTBEAT: [u8; 29] = [
+    65, 75, 67, 1, 4, 1, 97, 0, 1, 0, 0, 0, 0, 0, 0, 0, 1, 1, 98, 0, 1, 0, 0, 0, 0, 0, 0, 0, 1,
+];
+
+// a:1#1, b:1#1, and anybody at b:1
+const A: [u8; 12] = [1, 97, 0, 1, 0, 0, 0, 0, 0, 0, 0, 1];
+
+const B: [u8; 12] = [1, 98, 0, 1, 0, 0, 0, 0, 0, 0, 0, 1];
+
+const ANYBODY: [u8; 12] = [1, 98, 0, 1, 0, 0, 0, 0, 0, 0, 0, 0];
+
+// 0, 1, 2^62 and one more
+const ZERO: [u8; 8] = [0, 0, 0, 0, 0, 0, 0, 0];
+
+const ONE: [u8; 8] = [0, 0, 0, 0, 0, 0, 0, 1];
+
+const BOUND: [u8; 8] = [64, 0, 0, 0, 0, 0, 0, 0];
+
+const ABOVE_BOUND: [u8; 8] = [64, 0, 0, 0, 0, 0, 0, 1];
+
+// shard 999
+const SHARD: [u8; 2] = [3, 231];
+
+// A report of shard 7: its number is 1, and it is hosted.
+const REPORT: [u8; 11] = [0, 7, 0, 0, 0, 0, 0, 0, 0, 1, 1];
+
+const ENTITY: [u8; 4] = [3, b'e', b'!', b'~'];
+
+// Whether it is valid, and is written as these bytes.
+fn is_written(alloc: Global, envelope: &Envelope, bytes: &[u8]) -> bool {
+    if !valid(envelope) {
+        return false;
+    }
+    match encode(alloc, envelope) {
+        Ok(written) => written.as_slice() == bytes,
+        Err(_) => false,
+    }
+}
+
+// Whether it is valid, and whether it is written as these bytes. Every envelope of these tests ends here: a function that lets
+// one go is proved for each kind of message.
+fn answers(alloc: Global, envelope: Envelope, bytes: &[u8]) -> (bool, bool) {
+    (valid(&envelope), is_written(alloc, &envelope, bytes))
+}
+
+// The number of the fault, 9 where memory ran out, and 0 where the bytes are read; and whether what is read is valid, and is
+// written as the same bytes.
+fn read(alloc: Global, bytes: &[u8]) -> (u8, bool) {
+    match decode(alloc, bytes) {
+        Ok(envelope) => (0, answers(alloc, envelope, bytes).1),
+        Err(fault) => (fault.number().unwrap_or(9), false),
+    }
+}
+
+fn outcome(alloc: Global, bytes: &[u8]) -> u8 {
+    read(alloc, bytes).0
+}
+
+fn comes_back(alloc: Global, bytes: &[u8]) -> bool {
+    read(alloc, bytes).1
+}
+
+// The bytes with one of them changed.
+fn changed(alloc: Global, bytes: &[u8], place: usize, byte: u8) -> Result<Vec<u8>, AllocError> {
+    let mut copy = Vec::from_slice(alloc, bytes)?;
+    if place < copy.len() {
+        copy[place] = byte;
+    }
+    Ok(copy)
+}
+
+fn has_short_beginnings(alloc: Global, bytes: &[u8]) -> bool {
+    for end in 0..bytes.len() {
+        if outcome(alloc, &bytes[..end]) != 1 {
+            return false;
+        }
+    }
+    true
+}
+
+// Whether each beginning is short, and a byte more is too many.
+fn has_its_length(alloc: Global, bytes: &[u8]) -> Result<bool, AllocError> {
+    let mut longer = Vec::from_slice(alloc, bytes)?;
+    longer.push(0)?;
+    Ok(has_short_beginnings(alloc, bytes) && outcome(alloc, &longer) == 8)
+}
+
+#[test]
+fn a_heartbeat_has_29_bytes(rt: HostRuntime) -> Result<(), Fail> {
+    let alloc = rt.alloc();
+    assert!(rt; comes_back(alloc, &HEARTBEAT));
+    assert!(rt; has_its_length(alloc, &HEARTBEAT)?);
+    Ok(())
+}
+
+// Whether a heartbeat with one byte changed has this fault.
+fn is_refused(alloc: Global, place: usize, byte: u8, fault: u8) -> Result<bool, AllocError> {
+    let bytes = changed(alloc, &HEARTBEAT, place, byte)?;
+    Ok(outcome(alloc, &bytes) == fault)
+}
+
+fn all_refused(alloc: Global, cases: &[(usize, u8, u8)]) -> Result<bool, AllocError> {
+    for (place, byte, fault) in cases {
+        if !is_refused(alloc, *place, *byte, *fault)? {
+            return Ok(false);
+        }
+    }
+    Ok(true)
+}
+
+#[test]
+fn each_bad_field_of_a_heartbeat_is_refused(rt: HostRuntime) -> Result<(), Fail> {
+    let head = [(0, 66, 2), (2, 65, 2), (3, 2, 3), (4, 0, 4), (4, 26, 4)];
+    let from = [
+        (5, 0, 5),
+        (5, 65, 5),
+        (6, 32, 7),
+        (8, 0, 7),
+        (9, 128, 7),
+        (16, 0, 7),
+    ];
+    let to = [
+        (17, 0, 5),
+        (17, 65, 5),
+        (18, 47, 7),
+        (20, 0, 7),
+        (21, 128, 7),
+        (28, 0, 7),
+    ];
+    assert!(rt; all_refused(rt.alloc(), &head)?);
+    assert!(rt; all_refused(rt.alloc(), &from)?);
+    assert!(rt; all_refused(rt.alloc(), &to)?);
+    Ok(())
+}
+
+fn is_for_anybody(kind: u8) -> bool {
+    matches!(kind, 1 | 23 | 24 | 25)
+}
+
+// The header of a kind, a:1#1, and b:1#1 or anybody at b:1.
+fn push_head(kind: u8, out: &mut Vec<u8>) -> Result<(), AllocError> {
+    out.extend_from_slice(b"AKC\x01")?;
+    out.push(kind)?;
+    out.extend_from_slice(&A)?;
+    if is_for_anybody(kind) {
+        return out.extend_from_slice(&ANYBODY);
+    }
+    out.extend_from_slice(&B)
+}
+
+// A process in a gossip: its count, joining, and that it has seen the gossip.
+fn push_part(process: &[u8], count: &[u8], out: &mut Vec<u8>) -> Result<(), AllocError> {
+    out.extend_from_slice(process)?;
+    out.extend_from_slice(count)?;
+    out.push(1)?;
+    out.extend_from_slice(&ZERO)?;
+    out.push(1)?;
+    out.extend_from_slice(&ZERO)
+}
+
+fn push_gossip(out: &mut Vec<u8>) -> Result<(), AllocError> {
+    out.push(2)?;
+    push_part(&A, &BOUND, out)?;
+    push_part(&B, &ZERO, out)
+}
+
+fn push_ballot(out: &mut Vec<u8>) -> Result<(), AllocError> {
+    out.extend_from_slice(&BOUND)?;
+    out.extend_from_slice(&B)
+}
+
+fn push_version(out: &mut Vec<u8>) -> Result<(), AllocError> {
+    out.push(1)?;
+    out.extend_from_slice(&A)?;
+    out.extend_from_slice(&BOUND)
+}
+
+fn push_reports(out: &mut Vec<u8>) -> Result<(), AllocError> {
+    out.extend_from_slice(&[0, 1])?;
+    out.extend_from_slice(&REPORT)
+}
+
+// What a body has first: a gossip, a ballot, a process or an entity.
+fn push_first(kind: u8, out: &mut Vec<u8>) -> Result<(), AllocError> {
+    match kind {
+        2 | 3 => push_gossip(out),
+        7..=21 => push_ballot(out),
+        23 | 24 => out.extend_from_slice(&B),
+        22 | 25 => out.extend_from_slice(&ENTITY),
+        _ => Ok(()),
+    }
+}
+
+// And what it has then: a ballot, a version, a shard or a payload.
+fn push_second(kind: u8, out: &mut Vec<u8>) -> Result<(), AllocError> {
+    match kind {
+        9 | 10 => push_ballot(out),
+        8 | 12 | 13 => push_version(out),
+        14..=21 => out.extend_from_slice(&SHARD),
+        22 | 25 => out.extend_from_slice(&ZERO),
+        _ => Ok(()),
+    }
+}
+
+// And last: reports, a process or a number.
+fn push_third(kind: u8, out: &mut Vec<u8>) -> Result<(), AllocError> {
+    match kind {
+        8 => push_reports(out),
+        15 => out.extend_from_slice(&A),
+        16..=21 => out.extend_from_slice(&BOUND),
+        _ => Ok(()),
+    }
+}
+
+fn spelling(alloc: Global, kind: u8) -> Result<Vec<u8>, AllocError> {
+    let mut out = Vec::new(alloc);
+    push_kind(kind, &mut out)?;
+    Ok(out)
+}
+
+fn push_kind(kind: u8, out: &mut Vec<u8>) -> Result<(), AllocError> {
+    push_head(kind, out)?;
+    push_first(kind, out)?;
+    push_second(kind, out)?;
+    push_third(kind, out)
+}
+
+fn kind_comes_back(alloc: Global, kind: u8) -> Result<bool, AllocError> {
+    let bytes = spelling(alloc, kind)?;
+    Ok(comes_back(alloc, &bytes))
+}
+
+#[test]
+fn each_kind_is_read_and_written(rt: HostRuntime) -> Result<(), Fail> {
+    for kind in 1..26 {
+        assert!(rt; kind_comes_back(rt.alloc(), kind)?, "{kind}");
+    }
+    Ok(())
+}
+
+fn kind_has_its_length(alloc: Global, kind: u8) -> Result<bool, AllocError> {
+    let bytes = spelling(alloc, kind)?;
+    has_its_length(alloc, &bytes)
+}
+
+#[test]
+fn each_kind_has_its_length(rt: HostRuntime) -> Result<(), Fail> {
+    for kind in 1..26 {
+        assert!(rt; kind_has_its_length(rt.alloc(), kind)?, "{kind}");
+    }
+    Ok(())
+}
+
+// Whether this last byte of the uid is out of its range.
+fn refuses_uid(alloc: Global, bytes: &[u8], uid: u8) -> Result<bool, AllocError> {
+    let other = changed(alloc, bytes, 28, uid)?;
+    Ok(outcome(alloc, &other) == 7)
+}
+
+fn kind_refuses_uid(alloc: Global, kind: u8) -> Result<bool, AllocError> {
+    let bytes = spelling(alloc, kind)?;
+    refuses_uid(alloc, &bytes, u8::from(is_for_anybody(kind)))
+}
+
+#[test]
+fn the_uid_of_a_receiver_is_that_of_its_kind(rt: HostRuntime) -> Result<(), Fail> {
+    for kind in 1..26 {
+        assert!(rt; kind_refuses_uid(rt.alloc(), kind)?, "{kind}");
+    }
+    Ok(())
+}
+
+// Two processes of a gossip, the count of the second, and the fault.
+type Pair = (&'static [u8], &'static [u8], &'static [u8], u8);
+
+fn push_pair(pair: &Pair, out: &mut Vec<u8>) -> Result<(), AllocError> {
+    push_head(3, out)?;
+    out.push(2)?;
+    push_part(pair.0, &ONE, out)?;
+    push_part(pair.1, pair.2, out)
+}
+
+fn pair_comes_to(alloc: Global, pair: &Pair) -> Result<bool, AllocError> {
+    let mut out = Vec::new(alloc);
+    push_pair(pair, &mut out)?;
+    Ok(outcome(alloc, &out) == pair.3)
+}
+
+#[test]
+fn parts_ascend_and_are_in_range(rt: HostRuntime) -> Result<(), Fail> {
+    let pairs: [Pair; 4] = [
+        (&A, &B, &BOUND, 0),
+        (&B, &A, &BOUND, 6),
+        (&A, &A, &BOUND, 6),
+        (&A, &B, &ABOVE_BOUND, 7),
+    ];
+    for pair in &pairs {
+        assert!(rt; pair_comes_to(rt.alloc(), pair)?);
+    }
+    Ok(())
+}
+
+#[test]
+fn a_range_comes_before_an_order(rt: HostRuntime) -> Result<(), Fail> {
+    let pairs: [Pair; 2] = [(&B, &ANYBODY, &BOUND, 7), (&B, &A, &ABOVE_BOUND, 6)];
+    for pair in &pairs {
+        assert!(rt; pair_comes_to(rt.alloc(), pair)?);
+    }
+    Ok(())
+}
+
+fn heartbeat(from: Unique, to: Address) -> Envelope {
+    Envelope {
+        from,
+        to,
+        uid: 1,
+        message: Message::Heartbeat,
+    }
+}
+
+// Whether a heartbeat from a:1#1 to b:1#1 is written as its bytes.
+fn heartbeat_is_written(alloc: Global) -> Result<bool, Fail> {
+    let from = parse_unique(alloc, b"a:1#1")?;
+    let to = parse_address(alloc, b"b:1")?;
+    Ok(answers(alloc, heartbeat(from, to), &HEARTBEAT).1)
+}
+
+#[test]
+fn a_heartbeat_is_written(rt: HostRuntime) -> Result<(), Fail> {
+    assert!(rt; heartbeat_is_written(rt.alloc())?);
+    Ok(())
+}
+
+// An offer to an entity.
+fn offer(from: Unique, to: Address, entity: Text) -> Envelope {
+    Envelope {
+        from,
+        to,
+        uid: 0,
+        message: Message::Offer(entity, 18446744073709551615),
+    }
+}
+
+// The name e of so many bytes.
+fn name(alloc: Global, length: usize) -> Result<Text, AllocError> {
+    let name = vec![in alloc; b'e'; length]?;
+    Text::from_bytes(alloc, &name)
+}
+
+// Whether an offer to an entity of so many bytes can be spelled.
+fn named(alloc: Global, length: usize) -> Result<bool, Fail> {
+    let from = parse_unique(alloc, b"a:1#1")?;
+    let to = parse_address(alloc, b"b:1")?;
+    let entity = name(alloc, length)?;
+    Ok(answers(alloc, offer(from, to, entity), b"").0)
+}
+
+#[test]
+fn an_entity_has_1_to_64_bytes(rt: HostRuntime) -> Result<(), Fail> {
+    assert!(rt; !named(rt.alloc(), 0)?);
+    assert!(rt; named(rt.alloc(), 64)?);
+    assert!(rt; !named(rt.alloc(), 65)?);
+    Ok(())
+}

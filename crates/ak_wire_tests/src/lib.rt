@@ -1,0 +1,7 @@
+//! Datagrams and their fields, written and read: each kind, whole, cut short and spoiled.
+#![tactic(auto)]
+
+#[cfg(test)]
+mod datagram;
+#[cfg(test)]
+mod fields;

@@ -1,0 +1,14 @@
+//! Whole replays, event by event: what a node knows is the fold of the history, lives and margins end as
+//! they must, and the settled views stand in one line.
+#![tactic(auto)]
+
+#[cfg(test)]
+mod fold;
+#[cfg(test)]
+mod life;
+#[cfg(test)]
+mod line;
+#[cfg(test)]
+mod margin;
+#[cfg(test)]
+mod seen;
