@@ -1,12 +1,8 @@
+use crate::bytes::{HEARTBEAT, What, come_to, comes_to, has_short_beginnings};
 use ak_address::{Address, Text, Unique, parse_address, parse_unique};
 use ak_wire::{Envelope, Message, decode, encode, valid};
 use std::alloc::{AllocError, Global};
 use std::test::Fail;
-
-// A heartbeat from a:1#1 to b:1#1, in its 29 bytes.
-static HEARTBEAT: [u8; 29] = [
-    65, 75, 67, 1, 4, 1, 97, 0, 1, 0, 0, 0, 0, 0, 0, 0, 1, 1, 98, 0, 1, 0, 0, 0, 0, 0, 0, 0, 1,
-];
 
 // a:1#1, b:1#1, and anybody at b:1
 const A: [u8; 12] = [1, 97, 0, 1, 0, 0, 0, 0, 0, 0, 0, 1];
@@ -58,7 +54,7 @@ fn read(alloc: Global, bytes: &[u8]) -> (u8, bool) {
     }
 }
 
-fn outcome(alloc: Global, bytes: &[u8]) -> u8 {
+pub(crate) fn outcome(alloc: Global, bytes: &[u8]) -> u8 {
     read(alloc, bytes).0
 }
 
@@ -66,29 +62,11 @@ fn comes_back(alloc: Global, bytes: &[u8]) -> bool {
     read(alloc, bytes).1
 }
 
-// The bytes with one of them changed.
-fn changed(alloc: Global, bytes: &[u8], place: usize, byte: u8) -> Result<Vec<u8>, AllocError> {
-    let mut copy = Vec::from_slice(alloc, bytes)?;
-    if place < copy.len() {
-        copy[place] = byte;
-    }
-    Ok(copy)
-}
-
-fn has_short_beginnings(alloc: Global, bytes: &[u8]) -> bool {
-    for end in 0..bytes.len() {
-        if outcome(alloc, &bytes[..end]) != 1 {
-            return false;
-        }
-    }
-    true
-}
-
 // Whether each beginning is short, and a byte more is too many.
 fn has_its_length(alloc: Global, bytes: &[u8]) -> Result<bool, AllocError> {
     let mut longer = Vec::from_slice(alloc, bytes)?;
     longer.push(0)?;
-    Ok(has_short_beginnings(alloc, bytes) && outcome(alloc, &longer) == 8)
+    Ok(has_short_beginnings(alloc, What::Datagram, bytes) && outcome(alloc, &longer) == 8)
 }
 
 #[test]
@@ -97,21 +75,6 @@ fn a_heartbeat_has_29_bytes(rt: HostRuntime) -> Result<(), Fail> {
     assert!(rt; comes_back(alloc, &HEARTBEAT));
     assert!(rt; has_its_length(alloc, &HEARTBEAT)?);
     Ok(())
-}
-
-// Whether a heartbeat with one byte changed has this fault.
-fn is_refused(alloc: Global, place: usize, byte: u8, fault: u8) -> Result<bool, AllocError> {
-    let bytes = changed(alloc, &HEARTBEAT, place, byte)?;
-    Ok(outcome(alloc, &bytes) == fault)
-}
-
-fn all_refused(alloc: Global, cases: &[(usize, u8, u8)]) -> Result<bool, AllocError> {
-    for (place, byte, fault) in cases {
-        if !is_refused(alloc, *place, *byte, *fault)? {
-            return Ok(false);
-        }
-    }
-    Ok(true)
 }
 
 #[test]
@@ -133,9 +96,9 @@ fn each_bad_field_of_a_heartbeat_is_refused(rt: HostRuntime) -> Result<(), Fail>
         (21, 128, 7),
         (28, 0, 7),
     ];
-    assert!(rt; all_refused(rt.alloc(), &head)?);
-    assert!(rt; all_refused(rt.alloc(), &from)?);
-    assert!(rt; all_refused(rt.alloc(), &to)?);
+    assert!(rt; come_to(rt.alloc(), What::Datagram, &HEARTBEAT, &head)?);
+    assert!(rt; come_to(rt.alloc(), What::Datagram, &HEARTBEAT, &from)?);
+    assert!(rt; come_to(rt.alloc(), What::Datagram, &HEARTBEAT, &to)?);
     Ok(())
 }
 
@@ -258,14 +221,10 @@ fn each_kind_has_its_length(rt: HostRuntime) -> Result<(), Fail> {
 }
 
 // Whether this last byte of the uid is out of its range.
-fn refuses_uid(alloc: Global, bytes: &[u8], uid: u8) -> Result<bool, AllocError> {
-    let other = changed(alloc, bytes, 28, uid)?;
-    Ok(outcome(alloc, &other) == 7)
-}
-
 fn kind_refuses_uid(alloc: Global, kind: u8) -> Result<bool, AllocError> {
     let bytes = spelling(alloc, kind)?;
-    refuses_uid(alloc, &bytes, u8::from(is_for_anybody(kind)))
+    let uid = u8::from(is_for_anybody(kind));
+    comes_to(alloc, What::Datagram, &bytes, &(28, uid, 7))
 }
 
 #[test]

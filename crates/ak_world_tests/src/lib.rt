@@ -12,3 +12,5 @@ mod line;
 mod margin;
 #[cfg(test)]
 mod seen;
+#[cfg(test)]
+mod story;

@@ -1,25 +1,14 @@
-ghost use Rattle.std.specs.Prelude.{◌≡◌, ◌+◌, ◌<◌, ◌≤◌, length, OnOk};
+ghost use Rattle.std.specs.Prelude.{◌+◌, ◌<◌, ◌≤◌, length, OnOk};
 
-use crate::fold::{Story, is_so};
+use crate::story::{Headers, Outcome, Row, Story, is_so, rows_that_go, try_line};
 use ak_address::{Unique, parse_unique};
 use ak_member::{Standing, Status};
-use ak_schedule::{Event, LineFault, read_line};
-use ak_world::{Reason, Refused, World};
+use ak_world::{Reason, World};
 use std::alloc::Global;
 use std::test::Fail;
 
 // One member is enough for a settled view.
-pub(crate) const HEADERS: [&str; 9] = [
-    "listed a:1 b:1 c:1",
-    "strategy down-all",
-    "margin 2",
-    "deadline 9",
-    "stable 9",
-    "shards 10",
-    "buffer 2",
-    "threshold 1",
-    "limit 1",
-];
+pub(crate) const HEADERS: Headers = ["listed a:1 b:1 c:1", "strategy down-all", "deadline 9"];
 
 // What is known of a process.
 const NOTHING: Option<Standing> = None;
@@ -38,63 +27,63 @@ const REMOVED: Option<Standing> = Some(Standing::Buried(true));
 
 // A line of a schedule, the node that acts then, what the founder knows of b:1#1 after it, and whether b:1#1 has stopped.
 #[derive(Clone, Copy)]
-struct Row(&'static str, Option<u32>, Option<Standing>, bool);
+struct Life(&'static str, Option<u32>, Option<Standing>, bool);
 
 // a founds, b joins, and both come Up; a knows so alone.
-static FOUNDED: [Row; 8] = [
-    Row("start a:1#1", Some(0), NOTHING, false),
-    Row("start b:1#1", Some(1), NOTHING, false),
-    Row("found a:1#1", Some(0), NOTHING, false),
-    Row("join b:1#1 a:1", Some(1), NOTHING, false),
-    Row("deliver 1", Some(0), JOINING, false),
-    Row("deliver 2", Some(1), JOINING, false),
-    Row("deliver 3", Some(0), JOINING, false),
-    Row("tick a:1#1 0", Some(0), UP, false),
+static FOUNDED: [Life; 8] = [
+    Life("start a:1#1", Some(0), NOTHING, false),
+    Life("start b:1#1", Some(1), NOTHING, false),
+    Life("found a:1#1", Some(0), NOTHING, false),
+    Life("join b:1#1 a:1", Some(1), NOTHING, false),
+    Life("deliver 1", Some(0), JOINING, false),
+    Life("deliver 2", Some(1), JOINING, false),
+    Life("deliver 3", Some(0), JOINING, false),
+    Life("tick a:1#1 0", Some(0), UP, false),
 ];
 
 // An old packet comes again wherever a node is to tell the other what it knows now. b leaves, and the view settles; then a, the
 // leader, makes it Exiting. b hears of that, says at its tick that it stops, and stops; a removes it as one that has stopped.
 // A packet for b:1#1 is dead then. A second process starts at its address and joins, and a packet for whoever is at that
 // address reaches it, though the one that has stopped stands before it.
-static LEAVES: [Row; 21] = [
-    Row("deliver 3", Some(0), UP, false),
-    Row("deliver 5", Some(1), UP, false),
-    Row("deliver 6", Some(0), UP, false),
-    Row("leave b:1#1 b:1#1", Some(1), UP, false),
-    Row("deliver 5", Some(1), UP, false),
-    Row("deliver 7", Some(0), LEAVING, false),
-    Row("deliver 8", Some(1), LEAVING, false),
-    Row("tick a:1#1 0", Some(0), EXITING, false),
-    Row("deliver 7", Some(0), EXITING, false),
-    Row("deliver 10", Some(1), EXITING, false),
-    Row("tick b:1#1 0", Some(1), EXITING, true),
-    Row("deliver 13", Some(0), EXITING, true),
-    Row("tick a:1#1 0", Some(0), REMOVED, true),
-    Row("deliver 10", None, REMOVED, true),
-    Row("start b:1#2", Some(2), REMOVED, true),
-    Row("join b:1#2 a:1", Some(2), REMOVED, true),
-    Row("deliver 15", Some(0), REMOVED, true),
-    Row("deliver 16", Some(2), REMOVED, true),
-    Row("start c:1#1", Some(3), REMOVED, true),
-    Row("join c:1#1 b:1", Some(3), REMOVED, true),
-    Row("deliver 18", Some(2), REMOVED, true),
+static LEAVES: [Life; 21] = [
+    Life("deliver 3", Some(0), UP, false),
+    Life("deliver 5", Some(1), UP, false),
+    Life("deliver 6", Some(0), UP, false),
+    Life("leave b:1#1 b:1#1", Some(1), UP, false),
+    Life("deliver 5", Some(1), UP, false),
+    Life("deliver 7", Some(0), LEAVING, false),
+    Life("deliver 8", Some(1), LEAVING, false),
+    Life("tick a:1#1 0", Some(0), EXITING, false),
+    Life("deliver 7", Some(0), EXITING, false),
+    Life("deliver 10", Some(1), EXITING, false),
+    Life("tick b:1#1 0", Some(1), EXITING, true),
+    Life("deliver 13", Some(0), EXITING, true),
+    Life("tick a:1#1 0", Some(0), REMOVED, true),
+    Life("deliver 10", None, REMOVED, true),
+    Life("start b:1#2", Some(2), REMOVED, true),
+    Life("join b:1#2 a:1", Some(2), REMOVED, true),
+    Life("deliver 15", Some(0), REMOVED, true),
+    Life("deliver 16", Some(2), REMOVED, true),
+    Life("start c:1#1", Some(3), REMOVED, true),
+    Life("join c:1#1 b:1", Some(3), REMOVED, true),
+    Life("deliver 18", Some(2), REMOVED, true),
 ];
 
 // b stops at once. Its successor asks to join, and so a learns that b has stopped: it goes Down, and the successor waits.
-static REPLACED: [Row; 6] = [
-    Row("stop b:1#1", Some(1), UP, true),
-    Row("start b:1#2", Some(2), UP, true),
-    Row("join b:1#2 a:1", Some(2), UP, true),
-    Row("deliver 5", Some(0), DOWN, true),
-    Row("deliver 5", Some(0), DOWN, true),
-    Row("deliver 2", None, DOWN, true),
+static REPLACED: [Life; 6] = [
+    Life("stop b:1#1", Some(1), UP, true),
+    Life("start b:1#2", Some(2), UP, true),
+    Life("join b:1#2 a:1", Some(2), UP, true),
+    Life("deliver 5", Some(0), DOWN, true),
+    Life("deliver 5", Some(0), DOWN, true),
+    Life("deliver 2", None, DOWN, true),
 ];
 
 // b is downed by hand, and stops as soon as it hears of it.
-static DOWNED: [Row; 3] = [
-    Row("down a:1#1 b:1#1", Some(0), DOWN, false),
-    Row("deliver 3", Some(0), DOWN, false),
-    Row("deliver 5", Some(1), DOWN, true),
+static DOWNED: [Life; 3] = [
+    Life("down a:1#1 b:1#1", Some(0), DOWN, false),
+    Life("deliver 3", Some(0), DOWN, false),
+    Life("deliver 5", Some(1), DOWN, true),
 ];
 
 // What the founder knows of the process.
@@ -114,60 +103,18 @@ fn second_has_stopped(world: &World) -> bool {
     }
 }
 
-// The node that acts at an event.
-fn acting_at(alloc: Global, world: &mut World, line: &str) -> Result<Option<u32>, Fail>
-    requires { length world.old.events < 1000 }
-    ensures { OnOk result (length world.new.events ≡ length world.old.events + 1) }
-{
-    acting_at_read(alloc, world, &read_line(alloc, line.as_bytes()))
-}
-
-fn acting_at_read(
-    alloc: Global,
-    world: &mut World,
-    read: &Result<Event, LineFault>,
-) -> Result<Option<u32>, Fail>
-    requires { length world.old.events < 1000 }
-    ensures { OnOk result (length world.new.events ≡ length world.old.events + 1) }
-{
-    match read {
-        Ok(event) => acting_at_event(alloc, world, event),
-        Err(_) => Err("a line is malformed")?,
+impl Row for Life {
+    fn goes(&self, alloc: Global, world: &mut World) -> Result<bool, Fail>
+        requires { length world.old.events < 1000 }
+        ensures { OnOk result (length world.new.events ≤ length world.old.events + 1) }
+    {
+        let Outcome::Acts(acting) = try_line(alloc, world, self.0)? else {
+            return Err("an event was refused")?;
+        };
+        let who = parse_unique(alloc, b"b:1#1")?;
+        let known = known_of(world, &who);
+        Ok(acting == self.1 && known == self.2 && second_has_stopped(world) == self.3)
     }
-}
-
-fn acting_at_event(alloc: Global, world: &mut World, event: &Event) -> Result<Option<u32>, Fail>
-    requires { length world.old.events < 1000 }
-    ensures { OnOk result (length world.new.events ≡ length world.old.events + 1) }
-{
-    match world.apply(alloc, event) {
-        Ok(step) => Ok(step.node),
-        Err(_) => Err("an event was refused")?,
-    }
-}
-
-// What a row says happens.
-fn goes(alloc: Global, world: &mut World, row: &Row, who: &Unique) -> Result<bool, Fail>
-    requires { length world.old.events < 1000 }
-    ensures { OnOk result (length world.new.events ≡ length world.old.events + 1) }
-{
-    let acting = acting_at(alloc, world, row.0)?;
-    let known = known_of(world, who);
-    Ok(acting == row.1 && known == row.2 && second_has_stopped(world) == row.3)
-}
-
-// How many of the rows go as they say, one after another: all, or those before the first that does not.
-fn rows_that_go(alloc: Global, world: &mut World, rows: &[Row]) -> Result<usize, Fail>
-    requires { length world.old.events + length rows.now < 1000 }
-    ensures { OnOk result (length world.new.events ≤ length world.old.events + length rows.now) }
-{
-    let who = parse_unique(alloc, b"b:1#1")?;
-    'rows: for (index, row) in rows.iter().enumerate() {
-        if !goes(alloc, world, row, &who)? {
-            return Ok(index);
-        }
-    }
-    Ok(rows.len())
 }
 
 // a founds and b joins, and all rows of that go as they say.
@@ -182,7 +129,7 @@ fn found(alloc: Global, world: &mut World) -> Result<(), Fail>
 }
 
 // Whether all these rows go as they say in a founded world.
-fn all_go_in(alloc: Global, world: &mut World, rows: &[Row]) -> Result<bool, Fail>
+fn all_go_in(alloc: Global, world: &mut World, rows: &[Life]) -> Result<bool, Fail>
     requires small { length world.old.events < 10 }
     requires few { length rows.now < 900 }
     ensures { OnOk result (length world.new.events < 20 + length rows.now) }
@@ -203,46 +150,24 @@ pub(crate) fn is_downed(alloc: Global, world: &mut World) -> Result<bool, Fail>
     all_go_in(alloc, world, &DOWNED)
 }
 
-// Why an event is refused.
-fn reason_for(alloc: Global, world: &mut World, line: &str) -> Result<Reason, Fail>
+// Whether an event is refused for this reason.
+fn is_refused(alloc: Global, world: &mut World, line: &str, reason: Reason) -> Result<bool, Fail>
     requires { length world.old.events < 1000 }
-    ensures { OnOk result (length world.new.events ≡ length world.old.events) }
+    ensures { OnOk result (length world.new.events ≤ length world.old.events + 1) }
 {
-    reason_for_read(alloc, world, &read_line(alloc, line.as_bytes()))
-}
-
-fn reason_for_read(
-    alloc: Global,
-    world: &mut World,
-    read: &Result<Event, LineFault>,
-) -> Result<Reason, Fail>
-    requires { length world.old.events < 1000 }
-    ensures { OnOk result (length world.new.events ≡ length world.old.events) }
-{
-    match read {
-        Ok(event) => reason_for_event(alloc, world, event),
-        Err(_) => Err("a line is malformed")?,
-    }
-}
-
-fn reason_for_event(alloc: Global, world: &mut World, event: &Event) -> Result<Reason, Fail>
-    requires { length world.old.events < 1000 }
-    ensures { OnOk result (length world.new.events ≡ length world.old.events) }
-{
-    match world.apply(alloc, event) {
-        Err(Refused::Invalid(why)) => Ok(why),
-        Err(Refused::NoMemory) => Err("out of memory")?,
-        Ok(_) => Err("an event was accepted")?,
+    match try_line(alloc, world, line)? {
+        Outcome::Acts(_) => Ok(false),
+        Outcome::Refused(why) => Ok(why == reason),
     }
 }
 
 // b, which has stopped, does nothing and does not start again, and nobody else starts where its successor runs.
 fn refuses_what_is_over(alloc: Global, world: &mut World) -> Result<bool, Fail>
-    requires { length world.old.events < 1000 }
+    requires { length world.old.events < 900 }
 {
-    let stopped = reason_for(alloc, world, "tick b:1#1 0")? == Reason::NodeStopped;
-    let used = reason_for(alloc, world, "start b:1#1")? == Reason::UniqueUsed;
-    let taken = reason_for(alloc, world, "start b:1#3")? == Reason::AddressInUse;
+    let stopped = is_refused(alloc, world, "tick b:1#1 0", Reason::NodeStopped)?;
+    let used = is_refused(alloc, world, "start b:1#1", Reason::UniqueUsed)?;
+    let taken = is_refused(alloc, world, "start b:1#3", Reason::AddressInUse)?;
     Ok(stopped && used && taken)
 }
 

@@ -1,36 +1,16 @@
-ghost use Rattle.std.specs.Prelude.{◌≡◌, ◌+◌, ◌<◌, ◌≤◌, length, OnOk};
+ghost use Rattle.std.specs.Prelude.{◌+◌, ◌<◌, ◌≤◌, length, OnOk};
 
-use crate::fold::{Story, apply_line, is_so};
+use crate::story::{Headers, Row, Story, apply_line, is_so, rows_that_go};
 use ak_address::{Unique, parse_unique};
 use ak_world::World;
 use std::alloc::Global;
 use std::test::Fail;
 
 // One member is enough for a settled view, and there is one address.
-pub(crate) const ALONE: [&str; 9] = [
-    "listed a:1",
-    "strategy static-quorum 1",
-    "margin 2",
-    "deadline 9",
-    "stable 9",
-    "shards 10",
-    "buffer 2",
-    "threshold 1",
-    "limit 1",
-];
+pub(crate) const ALONE: Headers = ["listed a:1", "strategy static-quorum 1", "deadline 9"];
 
 // Both members are needed for a settled view.
-pub(crate) const BOTH: [&str; 9] = [
-    "listed a:1 b:1",
-    "strategy static-quorum 2",
-    "margin 2",
-    "deadline 9",
-    "stable 9",
-    "shards 10",
-    "buffer 2",
-    "threshold 1",
-    "limit 1",
-];
+pub(crate) const BOTH: Headers = ["listed a:1 b:1", "strategy static-quorum 2", "deadline 9"];
 
 // How many updates of a:1#1 and of b:1#1 a version counts.
 #[derive(Clone, Copy, PartialEq, Eq)]
@@ -40,41 +20,41 @@ const NOTHING: Updates = Updates(0, 0);
 
 // A line of a schedule, and the versions of the settled views that the first and the second node have noted by its end.
 #[derive(Clone, Copy)]
-struct Row(&'static str, Updates, Updates);
+struct Noted(&'static str, Updates, Updates);
 
 // A founder comes Up alone, leaves, and stops: its view settles twice, each time at a later version, and the one in which it
 // is Exiting is noted by nobody.
-static FOUNDER_LEAVES: [Row; 5] = [
-    Row("start a:1#1", NOTHING, NOTHING),
-    Row("found a:1#1", NOTHING, NOTHING),
-    Row("tick a:1#1 0", Updates(2, 0), NOTHING),
-    Row("leave a:1#1 a:1#1", Updates(3, 0), NOTHING),
-    Row("tick a:1#1 0", Updates(3, 0), NOTHING),
+static FOUNDER_LEAVES: [Noted; 5] = [
+    Noted("start a:1#1", NOTHING, NOTHING),
+    Noted("found a:1#1", NOTHING, NOTHING),
+    Noted("tick a:1#1 0", Updates(2, 0), NOTHING),
+    Noted("leave a:1#1 a:1#1", Updates(3, 0), NOTHING),
+    Noted("tick a:1#1 0", Updates(3, 0), NOTHING),
 ];
 
 // a founds, b joins, and both come Up: what b hears of it is settled, and then what a hears from b.
-static BOTH_RISE: [Row; 12] = [
-    Row("start a:1#1", NOTHING, NOTHING),
-    Row("start b:1#1", NOTHING, NOTHING),
-    Row("found a:1#1", NOTHING, NOTHING),
-    Row("join b:1#1 a:1", NOTHING, NOTHING),
-    Row("deliver 1", NOTHING, NOTHING),
-    Row("deliver 2", NOTHING, NOTHING),
-    Row("deliver 3", NOTHING, NOTHING),
-    Row("tick a:1#1 0", NOTHING, NOTHING),
-    Row("tick a:1#1 0", NOTHING, NOTHING),
-    Row("tick a:1#1 0", NOTHING, NOTHING),
-    Row("deliver 7", NOTHING, Updates(3, 0)),
-    Row("deliver 8", Updates(3, 0), Updates(3, 0)),
+static BOTH_RISE: [Noted; 12] = [
+    Noted("start a:1#1", NOTHING, NOTHING),
+    Noted("start b:1#1", NOTHING, NOTHING),
+    Noted("found a:1#1", NOTHING, NOTHING),
+    Noted("join b:1#1 a:1", NOTHING, NOTHING),
+    Noted("deliver 1", NOTHING, NOTHING),
+    Noted("deliver 2", NOTHING, NOTHING),
+    Noted("deliver 3", NOTHING, NOTHING),
+    Noted("tick a:1#1 0", NOTHING, NOTHING),
+    Noted("tick a:1#1 0", NOTHING, NOTHING),
+    Noted("tick a:1#1 0", NOTHING, NOTHING),
+    Noted("deliver 7", NOTHING, Updates(3, 0)),
+    Noted("deliver 8", Updates(3, 0), Updates(3, 0)),
 ];
 
 // b leaves, and tells: the next settled view is later than the first, at both.
-static ONE_LEAVES: [Row; 5] = [
-    Row("leave b:1#1 b:1#1", Updates(3, 0), Updates(3, 0)),
-    Row("deliver 3", Updates(3, 0), Updates(3, 0)),
-    Row("deliver 9", Updates(3, 0), Updates(3, 0)),
-    Row("deliver 10", Updates(3, 1), Updates(3, 0)),
-    Row("deliver 11", Updates(3, 1), Updates(3, 1)),
+static ONE_LEAVES: [Noted; 5] = [
+    Noted("leave b:1#1 b:1#1", Updates(3, 0), Updates(3, 0)),
+    Noted("deliver 3", Updates(3, 0), Updates(3, 0)),
+    Noted("deliver 9", Updates(3, 0), Updates(3, 0)),
+    Noted("deliver 10", Updates(3, 1), Updates(3, 0)),
+    Noted("deliver 11", Updates(3, 1), Updates(3, 1)),
 ];
 
 // What a node has noted.
@@ -88,32 +68,25 @@ fn noted_by(world: &World, number: u32, a: &Unique, b: &Unique) -> Updates {
     }
 }
 
-// What a row says is noted.
-fn notes(alloc: Global, world: &mut World, row: &Row) -> Result<bool, Fail>
-    requires { length world.old.events < 1000 }
-    ensures { OnOk result (length world.new.events ≡ length world.old.events + 1) }
-{
-    apply_line(alloc, world, row.0)?;
-    let a = parse_unique(alloc, b"a:1#1")?;
-    let b = parse_unique(alloc, b"b:1#1")?;
-    Ok(noted_by(world, 0, &a, &b) == row.1 && noted_by(world, 1, &a, &b) == row.2)
-}
-
-// How many of the rows go as they say, one after another: all, or those before the first that does not.
-fn rows_that_go(alloc: Global, world: &mut World, rows: &[Row]) -> Result<usize, Fail>
-    requires { length world.old.events + length rows.now < 1000 }
-    ensures { OnOk result (length world.new.events ≤ length world.old.events + length rows.now) }
-{
-    'rows: for (index, row) in rows.iter().enumerate() {
-        if !notes(alloc, world, row)? {
-            return Ok(index);
-        }
+impl Row for Noted {
+    fn goes(&self, alloc: Global, world: &mut World) -> Result<bool, Fail>
+        requires { length world.old.events < 1000 }
+        ensures { OnOk result (length world.new.events ≤ length world.old.events + 1) }
+    {
+        apply_line(alloc, world, self.0)?;
+        let a = parse_unique(alloc, b"a:1#1")?;
+        let b = parse_unique(alloc, b"b:1#1")?;
+        Ok(noted_by(world, 0, &a, &b) == self.1 && noted_by(world, 1, &a, &b) == self.2)
     }
-    Ok(rows.len())
 }
 
 // Whether all these rows go as they say, and then all the others.
-fn all_go_in(alloc: Global, world: &mut World, rows: &[Row], others: &[Row]) -> Result<bool, Fail>
+fn all_go_in(
+    alloc: Global,
+    world: &mut World,
+    rows: &[Noted],
+    others: &[Noted],
+) -> Result<bool, Fail>
     requires { length world.old.events + length rows.now + length others.now < 1000 }
 {
     if rows_that_go(alloc, world, rows)? < rows.len() {

@@ -1,22 +1,12 @@
 ghost use Rattle.std.specs.Prelude.{◌+◌, ◌<◌, ◌≤◌, length, IfOk};
 
-use crate::fold::{Story, apply_line, is_so};
+use crate::story::{Headers, Story, apply_line, is_so};
 use ak_world::{Margin, World};
 use std::alloc::Global;
 use std::test::Fail;
 
 // A tombstone waits for two ticks.
-pub(crate) const HEADERS: [&str; 9] = [
-    "listed a:1 b:1",
-    "strategy down-all",
-    "margin 2",
-    "deadline 1",
-    "stable 9",
-    "shards 10",
-    "buffer 2",
-    "threshold 1",
-    "limit 1",
-];
+pub(crate) const HEADERS: Headers = ["listed a:1 b:1", "strategy down-all", "deadline 1"];
 
 // a founds, b joins, both are Up, and b downs a, which does not hear of it.
 static DOWNED: [&str; 11] = [

@@ -1,6 +1,6 @@
 ghost use Rattle.std.specs.Prelude.{◌+◌, ◌<◌, length};
 
-use crate::fold::{FIRST_JOIN, Story, TWO_UPDATES_MERGE, apply_line, is_so};
+use crate::story::{FIRST_JOIN, Story, TWO_UPDATES_MERGE, apply_line, is_so};
 use ak_address::{Unique, Uniques, parse_unique};
 use ak_clock::{Relation, Version};
 use ak_node::Node;

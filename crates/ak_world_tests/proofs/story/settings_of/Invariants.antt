@@ -1,5 +1,5 @@
 use Rattle.std.proofs.Common.{◌<◌}
-use Rattle.ak_world_tests.proofs.fold.settings_of.Given as goal
+use Rattle.ak_world_tests.proofs.story.settings_of.Given as goal
 
 -- the ninth is not read yet
 abbrev pub invariant-headers : goal.invariant-headers

@@ -1,6 +1,0 @@
-use Rattle.std.proofs.Common.{◌≡◌, ◌+◌, length}
-use Rattle.ak_world_tests.proofs.life.rows_that_go.Given as goal
-
--- each row is an event
-abbrev pub invariant-rows : goal.invariant-rows
-invariant-rows l = length l.world.events ≡ length l.fn.world.events + l.index

@@ -1,0 +1,194 @@
+ghost use Rattle.std.specs.Prelude.{◌+◌, ◌<◌, ◌≤◌, length, OnOk};
+
+// The stories of all tests of worlds, and how one goes.
+use crate::{fold, life, line, margin, seen};
+use ak_schedule::{Draft, Event, LineFault, Settings, read_line};
+use ak_world::{Reason, Refused, World};
+use std::alloc::Global;
+use std::test::Fail;
+
+// The headers in which the stories differ: the listed addresses, the strategy and the deadline.
+pub(crate) type Headers = [&'static str; 3];
+
+fn all_headers(headers: Headers) -> [&'static str; 9] {
+    let [listed, strategy, deadline] = headers;
+    [
+        listed,
+        strategy,
+        "margin 2",
+        deadline,
+        "stable 9",
+        "shards 10",
+        "buffer 2",
+        "threshold 1",
+        "limit 1",
+    ]
+}
+
+fn settings_of(alloc: Global, headers: Headers) -> Result<Settings, Fail> {
+    let mut draft = Draft::new(alloc);
+    'headers: for line in all_headers(headers) {
+        if draft.header(alloc, line.as_bytes())? {
+            return Ok(draft.finish().map_err(|_| "a header is missing")?);
+        }
+    }
+    Err("a header is missing")?
+}
+
+// What comes of an event: the node that acts, or why it is refused.
+#[derive(Clone, Copy)]
+pub(crate) enum Outcome {
+    Acts(Option<u32>),
+    Refused(Reason),
+}
+
+// What comes of the event of a line.
+pub(crate) fn try_line(alloc: Global, world: &mut World, line: &str) -> Result<Outcome, Fail>
+    requires { length world.old.events < 1000 }
+    ensures { OnOk result (length world.new.events ≤ length world.old.events + 1) }
+{
+    try_read(alloc, world, &read_line(alloc, line.as_bytes()))
+}
+
+fn try_read(
+    alloc: Global,
+    world: &mut World,
+    read: &Result<Event, LineFault>,
+) -> Result<Outcome, Fail>
+    requires { length world.old.events < 1000 }
+    ensures { OnOk result (length world.new.events ≤ length world.old.events + 1) }
+{
+    match read {
+        Ok(event) => try_event(alloc, world, event),
+        Err(_) => Err("a line is malformed")?,
+    }
+}
+
+fn try_event(alloc: Global, world: &mut World, event: &Event) -> Result<Outcome, Fail>
+    requires { length world.old.events < 1000 }
+    ensures { OnOk result (length world.new.events ≤ length world.old.events + 1) }
+{
+    match world.apply(alloc, event) {
+        Ok(step) => Ok(Outcome::Acts(step.node)),
+        Err(Refused::Invalid(why)) => Ok(Outcome::Refused(why)),
+        Err(Refused::NoMemory) => Err("out of memory")?,
+    }
+}
+
+pub(crate) fn apply_line(alloc: Global, world: &mut World, line: &str) -> Result<(), Fail>
+    requires { length world.old.events < 1000 }
+    ensures { OnOk result (length world.new.events ≤ length world.old.events + 1) }
+{
+    match try_line(alloc, world, line)? {
+        Outcome::Acts(_) => Ok(()),
+        Outcome::Refused(_) => Err("an event was refused")?,
+    }
+}
+
+// A line of a schedule, and what is to be true after it.
+pub(crate) trait Row {
+    // Whether it is so when the line has happened.
+    fn goes(&self, alloc: Global, world: &mut World) -> Result<bool, Fail>
+        requires { length world.old.events < 1000 }
+        ensures { OnOk result (length world.new.events ≤ length world.old.events + 1) };
+}
+
+// How many of the rows go as they say, one after another: all, or those before the first that does not.
+pub(crate) fn rows_that_go<R: Row>(
+    alloc: Global,
+    world: &mut World,
+    rows: &[R],
+) -> Result<usize, Fail>
+    requires { length world.old.events + length rows.now < 1000 }
+    ensures { OnOk result (length world.new.events ≤ length world.old.events + length rows.now) }
+{
+    'rows: for (index, row) in rows.iter().enumerate() {
+        if !row.goes(alloc, world)? {
+            return Ok(index);
+        }
+    }
+    Ok(rows.len())
+}
+
+pub(crate) static FIRST_JOIN: [&str; 7] = [
+    "start a:1#1",
+    "start b:1#1",
+    "found a:1#1",
+    "join b:1#1 a:1",
+    "deliver 1",
+    "deliver 2",
+    "deliver 3",
+];
+
+// c is admitted by a and by b, neither of which knows the other's update; then a merges both.
+pub(crate) static TWO_UPDATES_MERGE: [&str; 14] = [
+    "start a:1#1",
+    "start b:1#1",
+    "start c:1#1",
+    "found a:1#1",
+    "join b:1#1 a:1",
+    "deliver 1",
+    "deliver 2",
+    "join c:1#1 a:1",
+    "join c:1#1 b:1",
+    "deliver 4",
+    "deliver 5",
+    "deliver 2",
+    "deliver 8",
+    "deliver 9",
+];
+
+// What happens in a new world, in all tests of worlds.
+#[derive(Clone, Copy)]
+pub(crate) enum Story {
+    FoldOfFirstJoin,
+    FoldOfTwoUpdates,
+    SeenAtFirstJoin,
+    SeenAtTwoUpdates,
+    SeenAtOldGossip,
+    EndsTooEarly,
+    StopsInTime,
+    IsTold,
+    FounderLeaves,
+    BothRise,
+    Leaves,
+    IsReplaced,
+    IsDowned,
+}
+
+fn headers(story: Story) -> Headers {
+    match story {
+        Story::EndsTooEarly | Story::StopsInTime | Story::IsTold => margin::HEADERS,
+        Story::FounderLeaves => line::ALONE,
+        Story::BothRise => line::BOTH,
+        Story::Leaves | Story::IsReplaced | Story::IsDowned => life::HEADERS,
+        _ => fold::HEADERS,
+    }
+}
+
+fn goes_so(alloc: Global, world: &mut World, story: Story) -> Result<bool, Fail>
+    requires { length world.old.events < 10 }
+{
+    match story {
+        Story::FoldOfFirstJoin => fold::is_fold_of_first_join(alloc, world),
+        Story::FoldOfTwoUpdates => fold::is_fold_of_two_updates(alloc, world),
+        Story::SeenAtFirstJoin => seen::first_join_is_seen(alloc, world),
+        Story::SeenAtTwoUpdates => seen::two_updates_are_seen(alloc, world),
+        Story::SeenAtOldGossip => seen::old_gossip_changes_nothing(alloc, world),
+        Story::EndsTooEarly => margin::ends_too_early(alloc, world),
+        Story::StopsInTime => margin::stops_in_time(alloc, world),
+        Story::IsTold => margin::is_told(alloc, world),
+        Story::FounderLeaves => line::founder_leaves(alloc, world),
+        Story::BothRise => line::both_rise(alloc, world),
+        Story::Leaves => life::leaves(alloc, world),
+        Story::IsReplaced => life::is_replaced(alloc, world),
+        Story::IsDowned => life::is_downed(alloc, world),
+    }
+}
+
+// Whether the story goes so in a new world. A function that owns a world is proved to let it go at each of its ends, which takes
+// long, so this one alone owns one, and the others borrow it.
+pub(crate) fn is_so(alloc: Global, story: Story) -> Result<bool, Fail> {
+    let mut world = World::new(alloc, settings_of(alloc, headers(story))?);
+    goes_so(alloc, &mut world, story)
+}
