@@ -78,6 +78,27 @@ pub(crate) fn changed(
 // What a change comes to: a place, the byte that stands there then, and the number of the fault.
 pub(crate) type Change = (usize, u8, u8);
 
+// Each bad field of a heartbeat, from its first byte to its last.
+pub(crate) static BAD_FIELDS: [Change; 17] = [
+    (0, 66, 2),
+    (2, 65, 2),
+    (3, 2, 3),
+    (4, 0, 4),
+    (4, 26, 4),
+    (5, 0, 5),
+    (5, 65, 5),
+    (6, 32, 7),
+    (8, 0, 7),
+    (9, 128, 7),
+    (16, 0, 7),
+    (17, 0, 5),
+    (17, 65, 5),
+    (18, 47, 7),
+    (20, 0, 7),
+    (21, 128, 7),
+    (28, 0, 7),
+];
+
 pub(crate) fn comes_to(
     alloc: Global,
     what: What,

@@ -1,4 +1,4 @@
-use crate::bytes::{HEARTBEAT, What, come_to, comes_to, has_short_beginnings};
+use crate::bytes::{BAD_FIELDS, HEARTBEAT, What, come_to, comes_to, has_short_beginnings};
 use ak_address::{Address, Text, Unique, parse_address, parse_unique};
 use ak_wire::{Envelope, Message, decode, encode, valid};
 use std::alloc::{AllocError, Global};
@@ -79,26 +79,7 @@ fn a_heartbeat_has_29_bytes(rt: HostRuntime) -> Result<(), Fail> {
 
 #[test]
 fn each_bad_field_of_a_heartbeat_is_refused(rt: HostRuntime) -> Result<(), Fail> {
-    let head = [(0, 66, 2), (2, 65, 2), (3, 2, 3), (4, 0, 4), (4, 26, 4)];
-    let from = [
-        (5, 0, 5),
-        (5, 65, 5),
-        (6, 32, 7),
-        (8, 0, 7),
-        (9, 128, 7),
-        (16, 0, 7),
-    ];
-    let to = [
-        (17, 0, 5),
-        (17, 65, 5),
-        (18, 47, 7),
-        (20, 0, 7),
-        (21, 128, 7),
-        (28, 0, 7),
-    ];
-    assert!(rt; come_to(rt.alloc(), What::Datagram, &HEARTBEAT, &head)?);
-    assert!(rt; come_to(rt.alloc(), What::Datagram, &HEARTBEAT, &from)?);
-    assert!(rt; come_to(rt.alloc(), What::Datagram, &HEARTBEAT, &to)?);
+    assert!(rt; come_to(rt.alloc(), What::Datagram, &HEARTBEAT, &BAD_FIELDS)?);
     Ok(())
 }
 

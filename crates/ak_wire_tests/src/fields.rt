@@ -1,4 +1,4 @@
-use crate::bytes::{HEARTBEAT, What, come_to, comes_to, has_short_beginnings, outcome};
+use crate::bytes::{BAD_FIELDS, HEARTBEAT, What, come_to, comes_to, has_short_beginnings, outcome};
 use ak_address::{Text, Unique, parse_unique};
 use ak_clock::{BOUND, Version};
 use ak_field::{
@@ -33,24 +33,9 @@ static REPORTS: [u8; 24] = [
 
 #[test]
 fn a_heartbeat_is_read_whole(rt: HostRuntime) -> Result<(), Fail> {
-    let changes = [
-        (0, 66, 2),
-        (2, 65, 2),
-        (3, 2, 3),
-        (4, 0, 4),
-        (4, 26, 4),
-        (5, 0, 5),
-        (5, 65, 5),
-        (6, 32, 7),
-        (8, 0, 7),
-        (9, 128, 7),
-        (16, 0, 7),
-        (17, 0, 5),
-        (28, 0, 7),
-    ];
     assert!(rt; outcome(rt.alloc(), What::Envelope, &HEARTBEAT) == 0);
     assert!(rt; has_short_beginnings(rt.alloc(), What::Envelope, &HEARTBEAT));
-    assert!(rt; come_to(rt.alloc(), What::Envelope, &HEARTBEAT, &changes)?);
+    assert!(rt; come_to(rt.alloc(), What::Envelope, &HEARTBEAT, &BAD_FIELDS)?);
     Ok(())
 }
 
