@@ -200,10 +200,6 @@ pub agrees_fewer : (left next : ℕ) (o other : Option UniqueModel) → Agrees l
 agrees_fewer left next None other is = omega (arith, is)
 agrees_fewer left next (Some who) other is = omega (arith, is.0)
 
-pub agreeing_end : (set : List UniqueModel) (end left : ℕ) (names : List UniqueModel) (all : Type 0) → left ≡ 0 → Agreeing set end left names all → all
-agreeing_end set end zero names all none so_far = so_far refl
-agreeing_end set end (suc left) names all none so_far = absurd (omega arith)
-
 -- ---- the ring
 or_turned : (a b : Bool) → (a || b) ≡ (b || a)
 or_turned true true = refl

@@ -106,13 +106,6 @@ keeps_membership given m o l is = record {
       (covers_along (learnt m.me l.knowledge m.gossip).version m.gossip.version (version_of m.settled.view) (learnt_covers m.me l.knowledge m.gossip) is.settled_before));
 }
 
--- a membership that differs in neither what is known nor in its settled view
-pub as_membership : (m l : MembershipState) → l.gossip ≡ m.gossip → l.me ≡ m.me → l.settled ≡ m.settled → IsMembership m → IsMembership l
-as_membership m l knows me settled is = record {
-  itself = subst (λ u. KnowsItself u l.gossip) (sym me) (subst (KnowsItself m.me) (sym knows) is.itself);
-  settled_before = subst (λ (s : SettledModel). Covers l.gossip.version (version_of s.view)) (sym settled) (subst (λ (g : GossipState). Covers g.version (version_of m.settled.view)) (sym knows) is.settled_before);
-}
-
 -- the closing keeps them
 pub close_keeps : (stopping : Bool) (m : MembershipState) → IsMembership m → IsMembership (close stopping m).0
 close_keeps stopping m is = record { itself = is.itself; settled_before = by_case (notes stopping m) }
@@ -160,13 +153,6 @@ module _ (m new : MembershipState) (is : IsMembership m) where
   answered_keeps given free outcome (Err (TooManyUniques union)) l a = same_keeps a.1
   answered_keeps given free outcome (Err NoMemory) l a = same_keeps a.1
 
-pub joined_keeps : (target : AddressModel) (m : MembershipState) → IsMembership m → IsMembership (join target m)
-joined_keeps target m is = by_case (is_member m)
-  where
-    by_case : (b : Bool) → IsMembership (if b then m else record m { target = Some target })
-    by_case true = is
-    by_case false = record { itself = is.itself; settled_before = is.settled_before }
-
 -- ---- it is the same process, whatever a call answered
 itself_same : (m new : MembershipState) → new ≡ m → IsSameProcess m new
 itself_same m new same = record { me = ap (λ (x : MembershipState). x.me) same; settings = ap (λ (x : MembershipState). x.settings) same }
@@ -200,10 +186,3 @@ answered_same m new given free outcome (Err Unlisted) l a = itself_same m new a.
 answered_same m new given free outcome (Err (ForeignCount own theirs)) l a = itself_same m new a.1
 answered_same m new given free outcome (Err (TooManyUniques union)) l a = itself_same m new a.1
 answered_same m new given free outcome (Err NoMemory) l a = itself_same m new a.1
-
-pub joined_same : (target : AddressModel) (m : MembershipState) → IsSameProcess m (join target m)
-joined_same target m = by_case (is_member m)
-  where
-    by_case : (b : Bool) → IsSameProcess m (if b then m else record m { target = Some target })
-    by_case true = record { me = refl; settings = refl }
-    by_case false = record { me = refl; settings = refl }

@@ -28,10 +28,6 @@ AppendsPrefix-after a b c xs ys p f = record {
   prefix = subst (Appends a c) (sym (take-append-add xs ys f.count)) (Appends-trans a b c xs (take f.count ys) p f.prefix);
 }
 
--- nothing is a prefix of each text
-pub AppendsPrefix-none : (a b : Option (List ℕ)) (bs : List ℕ) → Keeps a b → AppendsPrefix a b bs
-AppendsPrefix-none a b bs k = record { count = 0; within = omega arith; prefix = Appends-kept a a b _ (Appends-nil a) k }
-
 -- a text is cut into pieces from the left
 pub AppendsPrefix-regroup : (a b : Option (List ℕ)) (xs ys zs : List ℕ) → AppendsPrefix a b (xs ++ (ys ++ zs)) → AppendsPrefix a b ((xs ++ ys) ++ zs)
 AppendsPrefix-regroup a b xs ys zs f = subst (AppendsPrefix a b) (sym (append_assoc xs ys zs)) f

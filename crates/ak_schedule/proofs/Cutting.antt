@@ -159,13 +159,3 @@ line_cut xs line rest cut =
       line_is = refl;
       whole = inl cut.whole;
     }
-
-pub last_line : (xs : List ℕ) → xs ≢ [] → slice_split (λ b. b == 10) xs ≡ xs ∷ [] → IsFirstLine xs (without_cr xs) []
-last_line [] some h = absurd (some refl)
-last_line (x ∷ xs) some h = record {
-  first = ap (λ (ps : List (List ℕ)). map without_cr (begun ps)) h;
-  shorter = omega arith;
-  with_cr = x ∷ xs;
-  line_is = refl;
-  whole = inr (refl, refl);
-}

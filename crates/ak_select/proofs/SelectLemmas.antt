@@ -20,8 +20,6 @@ keeps_candidates v me seen =
     (λ who. not (is_passed_over seen who))
 
 -- ---- the chosen one
-pub nobody_chosen : (word : ℕ) (xs : List UniqueModel) → length xs ≡ 0 → None ≡ chosen word xs
-nobody_chosen word xs none = sym (slice_get_past xs (word % length xs) (omega arith))
 
 pub somebody_chosen : (word : ℕ) (xs : List UniqueModel) → 0 < length xs → (x : UniqueModel) × (chosen word xs ≡ Some x)
 somebody_chosen word xs some = elim (slice_get_cases xs (word % length xs)).1 [
@@ -29,13 +27,7 @@ somebody_chosen word xs some = elim (slice_get_cases xs (word % length xs)).1 [
   | inr past ↦ let lt = mod-lt word {m = length xs} some in let le = past.0 in absurd (omega arith)
 ]
 
-pub chosen_at : (word count : ℕ) (xs : List UniqueModel) → count ≡ length xs → slice_get xs (word % count) ≡ chosen word xs
-chosen_at word count xs is = ap (λ n. slice_get xs (word % n)) is
-
 -- ---- some first, else all
-first_chosen : (word : ℕ) (unseen others : List UniqueModel) (who : UniqueModel) → Some who ≡ chosen word unseen → Some who ≡ chosen word (unless_empty unseen others)
-first_chosen word [] others who is = absurd (true≢false (ap is_some (is ∙ sym (nobody_chosen word [] refl))))
-first_chosen word (x ∷ unseen) others who is = is
 
 second_chosen : (word : ℕ) (unseen others : List UniqueModel) → None ≡ chosen word unseen → chosen word others ≡ chosen word (unless_empty unseen others)
 second_chosen word [] others none = refl
@@ -46,9 +38,6 @@ second_chosen word (x ∷ unseen) others none =
 all_pass : (xs : List UniqueModel) → filter (λ who. not (is_passed_over None who)) xs ≡ xs
 all_pass [] = refl
 all_pass (x ∷ xs) = ap (λ l. x ∷ l) (all_pass xs)
-
-pub peer_unseen : (word : ℕ) (v : View) (seen : UniqueSet) (me who : UniqueModel) → Some who ≡ chosen word (candidates_among v me (Some seen) (finmap.entries v.standings)) → Some who ≡ peer word v seen me
-peer_unseen word v seen me who is = first_chosen word (filter (λ who. not (has seen who)) (reachable_others v me)) (reachable_others v me) who is
 
 pub peer_seen : (word : ℕ) (v : View) (seen : UniqueSet) (me : UniqueModel) → None ≡ chosen word (candidates_among v me (Some seen) (finmap.entries v.standings))
     → chosen word (candidates_among v me None (finmap.entries v.standings)) ≡ peer word v seen me

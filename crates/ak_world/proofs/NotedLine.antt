@@ -45,20 +45,6 @@ raises_above settings events =
     let base = base_of settings r k entry there in
     k.may entry base.0 (Rise who Joining number) base.1 does)
 
--- by the version that counts nothing nobody has aged
-nothing_done : (settings : SettingsModel) (events : List Event) (x : Effect) → Did (run settings events).history map.empty x → ⊥
-nothing_done settings events x d =
-    let range = number_range (run settings events).history d.entry (run_sound settings events).is_numbered d.in_history in
-    let least = range.least in
-    let none = count-empty d.entry.author in
-    let most = leb-true d.entry.number (count map.empty d.entry.author) d.covered in
-    omega arith
-
-pub nobody_aged : (settings : SettingsModel) (events : List Event) (who : UniqueModel) → IsAged (run settings events).history map.empty who → ⊥
-nobody_aged settings events who (inl rose) = nothing_done settings events (Rise who rose.0 rose.1) rose.2
-nobody_aged settings events who (inr (inl d)) = nothing_done settings events (Removed who true) d
-nobody_aged settings events who (inr (inr d)) = nothing_done settings events (Removed who false) d
-
 counts_apart : (status : Status) → counts status ≡ true → status ≢ Joining
 counts_apart status is joining = true≢false (sym is ∙ ap counts joining)
 
