@@ -3,6 +3,7 @@
 
 mod ballot;
 mod entity;
+mod entity_id;
 mod fault;
 mod fields;
 mod header;
@@ -17,6 +18,7 @@ mod write;
 mod write_lists;
 
 pub use entity::is_entity;
+pub use entity_id::EntityId;
 pub use fault::WireFault;
 pub use fields::Fields;
 pub use header::check_header;

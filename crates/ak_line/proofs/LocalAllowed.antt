@@ -1,15 +1,13 @@
 -- A list of moves of one node, by its own guards, is allowed in each world in which what it heard was said.
-use Rattle.std.proofs.Common.{◌≡◌, true, false, ◌⊎◌, inl, inr, List, [], ◌∷◌, Some, None, Contains, refl, sym, ap, ◌∙◌, subst, true≢false}
+use Rattle.std.proofs.Common.{◌≡◌, true, false, inl, inr, List, [], ◌∷◌, Some, None, Contains, refl, sym, ap, ◌∙◌, subst, true≢false}
 use Rattle.std.proofs.lemmas.Option.{same_Some}
 use Rattle.ak_promise.specs.Ballot.{BallotModel}
-use Rattle.ak_line.specs.Line.{Line, IsLine, IsStrict}
-use Rattle.ak_line.specs.Name.{Name, put_name}
+use Rattle.ak_line.specs.Line.{Line, IsLine}
+use Rattle.ak_line.specs.Name.{Name}
 use Rattle.ak_line.specs.Moves.{Node, Said, Packet, Cluster, Move, ballot_of, actor, set, Sent, Allowed, after, AllAllowed, after_all}
-use Rattle.ak_line.specs.Local.{changed, spoken, Named, Guard, AllLocal, changed_all, Speaks, Mirrors}
+use Rattle.ak_line.specs.Local.{changed, spoken, Named, Guard, AllLocal, changed_all, Speaks}
 use Rattle.ak_address.proofs.Elements.{contains_first, contains_rest}
 use Rattle.ak_line.proofs.Puts.{at_set}
-use Rattle.ak_line.proofs.Names.{at_name}
-use Rattle.ak_line.proofs.OneHome.{safe_after}
 
 module _ {V : Type 0} (l : Line V) (line : IsLine V l) (above : BallotModel → BallotModel → Type 0) where
   set_here : (i : Name) (n : Node V) (nodes : Name → Node V) → set l above i n nodes i ≡ n
@@ -191,24 +189,4 @@ module _ {V : Type 0} (l : Line V) (line : IsLine V l) (above : BallotModel → 
             | inl now ↦ rest.before _ (subst (λ j. Sent l above v j said) by (after_spoken w m said (subst (λ j. spoken l above (w.node j) m ≡ Some said) (sym by) now)))
             | inr later ↦ rest.said said (subst (λ n. Speaks l above n ms said) (sym here) later)
           ];
-        }
-
-  -- ---- a step of one node, where all nodes and packets have their like in a safe world
-  module _ (strict : IsStrict above) (C : Type 0) (like : Name → C → Node V → Type 0) (nodes : Name → C) (said : Name → Said V → Type 0) (stopped : Name → Type 0) where
-    -- the node's new state is like what a list of its moves makes, and it says no more than the list
-    pub mirrors_step : (w : Cluster V) → Mirrors l above C like nodes said w → ((q : Name) → stopped q → (w.node q).runs ≡ false) → (i : Name) (c : C) (ms : List (Move V)) (says : Said V → Type 0)
-        → AllLocal l above said stopped i (w.node i) ms → like i c (changed_all l above (w.node i) ms) → ((s : Said V) → says s → Speaks l above (w.node i) ms s)
-        → Mirrors l above C like (put_name i c nodes) (λ z s. said z s ⊎ ((z ≡ i) × says s)) (after_all l above w ms)
-    mirrors_step w f rests i c ms says local alike speaks =
-        let m = moved said stopped w f.sent rests i ms local in
-        let v : Cluster V = after_all l above w ms in
-        record {
-          alike = λ j. at_name (λ x. like j x (v.node j)) i c nodes j
-              (λ is. subst (λ k. like k c (v.node k)) (sym is) (subst (like i c) (sym m.here) alike))
-              (λ other. subst (like j (nodes j)) (sym (m.others j other)) (f.alike j));
-          sent = λ z s there. elim there [
-            | inl old ↦ m.before _ (f.sent z s old)
-            | inr new ↦ subst (λ k. Sent l above v k s) (sym new.0) (m.said s (speaks s new.1))
-          ];
-          safe = safe_after l line above strict w ms f.safe m.allowed;
         }

@@ -1,13 +1,10 @@
 -- Lists of moves of one node, one after the other: the rules of a step follow each other so. What was heard may be more.
-use Rattle.std.proofs.Common.{◌≡◌, inl, inr, List, [], ◌∷◌, ◌++◌, true, refl, sym, subst}
-use Rattle.ak_line.specs.Name.{Name, put_name}
+use Rattle.std.proofs.Common.{◌≡◌, inl, inr, List, [], ◌∷◌, ◌++◌, refl}
+use Rattle.ak_line.specs.Name.{Name}
 use Rattle.ak_promise.specs.Ballot.{BallotModel}
-use Rattle.ak_line.specs.Line.{Line, IsLine, IsStrict}
-use Rattle.ak_line.specs.Moves.{Node, Said, Cluster, Move, blank, IsUnheard, after}
-use Rattle.ak_line.specs.Local.{changed, Named, Guard, AllLocal, changed_all, Speaks, Mirrors}
-use Rattle.ak_line.proofs.Names.{at_name}
-use Rattle.ak_line.proofs.LocalAllowed.{after_node, after_other}
-use Rattle.ak_line.proofs.OneHome.{safe_kept}
+use Rattle.ak_line.specs.Line.{Line}
+use Rattle.ak_line.specs.Moves.{Node, Said, Move}
+use Rattle.ak_line.specs.Local.{changed, Named, Guard, AllLocal, changed_all, Speaks}
 
 module _ {V : Type 0} (l : Line V) (above : BallotModel → BallotModel → Type 0) where
   pub changed_append : (n : Node V) (ms ks : List (Move V)) → changed_all l above n (ms ++ ks) ≡ changed_all l above (changed_all l above n ms) ks
@@ -62,18 +59,3 @@ module _ {V : Type 0} (l : Line V) (above : BallotModel → BallotModel → Type
       pub local_more : (i : Name) (n : Node V) (ms : List (Move V)) → AllLocal l above heard stopped i n ms → AllLocal l above heard_more stopped_more i n ms
       local_more i n [] all = tt
       local_more i n (m ∷ ms) (by, running, guard, more) = (by, running, guard_more n m guard, local_more i (changed l above n m) ms more)
-
--- ---- a new node
-module _ {V : Type 0} (l : Line V) (line : IsLine V l) (above : BallotModel → BallotModel → Type 0) (strict : IsStrict above) (C : Type 0) (like : Name → C → Node V → Type 0) (nodes : Name → C) (said : Name → Said V → Type 0) where
-  pub mirrors_start : (w : Cluster V) → Mirrors l above C like nodes said w → (z : Name) (c : C) → w.node z ≡ blank l above → IsUnheard l above w z → like z c (record (blank l above) { runs = true })
-      → Mirrors l above C like (put_name z c nodes) said (after l above w (Move.Start z))
-  mirrors_start w f z c is_blank unheard alike =
-      let v : Cluster V = after l above w (Move.Start z) in
-      let made : v.node z ≡ record (blank l above) { runs = true } = subst (λ n. v.node z ≡ record n { runs = true }) is_blank (after_node l line above w (Move.Start z)) in
-      record {
-        alike = λ j. at_name (λ x. like j x (v.node j)) z c nodes j
-            (λ is. subst (λ k. like k c (v.node k)) (sym is) (subst (like z c) (sym made) alike))
-            (λ other. subst (like j (nodes j)) (sym (after_other l line above w (Move.Start z) j other)) (f.alike j));
-        sent = λ x s there. f.sent x s there;
-        safe = safe_kept l line above strict w (Move.Start z) f.safe (is_blank, unheard);
-      }

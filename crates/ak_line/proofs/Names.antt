@@ -1,9 +1,9 @@
 -- Names can be told apart.
-use Rattle.std.proofs.Common.{◌≡◌, true, false, if◌then◌else◌, ◌⊎◌, inl, inr, Ordering, Less, Equal, Greater, is_eq, refl, sym, ap, ◌∙◌, subst}
+use Rattle.std.proofs.Common.{◌≡◌, true, false, ◌⊎◌, inl, inr, Ordering, Less, Equal, Greater, is_eq, refl, sym, ap, ◌∙◌}
 use Rattle.std.specs.Cmp.{tied_itself}
 use Rattle.ak_address.specs.Unique.{unique_cmp}
 use Rattle.ak_address.proofs.OrderLemmas.{unique_total, unique_exact}
-use Rattle.ak_line.specs.Name.{Name, is_name, put_name}
+use Rattle.ak_line.specs.Name.{Name, is_name}
 
 pub name_tells : (a b : Name) → ((is_name a b ≡ true) × (a ≡ b)) ⊎ ((is_name a b ≡ false) × (a ≡ b → ⊥))
 name_tells a b = by_order (unique_cmp a b) refl
@@ -15,9 +15,3 @@ name_tells a b = by_order (unique_cmp a b) refl
     by_order Less is = inr (ap is_eq is, itself Less is (λ e. absurd (cc)))
     by_order Equal is = inl (ap is_eq is, unique_exact a b is)
     by_order Greater is = inr (ap is_eq is, itself Greater is (λ e. absurd (cc)))
-
-pub at_name : {X : Type 0} (P : X → Type 0) (i : Name) (x : X) (xs : Name → X) (j : Name) → (j ≡ i → P x) → ((j ≡ i → ⊥) → P (xs j)) → P (put_name i x xs j)
-at_name P i x xs j here there = elim (name_tells j i) [
-  | inl is ↦ subst (λ b. P (if b then x else xs j)) (sym is.0) (here is.1)
-  | inr other ↦ subst (λ b. P (if b then x else xs j)) (sym other.0) (there other.1)
-]

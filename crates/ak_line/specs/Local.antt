@@ -4,8 +4,7 @@ use Rattle.ak_line.specs.Name.{Name}
 use Rattle.ak_promise.specs.Ballot.{BallotModel}
 use Rattle.ak_line.specs.Line.{Line}
 use Rattle.ak_line.specs.Shards.{Learns, put_at, own_placement, assigned, freed, yielded}
-use Rattle.ak_line.specs.Moves.{Node, Trial, Younger, Asking, Active, Ended, Said, Ask, Granted, Released, HandedOver, Names, HostShard, HandOff, ShardStopped, Cluster, Move, ballot_of, actor, promises, with_grant, with_latest, Sent, IsLive, IsNew, IsFree, IsCandidate}
-use Rattle.ak_line.specs.Safe.{Safe}
+use Rattle.ak_line.specs.Moves.{Node, Trial, Younger, Asking, Active, Ended, Said, Ask, Granted, Released, HandedOver, Names, HostShard, HandOff, ShardStopped, Move, ballot_of, actor, promises, with_grant, with_latest, IsLive, IsNew, IsFree, IsCandidate}
 
 module _ {V : Type 0} (l : Line V) (above : BallotModel → BallotModel → Type 0) where
   -- what the node becomes
@@ -111,9 +110,3 @@ module _ {V : Type 0} (l : Line V) (above : BallotModel → BallotModel → Type
   abbrev pub Speaks : Node V → List (Move V) → Said V → Type 0
   Speaks n [] said = ⊥
   Speaks n (m ∷ ms) said = (spoken n m ≡ Some said) ⊎ Speaks (changed n m) ms said
-
-  -- a world of other nodes, each of which is like a node of a world of moves that is safe; whatever was said there was said here
-  pub record Mirrors (C : Type 0) (like : Name → C → Node V → Type 0) (nodes : Name → C) (said : Name → Said V → Type 0) (w : Cluster V) : Type 0 where
-    pub alike : (i : Name) → like i (nodes i) (w.node i)
-    pub sent : (z : Name) (s : Said V) → said z s → Sent l above w z s
-    pub safe : Safe l above w

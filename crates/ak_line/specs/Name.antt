@@ -1,5 +1,5 @@
 -- Who a node is: a process of the cluster. Of names nothing is used but that they can be told apart.
-use Rattle.std.specs.Prelude.{Bool, if◌then◌else◌}
+use Rattle.std.specs.Prelude.{Bool}
 use Rattle.std.specs.Ordering.{is_eq}
 use Rattle.ak_address.specs.Unique.{UniqueModel, unique_cmp}
 
@@ -8,7 +8,3 @@ Name = UniqueModel
 
 abbrev pub is_name : Name → Name → Bool
 is_name a b = is_eq (unique_cmp a b)
-
--- what stands under one name is replaced
-abbrev pub put_name : {X : Type 0} → Name → X → (Name → X) → Name → X
-put_name i x xs j = if is_name j i then x else xs j

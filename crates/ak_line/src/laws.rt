@@ -1,6 +1,6 @@
-ghost use Rattle.std.specs.Prelude.{◌≡◌, ℕ, List};
+ghost use Rattle.std.specs.Prelude.{◌≡◌, ℕ, Contains, List, take};
 ghost use Rattle.ak_line.specs.BallotOrder.{IsLater};
-ghost use Rattle.ak_line.specs.Example.{alone, me, moves};
+ghost use Rattle.ak_line.specs.Example.{IsActiveAfter, alone, both, me, moves, other, passing};
 ghost use Rattle.ak_line.specs.Moves.{Move};
 ghost use Rattle.ak_line.specs.Numbers.{Ages, AreAllowed, cluster_after, numbers};
 ghost use Rattle.ak_line.specs.Safe.{InTable, OneActive, OneHome, RunsShard};
@@ -20,4 +20,16 @@ pub fn guards_can_be_met()
     ensures allowed { AreAllowed alone moves }
     ensures hosted { RunsShard (numbers alone) IsLater (cluster_after alone moves) me 5 }
     ensures number { (((cluster_after alone moves).node me).marks 5).number ≡ 2 }
+{}
+
+/// An activity can pass on: by moves that the guards allow the first of two processes becomes active and the second does after it.
+/// Between, the first is granted, gives a shard that it hosted to the second, ends and hands over; the second passes the release on,
+/// opens a greater ballot and is granted. At last the first stops, is removed and is found finished; its shard stays where it is.
+pub fn an_activity_can_pass()
+    ensures allowed { AreAllowed both passing }
+    ensures first { IsActiveAfter both (take 10 passing) me }
+    ensures first_home { RunsShard (numbers both) IsLater (cluster_after both (take 13 passing)) me 5 }
+    ensures second { IsActiveAfter both passing other }
+    ensures second_home { RunsShard (numbers both) IsLater (cluster_after both passing) other 5 }
+    ensures finished { Contains ((cluster_after both passing).node other).finished me }
 {}

@@ -3,4 +3,4 @@
 
 mod laws;
 
-pub use laws::{guards_can_be_met, one_is_active_and_shards_have_one_home};
+pub use laws::{an_activity_can_pass, guards_can_be_met, one_is_active_and_shards_have_one_home};

@@ -3,6 +3,8 @@ ghost use Rattle.std.specs.List.{filter};
 ghost use Rattle.ak_shard_id.specs.Shard.{shard_of};
 ghost use Rattle.ak_region.specs.Shards.{ShardSlot};
 ghost use Rattle.ak_region.specs.RegionModel.{Message};
+ghost use Rattle.ak_region.specs.Slot.{receives};
+ghost use Rattle.ak_region.specs.Stored.{all_slots};
 ghost use Rattle.ak_region.specs.Region.{kept, those_for, others_than_for, firsts};
 ghost use Rattle.ak_region.specs.Turns.{after_wait, turn_left, turn_gone, wanted_among};
 
@@ -110,24 +112,38 @@ fn note(passed: &mut Vec<bool>, wanted: &mut Vec<u32>, shard: u32) -> Result<(),
     Ok(())
 }
 
+// Which of so many shards receive.
+fn receiving(alloc: Global, told: &[Slot], shards: u32) -> Result<Vec<bool>, AllocError>
+    requires { length told.now ≤ shards }
+    ensures { IfOk result (λ passed. passed.items ≡ map receives (all_slots shards told.now)) }
+{
+    let mut passed = Vec::with_capacity(alloc, shards as usize)?;
+    'told: for slot in told {
+        passed.push(slot.receives())?;
+    }
+    'untold: for _shard in told.len()..shards as usize {
+        passed.push(false)?;
+    }
+    Ok(passed)
+}
+
 // The shards for which a message waits and which do not receive.
 pub(crate) fn wanted_in(
     alloc: Global,
-    slots: &[Slot],
+    told: &[Slot],
+    shards: u32,
     buffer: &HeapCircularBuffer<Waiting>,
 ) -> Result<Vec<u32>, AllocError>
-    requires some { 1 ≤ length slots.now }
-    requires few { length slots.now ≤ 1000 }
-    ensures { IfOk result (λ wanted. wanted.items ≡ wanted_among slots.now buffer.now.items) }
+    requires some { 1 ≤ shards }
+    requires few { shards ≤ 1000 }
+    requires told { length told.now ≤ shards }
+    ensures { IfOk result (λ wanted. wanted.items ≡ wanted_among (all_slots shards told.now) buffer.now.items) }
 {
-    let mut passed = Vec::with_capacity(alloc, slots.len())?;
-    'slots: for slot in slots {
-        passed.push(slot.receives())?;
-    }
+    let mut passed = receiving(alloc, told, shards)?;
     let mut wanted = Vec::new(alloc);
     'messages: for index in 0..buffer.len() {
         if let Some(waiting) = buffer.get(index) {
-            let shard = shard_of(waiting.entity.bytes(), slots.len() as u32);
+            let shard = shard_of(waiting.entity.bytes(), shards);
             note(&mut passed, &mut wanted, shard)?;
         }
     }

@@ -6,6 +6,7 @@ mod buffer;
 mod laws;
 mod region;
 mod slot;
+mod told;
 mod walks;
 
 pub use ak_shard_id::Report;

@@ -1,12 +1,13 @@
 ghost use Rattle.std.specs.Prelude.{◌≡◌, ◌≤◌, ◌<◌, length, IfOk, OnOk, OnErr, IfSome};
 ghost use Rattle.ak_region.specs.Shards.{ShardSlot};
-ghost use Rattle.ak_region.specs.RegionModel.{RegionModel, Message};
+ghost use Rattle.ak_region.specs.RegionModel.{RegionModel, Message, IsRegion};
 ghost use Rattle.ak_region.specs.Slot.{at_home, host_answer, after_host, begun, gives_up, handed_off};
-ghost use Rattle.ak_region.specs.Region.{new_region, slot_of, with_slot, route, after_offer, flushed, after_flush, wanted, after_forget, hosts_any, reports};
+ghost use Rattle.ak_region.specs.Region.{new_region, slot_of, with_slot, entity_shard, route, after_offer, flushed, after_flush, wanted, after_forget, hosts_any, reports};
 
 use crate::buffer::{take_those_for, wait, wanted_in};
 use crate::slot::{Hosting, Slot};
-use crate::walks::{any_hosted, forget_strangers, reports_of, untold_slots};
+use crate::told::{can_flush_at, home_at, hosted_at, reach, receives_at};
+use crate::walks::{any_hosted, forget_strangers, reports_of};
 use ak_address::{Text, Unique};
 use ak_member::Members;
 use ak_shard_id::{Report, shard_of};
@@ -49,26 +50,30 @@ impl Model for Waiting {
 /// while it is handed off, and a home as far as it is known.
 #[derive(Drop)]
 pub struct Region {
-    slots: Vec<Slot>,
+    // The slots up to the last shard that was told of, in room for all.
+    told: Vec<Slot>,
+    shards: u32,
     buffer: HeapCircularBuffer<Waiting>,
     most: u32,
 }
 
 impl Model for Region {
-    ghost use Rattle.ak_region.specs.RegionModel.{RegionModel, coded_region, IsRegion};
+    ghost use Rattle.std.specs.Prelude.{vec_capacity};
+    ghost use Rattle.ak_region.specs.RegionModel.{RegionModel, coded_region};
+    ghost use Rattle.ak_region.specs.Stored.{all_slots, IsStored};
 
     ghost Value = { RegionModel };
 
     ghost coded = { coded_region };
 
-    ghost view = { λ r. record { slots = r.slots.items; messages = r.buffer.items; most = r.most } };
+    ghost view = { λ r. record { slots = all_slots r.shards r.told.items; messages = r.buffer.items; most = r.most } };
 
-    ghost invariant = { λ r. IsRegion (record { slots = r.slots.items; messages = r.buffer.items; most = r.most }) };
+    ghost invariant = { λ r. IsStored r.shards (vec_capacity r.told) r.most r.told.items r.buffer.items };
 }
 
 impl Region {
-    /// Nothing was told of any shard, and nothing waits. There are 1 to 1000 shards, and 1 to 100000 messages may wait; the
-    /// memory for them is taken as they come. Only memory can fail.
+    /// Nothing was told of any shard, and nothing waits. There are 1 to 1000 shards, whose room is set aside and used as they are
+    /// told of, and 1 to 100000 messages may wait; the memory for them is taken as they come. Only memory can fail.
     pub fn new(alloc: Global, shards: u32, buffer: u32) -> Result<Region, AllocError>
         requires some { 1 ≤ shards }
         requires few { shards ≤ 1000 }
@@ -76,26 +81,55 @@ impl Region {
         requires bounded { buffer ≤ 100000 }
         ensures { IfOk result (λ region. region ≡ new_region shards buffer) }
     {
-        let slots = untold_slots(alloc, shards)?;
+        let told = Vec::with_capacity(alloc, shards as usize)?;
         let most = buffer;
         let buffer = HeapCircularBuffer::with_capacity(alloc, 0)?;
         Ok(Region {
-            slots,
+            told,
+            shards,
             buffer,
             most,
         })
     }
 
     /// How many shards there are, from 1 to 1000; the calls below take those from 0 on. Takes no memory.
+    #[tactic(auto, using(crate::proofs::StoredLemmas::all_length))]
     pub fn shards(&self) -> u32
         ensures { result ≡ length self.now.slots }
     {
-        self.slots.len() as u32
+        self.shards
+    }
+
+    /// Forgets everything: nothing was told of any shard, and nothing waits. Takes no memory.
+    #[tactic(auto, using(crate::proofs::StoredLemmas::all_length))]
+    pub fn restart(&mut self)
+        ensures { self.new ≡ new_region (length self.old.slots) self.old.most }
+    {
+        self.told.clear();
+        self.buffer.clear();
+    }
+
+    /// Tells a proof that there are 1 to 1000 shards, and that no more messages wait than may. It does nothing.
+    #[tactic(auto, using(crate::proofs::StoredLemmas::all_length))]
+    pub fn invariant(&self)
+        ensures { IsRegion self.now }
+    {
+        let _most = self.most;
+    }
+
+    /// The shard of an entity. Takes no memory.
+    #[tactic(auto, using(crate::proofs::StoredLemmas::all_length))]
+    pub fn shard_of(&self, entity: &Text) -> u32
+        ensures is { result ≡ entity_shard self.now entity.now }
+        ensures below { result < length self.now.slots }
+    {
+        shard_of(entity.bytes(), self.shards)
     }
 
     /// What comes of a message to an entity: it is delivered where the entity's shard is hosted here and not held; it is
     /// forwarded where the shard is not held and its home is another node; else it waits, or is dropped where as many wait as
     /// may. After an error nothing has changed; only memory can fail.
+    #[tactic(auto, using(crate::proofs::StoredLemmas::at_all))]
     pub fn offer(
         &mut self,
         alloc: Global,
@@ -107,12 +141,11 @@ impl Region {
         ensures after { IfOk result (λ offered. self.new ≡ after_offer offered (record { entity = entity; payload = payload }) self.old) }
         ensures err { OnErr result (self.new ≡ self.old) }
     {
-        let shard = shard_of(entity.bytes(), self.slots.len() as u32);
-        let slot = &self.slots[shard as usize];
-        if slot.receives() {
+        let shard = self.shard_of(&entity);
+        if receives_at(&self.told, shard) {
             return Ok(Offered::Delivered(entity));
         }
-        if let Some(home) = slot.other_home(me) {
+        if let Some(home) = home_at(&self.told, me, shard) {
             let home = home.copy(alloc)?;
             return Ok(Offered::Forwarded(home, entity));
         }
@@ -120,13 +153,15 @@ impl Region {
     }
 
     /// The home of the shard is known, and a hold ends. After an error nothing has changed; only memory can fail.
+    #[tactic(auto, using(crate::proofs::StoredLemmas::at_all, crate::proofs::StoredLemmas::all_length))]
     pub fn on_home(&mut self, alloc: Global, shard: u32, owner: &Unique) -> Result<(), AllocError>
         requires { shard < length self.old.slots }
         ensures ok { OnOk result (self.new ≡ with_slot self.old shard (at_home owner.now (slot_of self.old shard))) }
         ensures err { OnErr result (self.new ≡ self.old) }
     {
         let home = owner.copy(alloc)?;
-        self.slots[shard as usize].set_home(home);
+        reach(&mut self.told, shard);
+        self.told[shard as usize].set_home(home);
         Ok(())
     }
 
@@ -134,6 +169,7 @@ impl Region {
     /// mark; the node hosts it from now on with that number, which is its mark, it is not held, and its home is the node.
     /// Again: it is hosted with that number. Ignored: anything else. Only New changes anything. After an error nothing has
     /// changed; only memory can fail.
+    #[tactic(auto, using(crate::proofs::StoredLemmas::at_all, crate::proofs::StoredLemmas::all_length))]
     pub fn on_host(
         &mut self,
         alloc: Global,
@@ -146,30 +182,37 @@ impl Region {
         ensures after { IfOk result (λ hosting. self.new ≡ with_slot self.old shard (after_host me.now number hosting (slot_of self.old shard))) }
         ensures err { OnErr result (self.new ≡ self.old) }
     {
-        self.slots[shard as usize].host(alloc, me, number)
+        let home = me.copy(alloc)?;
+        reach(&mut self.told, shard);
+        Ok(self.told[shard as usize].host(home, number))
     }
 
     /// A hand-off of the shard begins: it is held, and its home is forgotten. Takes no memory.
+    #[tactic(auto, using(crate::proofs::StoredLemmas::at_all, crate::proofs::StoredLemmas::all_length))]
     pub fn on_begin(&mut self, shard: u32)
         requires { shard < length self.old.slots }
         ensures { self.new ≡ with_slot self.old shard (begun (slot_of self.old shard)) }
     {
-        self.slots[shard as usize].begin();
+        reach(&mut self.told, shard);
+        self.told[shard as usize].begin();
     }
 
     /// The shard is handed off with an allocation number: its mark is at least that number, and where the node hosted it with
     /// at most that number, it hosts it no more. Whether it hosted it so. Takes no memory.
+    #[tactic(auto, using(crate::proofs::StoredLemmas::at_all, crate::proofs::StoredLemmas::all_length))]
     pub fn on_hand_off(&mut self, shard: u32, number: u64) -> bool
         requires { shard < length self.old.slots }
         ensures gone { result ≡ gives_up number (slot_of self.old shard) }
         ensures after { self.new ≡ with_slot self.old shard (handed_off number (slot_of self.old shard)) }
     {
-        self.slots[shard as usize].hand_off(number)
+        reach(&mut self.told, shard);
+        self.told[shard as usize].hand_off(number)
     }
 
     /// The messages that wait for the shard leave the buffer, in their order, where it is not held and is hosted here or has
     /// its home at another node; the others keep their order. Elsewhere none leaves. Only memory can fail, and then nothing
     /// is said of what still waits.
+    #[tactic(auto, using(crate::proofs::StoredLemmas::at_all, crate::proofs::StoredLemmas::all_length))]
     pub fn flush(
         &mut self,
         alloc: Global,
@@ -179,11 +222,12 @@ impl Region {
         requires { shard < length self.old.slots }
         ensures left { IfOk result (λ gone. gone.items ≡ flushed me.now shard self.old) }
         ensures stayed { OnOk result (self.new ≡ after_flush me.now shard self.old) }
+        ensures shards { length self.new.slots ≡ length self.old.slots }
     {
-        if !self.slots[shard as usize].can_flush(me) {
+        if !can_flush_at(&self.told, me, shard) {
             return Ok(Vec::new(alloc));
         }
-        take_those_for(alloc, &mut self.buffer, self.slots.len() as u32, shard)
+        take_those_for(alloc, &mut self.buffer, self.shards, shard)
     }
 
     /// The shards whose home is asked for: those for which a message waits, each once, in the order of the first message, but
@@ -191,37 +235,40 @@ impl Region {
     pub fn wanted(&self, alloc: Global) -> Result<Vec<u32>, AllocError>
         ensures { IfOk result (λ shards. shards.items ≡ wanted self.now) }
     {
-        wanted_in(alloc, &self.slots, &self.buffer)
+        wanted_in(alloc, &self.told, self.shards, &self.buffer)
     }
 
     /// Homes that are no members are forgotten. Takes no memory.
     pub fn forget(&mut self, members: &Members)
         ensures { self.new ≡ after_forget members.now self.old }
     {
-        forget_strangers(&mut self.slots, members);
+        forget_strangers(&mut self.told, members);
     }
 
     /// The number with which the node hosts the shard, which is its mark; none where it does not. Takes no memory.
+    #[tactic(auto, using(crate::proofs::StoredLemmas::at_all))]
     pub fn hosts(&self, shard: u32) -> Option<u64>
         requires { shard < length self.now.slots }
         ensures hosted { result ≡ (slot_of self.now shard).hosted }
         ensures marked { IfSome result (λ number. number ≡ (slot_of self.now shard).mark) }
     {
-        self.slots[shard as usize].hosted
+        hosted_at(&self.told, shard)
     }
 
     /// Whether the node hosts any shard. Takes no memory.
+    #[tactic(auto, using(crate::proofs::StoredLemmas::all_hosted))]
     pub fn hosts_any(&self) -> bool
         ensures { result ≡ hosts_any self.now }
     {
-        any_hosted(&self.slots)
+        any_hosted(&self.told)
     }
 
     /// What a new coordinator is told: each shard whose mark is not 0, in ascending order, with its mark, and whether the
     /// node hosts it. Only memory can fail.
+    #[tactic(auto, using(crate::proofs::StoredLemmas::all_reported))]
     pub fn reports(&self, alloc: Global) -> Result<Vec<Report>, AllocError>
         ensures { IfOk result (λ found. found.items ≡ reports self.now) }
     {
-        reports_of(alloc, &self.slots)
+        reports_of(alloc, &self.told)
     }
 }

@@ -1,11 +1,10 @@
-ghost use Rattle.std.specs.Prelude.{◌≡◌, ◌≤◌, ◌^◌, ◌<◌, IfOk, OnErr, option_copied};
+ghost use Rattle.std.specs.Prelude.{◌≡◌, option_copied};
 ghost use Rattle.ak_address.specs.Unique.{UniqueModel};
 ghost use Rattle.ak_member.specs.Standing.{Standings};
 ghost use Rattle.ak_region.specs.Slot.{untold, receives, other_home, can_flush, at_home, host_answer, after_host, begun, gives_up, handed_off, without_stranger};
 
 use ak_address::Unique;
 use ak_member::Members;
-use std::alloc::{AllocError, Global};
 use std::marker::Model;
 
 /// What came of the order to host a shard.
@@ -91,35 +90,28 @@ impl Slot {
         self.held = false;
     }
 
-    // Hosts the shard where the number is new.
-    pub(crate) fn host(
-        &mut self,
-        alloc: Global,
-        me: &Unique,
-        number: u64,
-    ) -> Result<Hosting, AllocError>
-        ensures answer { IfOk result (λ hosting. hosting ≡ host_answer number self.old) }
-        ensures after { IfOk result (λ hosting. self.new ≡ after_host me.now number hosting self.old) }
-        ensures err { OnErr result (self.new ≡ self.old) }
+    // Hosts the shard where the number is new: it has its home here then.
+    pub(crate) fn host(&mut self, me: Unique, number: u64) -> Hosting
+        ensures answer { result ≡ host_answer number self.old }
+        ensures after { self.new ≡ after_host me number result self.old }
     {
         match self.hosted {
             Some(hosted) => {
                 if hosted == number {
-                    return Ok(Hosting::Again);
+                    return Hosting::Again;
                 }
-                return Ok(Hosting::Ignored);
+                return Hosting::Ignored;
             }
             None => {}
         }
         if number <= self.mark {
-            return Ok(Hosting::Ignored);
+            return Hosting::Ignored;
         }
-        let home = me.copy(alloc)?;
         self.hosted = Some(number);
         self.mark = number;
         self.held = false;
-        self.home = Some(home);
-        Ok(Hosting::New)
+        self.home = Some(me);
+        Hosting::New
     }
 
     // The shard is held, and its home is forgotten.

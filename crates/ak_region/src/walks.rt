@@ -1,25 +1,14 @@
-ghost use Rattle.std.specs.Prelude.{◌≡◌, ◌≤◌, IfOk, OnOk, replicate, is_some, ◌++◌};
+ghost use Rattle.std.specs.Prelude.{◌≡◌, ◌≤◌, IfOk, OnOk, is_some, ◌++◌};
 ghost use Rattle.std.specs.Prelude as list;
 ghost use Rattle.std.specs.List.{list_any};
 ghost use Rattle.ak_region.specs.Shards.{ShardSlot};
-ghost use Rattle.ak_region.specs.Slot.{untold, without_stranger};
+ghost use Rattle.ak_region.specs.Slot.{without_stranger};
 ghost use Rattle.ak_region.specs.Region.{report_of, reports_from};
 
 use crate::slot::Slot;
 use ak_member::Members;
 use ak_shard_id::Report;
 use std::alloc::{AllocError, Global};
-
-// A slot for each shard.
-pub(crate) fn untold_slots(alloc: Global, shards: u32) -> Result<Vec<Slot>, AllocError>
-    ensures { IfOk result (λ slots. slots.items ≡ replicate shards untold) }
-{
-    let mut slots = Vec::with_capacity(alloc, shards as usize)?;
-    'shards: for _shard in 0..shards {
-        slots.push(Slot::untold())?;
-    }
-    Ok(slots)
-}
 
 pub(crate) fn forget_strangers(slots: &mut [Slot], members: &Members)
     ensures { slots.new ≡ list.map (without_stranger members.now) slots.old }

@@ -1,0 +1,13 @@
+use Rattle.std.proofs.Common.{◌≡◌, ap, ◌∙◌}
+use Rattle.std.proofs.lemmas.List.{get_or_default}
+use Rattle.ak_region.specs.Slot.{untold, at_home}
+use Rattle.ak_region.proofs.StoredLemmas.{kept_as, slot_changed}
+use Rattle.ak_region.proofs.region.Region.on_home.Goals as goal
+
+pub returns-clause-ok : goal.returns-clause-ok
+returns-clause-ok c =
+    let r = c.self.inside in
+    let now = c.reach.new.told.items in
+    let same : kept_as r.shards r.told.items r.buffer.items r.most ≡ c.args.self.now = search in
+    slot_changed c.args.self.now r.shards r.told.items now r.buffer.items r.most c.args.shard c.set_home.new.self (at_home c.args.owner.now) same c.self.invariant.fits c.requires c.reach.ensures.told
+    (c.set_home.ensures ∙ ap (λ home. at_home home c.index_mut.result.now) c.in_ok-home.ensures ∙ ap (at_home c.args.owner.now) (c.index_mut.ensures.value ∙ get_or_default now c.args.shard c.index_mut.result.now untold c.reach.ensures.reached))
