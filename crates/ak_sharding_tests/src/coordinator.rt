@@ -9,7 +9,7 @@ use ak_shard_id::Report;
 use std::alloc::Global;
 use std::test::Fail;
 
-const UP: Standing = Standing::Member(Status::Up, 1);
+pub(crate) const UP: Standing = Standing::Member(Status::Up, 1);
 
 const EXITING: Standing = Standing::Member(Status::Exiting, 1);
 
@@ -25,7 +25,7 @@ enum Turn {
     Learn(u8, u32, u64, bool),
 }
 
-fn process(alloc: Global, letter: u8) -> Result<Unique, Fail> {
+pub(crate) fn process(alloc: Global, letter: u8) -> Result<Unique, Fail> {
     Ok(parse_unique(alloc, &[letter, b':', b'1', b'#', b'1'])?)
 }
 
@@ -69,7 +69,7 @@ fn settled_at(alloc: Global, members: &Members) -> Result<Settled, Fail> {
 }
 
 // The settled view in which a, b and so on stand so.
-fn settled(alloc: Global, standings: &[Standing]) -> Result<Settled, Fail> {
+pub(crate) fn settled(alloc: Global, standings: &[Standing]) -> Result<Settled, Fail> {
     let mut members = Members::empty(alloc);
     for (letter, standing) in b"abcd".iter().zip(standings.iter()) {
         stand(alloc, &mut members, *letter, standing)?;
@@ -89,7 +89,7 @@ const HEADERS: [&str; 9] = [
     "limit 1",
 ];
 
-fn settings(alloc: Global) -> Result<Settings, Fail> {
+pub(crate) fn settings(alloc: Global) -> Result<Settings, Fail> {
     let mut draft = Draft::new(alloc);
     'headers: for line in HEADERS {
         if draft.header(alloc, line.as_bytes())? {

@@ -1,5 +1,5 @@
 //! What the crates of cluster sharding answer to a caller: the shard of an entity, where shards are placed,
-//! and what a region and the coordinator do, step by step.
+//! and what a region, the coordinator and a node with both do, step by step.
 #![tactic(auto)]
 
 #[cfg(test)]
@@ -12,3 +12,5 @@ mod entities;
 mod region;
 #[cfg(test)]
 mod shard;
+#[cfg(test)]
+mod sharding;
