@@ -5,3 +5,7 @@ pub mod Tries
 pub mod Memory
 pub mod Codes
 pub mod Arguments
+pub mod Folder
+pub mod Link
+pub mod Clock
+pub mod MemoryLink

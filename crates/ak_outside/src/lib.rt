@@ -5,22 +5,37 @@
 #![tactic(auto)]
 
 mod arguments;
+mod calls;
+mod clock;
+mod folder;
+mod link;
 mod memory;
+mod memory_folder;
+mod memory_link;
 mod reader;
 mod sink;
 mod source;
 mod standard;
 mod status;
+mod std_clock;
+mod std_folder;
 mod steady;
 mod tries;
 mod writer;
 
 pub use arguments::{Arguments, MemoryArguments, StdArguments};
+pub use clock::{Clock, MemoryClock};
+pub use folder::{Folder, Loaded, MemoryFile};
+pub use link::{Bound, Heard, Link, Sent, Taken};
 pub use memory::{MemorySink, MemorySource};
+pub use memory_folder::MemoryFolder;
+pub use memory_link::MemoryLink;
 pub use reader::ReaderSource;
 pub use sink::{Sink, Wrote, write_all};
 pub use source::{Read, Source};
 pub use standard::{StdSink, StdSource};
 pub use status::Status;
+pub use std_clock::StdClock;
+pub use std_folder::StdFolder;
 pub use steady::{SteadySink, SteadySource};
 pub use writer::WriterSink;

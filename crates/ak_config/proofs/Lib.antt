@@ -1,0 +1,6 @@
+pub mod Steps
+pub mod AddressLemmas
+pub mod ListingLemmas
+pub mod KeyLemmas
+pub mod Different
+pub mod LeastLemmas

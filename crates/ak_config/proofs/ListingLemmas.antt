@@ -1,0 +1,55 @@
+-- The addresses of some items, from the left.
+use Rattle.std.proofs.Common.{◌≡◌, ℕ, true, false, ◌&&◌, List, [], ◌∷◌, ◌++◌, length, Result, Ok, Err, refl, arith, append_assoc}
+use Rattle.std.specs.Prelude.{nat_le}
+use Rattle.toml.specs.View.{items_view}
+use Rattle.toml.specs.declared.value.Value.{Value}
+use Rattle.toml.specs.Data.{Data, Items, item}
+use Rattle.ak_address.specs.Unique.{AddressModel}
+use Rattle.ak_config.specs.declared.fault.ConfigFault.{ConfigFault}
+use Rattle.ak_config.specs.declared.fault.ConfigFault.TheVariants.{NotToml, Missing, Unknown, WrongType, Range, BadAddress, SelfUnlisted, Repeated, NoMemory}
+use Rattle.ak_config.specs.Configuration.{◌>>=◌, addresses_in, address_in, are_texts, item_count, listing_in}
+use Rattle.ak_config.specs.ConfigContracts.{Fails}
+use Rattle.ak_config.proofs.Steps.{fails_first}
+
+-- after some addresses, those of the items that are left
+abbrev pub with_first : List AddressModel → Result (List AddressModel) ConfigFault → Result (List AddressModel) ConfigFault
+with_first done (Ok rest) = Ok (done ++ rest)
+with_first done (Err fault) = Err fault
+
+one_done : (done : List AddressModel) (a : AddressModel) (r : Result (List AddressModel) ConfigFault) → with_first done (r >>= (λ rest. Ok (a ∷ rest))) ≡ with_first (done ++ a ∷ []) r
+one_done done a (Ok rest) = rw (append_assoc done (a ∷ []) rest) refl
+one_done done a (Err fault) = refl
+
+-- one more item spells its address
+pub one_more : (key : List ℕ) (done : List AddressModel) (value : Data) (others : Items) (a : AddressModel) → address_in key value ≡ Ok a
+    → with_first done (addresses_in key (item value others)) ≡ with_first (done ++ a ∷ []) (addresses_in key others)
+one_more key done value others a is = rw is (one_done done a (addresses_in key others))
+
+fails_after : (fault : ConfigFault) (done : List AddressModel) (r : Result (List AddressModel) ConfigFault) → Fails fault r → Fails fault (with_first done r)
+fails_after NotToml done r h = rw h refl
+fails_after (Missing key) done r h = rw h refl
+fails_after (Unknown key) done r h = rw h refl
+fails_after (WrongType key) done r h = rw h refl
+fails_after (Range key) done r h = rw h refl
+fails_after (BadAddress key) done r h = rw h refl
+fails_after (SelfUnlisted key) done r h = rw h refl
+fails_after (Repeated key) done r h = rw h refl
+fails_after NoMemory done r h = tt
+
+-- a fault of one item is that of all
+pub fails_there : (key : List ℕ) (fault : ConfigFault) (done : List AddressModel) (value : Data) (others : Items) → Fails fault (address_in key value) → Fails fault (with_first done (addresses_in key (item value others)))
+fails_there key fault done value others h = fails_after fault done _ (fails_first fault (address_in key value) _ h)
+
+-- as many items as values
+pub items_counted : (vs : List Value) → item_count (items_view vs) ≡ length vs
+items_counted [] = refl
+items_counted (v ∷ vs) = rw (items_counted vs) (omega arith)
+
+-- a list of texts that is too short or too long
+pub listing_refused : (key : List ℕ) (vs : List Value) → are_texts (items_view vs) ≡ true → (nat_le 1 (length vs) && nat_le (length vs) 32) ≡ false → listing_in key (items_view vs) ≡ Err (Range key)
+unfolding listing_in
+listing_refused key vs texts few = rw (texts, items_counted vs, few) refl
+
+pub listing_read : (key : List ℕ) (vs : List Value) → are_texts (items_view vs) ≡ true → (nat_le 1 (length vs) && nat_le (length vs) 32) ≡ true → listing_in key (items_view vs) ≡ addresses_in key (items_view vs)
+unfolding listing_in
+listing_read key vs texts few = rw (texts, items_counted vs, few) refl

@@ -1,0 +1,4 @@
+pub mod Configuration
+pub mod Address
+pub mod ConfigContracts
+pub mod Keys

@@ -1,0 +1,55 @@
+ghost use Rattle.std.specs.Prelude.{◌≡◌};
+ghost use Rattle.ak_config.specs.declared.fault.ConfigFault.TheVariants.{NoMemory};
+
+use ak_address::Text;
+use std::alloc::{AllocError, AllocFailed};
+use thiserror::Error;
+
+/// Why bytes are no configuration: the first fault, with the key that it is about. It shows as its code. The faults and their
+/// order are this project's choice.
+#[derive(Debug, Drop, Error)]
+pub enum ConfigFault {
+    /// The bytes are no TOML document.
+    #[error("C1")]
+    NotToml,
+    /// A key that must be there is not.
+    #[error("C2")]
+    Missing(Text),
+    /// There is no such key; of several the least in the order of their bytes.
+    #[error("C3")]
+    Unknown(Text),
+    /// The value is of another type.
+    #[error("C4")]
+    WrongType(Text),
+    /// The value is out of its range.
+    #[error("C5")]
+    Range(Text),
+    /// A text is no address.
+    #[error("C6")]
+    BadAddress(Text),
+    /// The node's own address is not listed.
+    #[error("C7")]
+    SelfUnlisted(Text),
+    /// An address is listed twice.
+    #[error("C8")]
+    Repeated(Text),
+    /// Memory ran out.
+    #[error("memory")]
+    NoMemory,
+}
+
+impl From<AllocError> for ConfigFault {
+    ghost from_gives = { λ _ fault. fault ≡ NoMemory };
+
+    fn from(_error: AllocError) -> ConfigFault {
+        ConfigFault::NoMemory
+    }
+}
+
+impl<T: Drop> From<AllocFailed<T>> for ConfigFault {
+    ghost from_gives = { λ _ fault. fault ≡ NoMemory };
+
+    fn from(_error: AllocFailed<T>) -> ConfigFault {
+        ConfigFault::NoMemory
+    }
+}

@@ -1,0 +1,11 @@
+//! The outside of a real node: its configuration, its folder, link and clock, and envelopes over a link.
+#![tactic(auto)]
+
+#[cfg(test)]
+mod configurations;
+#[cfg(test)]
+mod edges;
+#[cfg(test)]
+mod envelopes;
+#[cfg(test)]
+mod sockets;
