@@ -13,7 +13,7 @@ use Rattle.ak_member.specs.Standing.{members_of, tombstones_of}
 use Rattle.ak_gossip.specs.Gossip.{GossipState}
 use Rattle.ak_wire.specs.declared.envelope.Envelope.{Envelope}
 use Rattle.ak_wire.specs.declared.action.Action.{Action}
-use Rattle.ak_wire.specs.declared.action.Action.TheVariants.{Send, Update, View, Settled, MarginEnd, Refused, Dead, Stopped}
+use Rattle.ak_wire.specs.declared.action.Action.TheVariants.{Send, Update, View, Settled, Active, Ended, Host, Gone, Entity, Deliver, Forward, Buffer, Drop, MarginEnd, Refused, Dead, Stopped}
 use Rattle.ak_wire.specs.Wire.{kind_text}
 
 -- pieces with `, ` between them, or `-` where there is none
@@ -94,6 +94,15 @@ action_text g number (Send e) = send_text number e
 action_text g number (Update n effects) = codes "update " ++ decimal n ++ codes " " ++ listed_text (map effect_text effects)
 action_text g number View = view_text g
 action_text g number Settled = codes "settled " ++ version_text g.version
+action_text g number (Active term) = codes "active " ++ decimal term
+action_text g number (Ended term) = codes "ended " ++ decimal term
+action_text g number (Host shard n) = codes "host " ++ decimal shard ++ codes " " ++ decimal n
+action_text g number (Gone shard) = codes "gone " ++ decimal shard
+action_text g number (Entity entity) = codes "entity " ++ entity
+action_text g number (Deliver entity payload) = codes "deliver " ++ entity ++ codes " " ++ decimal payload
+action_text g number (Forward entity payload) = codes "forward " ++ entity ++ codes " " ++ decimal payload
+action_text g number (Buffer entity payload) = codes "buffer " ++ entity ++ codes " " ++ decimal payload
+action_text g number (Drop entity payload) = codes "drop " ++ entity ++ codes " " ++ decimal payload
 action_text g number (MarginEnd who) = codes "margin-end " ++ unique_text who
 action_text g number (Refused why) = codes "refused N" ++ decimal why
 action_text g number Dead = codes "dead"
@@ -105,6 +114,15 @@ next_packet (Send e) number = number + 1
 next_packet (Update n effects) number = number
 next_packet View number = number
 next_packet Settled number = number
+next_packet (Active term) number = number
+next_packet (Ended term) number = number
+next_packet (Host shard n) number = number
+next_packet (Gone shard) number = number
+next_packet (Entity entity) number = number
+next_packet (Deliver entity payload) number = number
+next_packet (Forward entity payload) number = number
+next_packet (Buffer entity payload) number = number
+next_packet (Drop entity payload) number = number
 next_packet (MarginEnd who) number = number
 next_packet (Refused why) number = number
 next_packet Dead number = number

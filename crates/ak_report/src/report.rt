@@ -1,11 +1,12 @@
-ghost use Rattle.std.specs.Prelude.{◌≡◌, ℕ, ◌+◌, ◌<◌, ◌^◌, ◌++◌, ◌∷◌, [], map, length, slice_get, option_map, option_to_list, OnOk, OnErr};
+ghost use Rattle.std.specs.Prelude.{◌≡◌, ℕ, ◌+◌, ◌<◌, ◌^◌, ◌++◌, ◌∷◌, [], map, length, slice_get, option_map, option_to_list, codes, OnOk, OnErr};
 ghost use Rattle.std.specs.FinMap as finmap;
 ghost use Rattle.ak_address.specs.Uniques.{in_order};
 ghost use Rattle.ak_member.specs.Standing.{member_pairs, tombstone_pairs, members_of, tombstones_of};
+ghost use Rattle.std.specs.Fmt.{decimal};
 ghost use Rattle.ak_report.specs.ActionText as text;
 ghost use Rattle.ak_wire.specs.Wire.{sent};
 
-use ak_address::{Unique, Uniques, print_number, print_wide_number};
+use ak_address::{Text, Unique, Uniques, print_number, print_wide_number};
 use ak_clock::Version;
 use ak_gossip::Gossip;
 use ak_member::{Effect, Members, Standing, Status};
@@ -274,6 +275,50 @@ fn print_send(number: u128, envelope: &Envelope, out: &mut Vec<u8>) -> Result<()
     print_receiver(envelope, out)
 }
 
+fn print_update(number: u64, effects: &[Effect], out: &mut Vec<u8>) -> Result<(), AllocError>
+    ensures { OnOk result (out.new.items ≡ out.old.items ++ (codes "update " ++ decimal number ++ codes " " ++ text.listed_text (map text.effect_text effects.now))) }
+{
+    print_numbered(b"update ", number, out)?;
+    print_bytes(b" ", out)?;
+    print_effects(effects, out)
+}
+
+// A number after what it is of.
+fn print_numbered(name: &[u8], number: u64, out: &mut Vec<u8>) -> Result<(), AllocError>
+    ensures { OnOk result (out.new.items ≡ out.old.items ++ (name.now ++ decimal number)) }
+{
+    print_bytes(name, out)?;
+    print_number(number, out)
+}
+
+fn print_host(shard: u32, number: u64, out: &mut Vec<u8>) -> Result<(), AllocError>
+    ensures { OnOk result (out.new.items ≡ out.old.items ++ (codes "host " ++ decimal shard ++ codes " " ++ decimal number)) }
+{
+    print_numbered(b"host ", u64::from(shard), out)?;
+    print_numbered(b" ", number, out)
+}
+
+fn print_entity(entity: &Text, out: &mut Vec<u8>) -> Result<(), AllocError>
+    ensures { OnOk result (out.new.items ≡ out.old.items ++ (codes "entity " ++ entity.now)) }
+{
+    print_bytes(b"entity ", out)?;
+    print_bytes(entity.bytes(), out)
+}
+
+// What becomes of a payload for an entity.
+fn print_payload(
+    name: &[u8],
+    entity: &Text,
+    payload: u64,
+    out: &mut Vec<u8>,
+) -> Result<(), AllocError>
+    ensures { OnOk result (out.new.items ≡ out.old.items ++ (name.now ++ entity.now ++ codes " " ++ decimal payload)) }
+{
+    print_bytes(name, out)?;
+    print_bytes(entity.bytes(), out)?;
+    print_numbered(b" ", payload, out)
+}
+
 // What an action prints, with the number of the packet that it may send.
 fn print_action(
     gossip: &Gossip,
@@ -285,25 +330,26 @@ fn print_action(
 {
     match action {
         Action::Send(envelope) => print_send(number, envelope.get(), out),
-        Action::Update(update, effects) => {
-            print_bytes(b"update ", out)?;
-            print_number(*update, out)?;
-            print_bytes(b" ", out)?;
-            print_effects(effects.as_slice(), out)
-        }
+        Action::Update(update, effects) => print_update(*update, effects.as_slice(), out),
         Action::View => print_view(gossip, out),
         Action::Settled => {
             print_bytes(b"settled ", out)?;
             print_version(gossip.version(), out)
         }
+        Action::Active(term) => print_numbered(b"active ", *term, out),
+        Action::Ended(term) => print_numbered(b"ended ", *term, out),
+        Action::Host(shard, number) => print_host(*shard, *number, out),
+        Action::Gone(shard) => print_numbered(b"gone ", u64::from(*shard), out),
+        Action::Entity(entity) => print_entity(entity, out),
+        Action::Deliver(entity, payload) => print_payload(b"deliver ", entity, *payload, out),
+        Action::Forward(entity, payload) => print_payload(b"forward ", entity, *payload, out),
+        Action::Buffer(entity, payload) => print_payload(b"buffer ", entity, *payload, out),
+        Action::Drop(entity, payload) => print_payload(b"drop ", entity, *payload, out),
         Action::MarginEnd(who) => {
             print_bytes(b"margin-end ", out)?;
             who.print_into(out)
         }
-        Action::Refused(why) => {
-            print_bytes(b"refused N", out)?;
-            print_number(u64::from(*why), out)
-        }
+        Action::Refused(why) => print_numbered(b"refused N", u64::from(*why), out),
         Action::Dead => print_bytes(b"dead", out),
         Action::Stopped => print_bytes(b"stopped", out),
     }

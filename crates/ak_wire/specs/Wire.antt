@@ -6,7 +6,7 @@ use Rattle.ak_wire.specs.declared.envelope.Envelope.{Envelope}
 use Rattle.ak_wire.specs.declared.envelope.Message.{Message}
 use Rattle.ak_wire.specs.declared.envelope.Message as message
 use Rattle.ak_wire.specs.declared.action.Action.{Action}
-use Rattle.ak_wire.specs.declared.action.Action.TheVariants.{Send, Update, View, Settled, MarginEnd, Refused, Dead, Stopped}
+use Rattle.ak_wire.specs.declared.action.Action.TheVariants.{Send, Update, View, Settled, Active, Ended, Host, Gone, Entity, Deliver, Forward, Buffer, Drop, MarginEnd, Refused, Dead, Stopped}
 
 -- the name of a message's kind
 abbrev pub kind_text : Message → List ℕ
@@ -53,6 +53,15 @@ envelope_of (Send e) = Some e
 envelope_of (Update number effects) = None
 envelope_of View = None
 envelope_of Settled = None
+envelope_of (Active term) = None
+envelope_of (Ended term) = None
+envelope_of (Host shard number) = None
+envelope_of (Gone shard) = None
+envelope_of (Entity entity) = None
+envelope_of (Deliver entity payload) = None
+envelope_of (Forward entity payload) = None
+envelope_of (Buffer entity payload) = None
+envelope_of (Drop entity payload) = None
 envelope_of (MarginEnd who) = None
 envelope_of (Refused why) = None
 envelope_of Dead = None
@@ -64,6 +73,15 @@ effects_of (Send e) = None
 effects_of (Update number effects) = Some effects
 effects_of View = None
 effects_of Settled = None
+effects_of (Active term) = None
+effects_of (Ended term) = None
+effects_of (Host shard number) = None
+effects_of (Gone shard) = None
+effects_of (Entity entity) = None
+effects_of (Deliver entity payload) = None
+effects_of (Forward entity payload) = None
+effects_of (Buffer entity payload) = None
+effects_of (Drop entity payload) = None
 effects_of (MarginEnd who) = None
 effects_of (Refused why) = None
 effects_of Dead = None

@@ -2,7 +2,7 @@ ghost use Rattle.std.specs.Prelude.{◌≡◌, [], ◌∷◌, ◌++◌, length, 
 ghost use Rattle.std.specs.Option.{option_copied};
 
 use crate::shared::SharedEnvelope;
-use ak_address::Unique;
+use ak_address::{Text, Unique};
 use ak_member::Effects;
 use std::alloc::{AllocError, Global};
 use std::marker::Model;
@@ -18,6 +18,24 @@ pub enum Action {
     View,
     /// What it knows is settled, and it noted that.
     Settled,
+    /// It runs the singleton from now on, by its ballot of this term.
+    Active(u64),
+    /// It runs the singleton no more, which it ran by its ballot of this term.
+    Ended(u64),
+    /// It hosts the shard from now on, with this allocation number.
+    Host(u32, u64),
+    /// It hosts the shard no more, and the shard's entities end.
+    Gone(u32),
+    /// It starts the entity.
+    Entity(Text),
+    /// The payload is delivered to the entity.
+    Deliver(Text, u64),
+    /// The payload for the entity is passed on to the node that is the home of the entity's shard.
+    Forward(Text, u64),
+    /// The payload for the entity waits until the home of the entity's shard is known.
+    Buffer(Text, u64),
+    /// The payload for the entity is lost: as many wait as may.
+    Drop(Text, u64),
     /// A tombstone of its settled view, of a process that did not say that it stops, has waited for as long as the margin.
     MarginEnd(Unique),
     /// It refuses what it was asked, by the number of the reason: 1 the process that is to leave is not Up, 2 the process is

@@ -4,6 +4,7 @@
 mod action;
 mod bodies;
 mod checking;
+mod cover;
 mod envelope;
 mod laws;
 mod measuring;
@@ -16,6 +17,7 @@ mod writing;
 pub use action::{Action, Actions};
 pub use ak_field::{WireFault, check_header};
 pub use checking::{sendable, valid};
+pub use cover::Cover;
 pub use envelope::{Envelope, Message};
 pub use laws::{
     bytes_are_a_datagram_or_at_fault, datagrams_are_their_spellings, no_datagram_begins_another,

@@ -44,9 +44,10 @@ impl Packet {
         Ok(Packet { envelope })
     }
 
-    /// What it says.
+    /// What it says: an envelope that has a spelling, as each packet does.
     pub fn envelope(&self) -> &Envelope
-        ensures { result.now ≡ self.now }
+        ensures same { result.now ≡ self.now }
+        ensures valid { IsValid result.now }
     {
         self.envelope.get()
     }
