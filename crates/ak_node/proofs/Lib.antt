@@ -1,9 +1,17 @@
+pub mod BallotLemmas
+pub mod BallotsKept
+pub mod BallotsSteps
 pub mod ChangeLemmas
 pub mod CountedPairs
+pub mod FewerKeys
 pub mod GivesUp
 pub mod MarginEnds
 pub mod NodeLemmas
+pub mod NotedNow
+pub mod PhaseSteps
 pub mod SendLemmas
 pub mod SendsValid
 pub mod SilentMembers
 pub mod StepChanges
+pub mod StepMoves
+pub mod StepEnds

@@ -1,12 +1,13 @@
 -- Whose margin ends in a step: tombstones of the settled view, at a tick.
-use Rattle.std.proofs.Common.{ℕ, ◌≡◌, ◌+◌, Bool, true, false, not, inl, inr, if◌then◌else◌, List, [], ◌∷◌, ◌++◌, Option, Some, None, Result, Ok, Err, IsTrue, Contains, refl, sym, ap, ◌∙◌, subst, true≢false}
+use Rattle.std.proofs.Common.{ℕ, ◌≡◌, ◌+◌, Bool, true, false, not, ◌&&◌, inl, inr, if◌then◌else◌, List, [], ◌∷◌, ◌++◌, Option, Some, None, Result, Ok, Err, IsTrue, Contains, refl, sym, ap, ◌∙◌, subst, true≢false}
 use Rattle.ak_address.specs.Unique.{AddressModel, UniqueModel}
 use Rattle.ak_address.specs.Changed.{keys_of}
-use Rattle.ak_address.specs.Uniques.{in_order}
+use Rattle.ak_address.specs.Uniques.{UniqueSet, in_order}
 use Rattle.ak_address.proofs.Elements.{contains_nothing, first_or_rest, contains_either, in_map}
 use Rattle.std.specs.FinMap as finmap
 use Rattle.ak_member.specs.declared.effect.Effect.{Effect}
 use Rattle.ak_member.specs.declared.effect.Effect.TheVariants.{Observed}
+use Rattle.ak_member.specs.declared.status.Status.{Status}
 use Rattle.ak_member.specs.Standing.{tombstone_of, is_exiting}
 use Rattle.ak_leader.specs.Leader.{founding_effects, leaders_effects}
 use Rattle.ak_settled.specs.Settled.{standings_of, ticked, ending, after_tick, IsCounting}
@@ -22,6 +23,14 @@ use Rattle.ak_membership.specs.Closing as closing
 use Rattle.ak_membership.specs.declared.change.Closing.{Closing}
 use Rattle.ak_membership.specs.Tick as ticks
 use Rattle.ak_membership.specs.Tick.{observes, silent, decides, decided, founds, leads, updates, counted}
+use Rattle.ak_promise.specs.declared.promise.Answer.{Answer}
+use Rattle.ak_promise.specs.declared.promise.Answer.TheVariants as given
+use Rattle.ak_promise.specs.Ballot.{BallotModel}
+use Rattle.ak_promise.specs.Promise.{is_some_ballot}
+use Rattle.ak_singleton.specs.declared.phase.Phase.{Phase}
+use Rattle.ak_singleton.specs.declared.phase.Phase.TheVariants as phase
+use Rattle.ak_singleton.specs.declared.phase.TickRule.{TickRule}
+use Rattle.ak_singleton.specs.Singleton.{steps_of, active_term}
 use Rattle.ak_wire.specs.declared.action.Action.{Action}
 use Rattle.ak_wire.specs.declared.action.Action.TheVariants as action
 use Rattle.ak_wire.specs.declared.envelope.Message.{Message}
@@ -29,7 +38,7 @@ use Rattle.ak_wire.specs.declared.envelope.Message.TheVariants as message
 use Rattle.ak_node.specs.declared.node.State.{State}
 use Rattle.ak_node.specs.declared.node.NodeEvent.{NodeEvent}
 use Rattle.ak_node.specs.declared.node.NodeEvent.TheVariants as event
-use Rattle.ak_node.specs.Node.{Outcome, known, me_of, is_member, is_gone, nothing, and_then, to_each, update_by, does, does_for, answer, unless_refused, leave, down, asks_at, counted_members, exits, gossips_to, goes_on, ends, beats, on_message, rule, if_so, due, closes, is_dead, running_step, step}
+use Rattle.ak_node.specs.Node.{Outcome, known, me_of, is_member, is_gone, nothing, and_then, to_each, update_by, does, does_for, answer, unless_refused, leave, down, asks_at, counted_members, exits, gossips_to, gossips, told_of, told_its_own, told_to_each, releases, needed_others, rule_on, does_rule, asks_as, status_of, told_end, let_go, ends_phase, told_active, becomes_active, answered, is_asked, answers_ask, takes_grant, has_handed_over, goes_on, ends, beats, on_message, rule, if_so, due, closes, concludes, is_dead, running_step, step}
 use Rattle.ak_node.proofs.StepChanges.{step_is}
 
 -- ---- no action of these ends a margin
@@ -77,11 +86,60 @@ none_told : (to : Option UniqueModel) (n : State) → EndsNone (gossips_to to n)
 none_told None n = none_of
 none_told (Some to) n = none_first _ [] refl none_of
 
+-- ---- promises and the singleton
+none_told_of : (o : Option BallotModel) (what : BallotModel → Message) (to : UniqueModel) (n : State) → EndsNone (told_of o what to n)
+none_told_of None what to n = none_of
+none_told_of (Some b) what to n = none_first _ [] refl none_of
+
+none_its_own : (o : Option BallotModel) (n : State) → EndsNone (told_its_own o n)
+none_its_own None n = none_of
+none_its_own (Some b) n = none_first _ [] refl none_of
+
+none_to_each : (o : Option BallotModel) (what : BallotModel → Message) (to : UniqueSet) (n : State) → EndsNone (told_to_each o what to n)
+none_to_each None what to n = none_of
+none_to_each (Some b) what to n = none_each n (in_order to) (what b)
+
+none_ruled : (r : TickRule) (n : State) → EndsNone (does_rule r n).1
+none_ruled r n =
+    let after : State = (does_rule r n).0 in
+    let steps = steps_of r (me_of n) n.membership.settled.view n.membership.settings.margin n.singleton in
+    none_both (told_its_own steps.hand_over_to after ++ releases steps.release after) _
+    (none_both (told_its_own steps.hand_over_to after) (releases steps.release after) (none_its_own steps.hand_over_to after) (none_to_each after.singleton.promise.last _ steps.release after))
+    (none_to_each after.singleton.live message.Ask steps.ask after)
+
+none_asked_as : (status : Option Status) (n : State) → EndsNone (asks_as status n).1
+none_asked_as None n = none_of
+none_asked_as (Some status) n = none_ruled (rule_on status n) n
+
+none_ended : (term : Option ℕ) → EndsNone (told_end term)
+none_ended None = none_of
+none_ended (Some term) = none_first _ [] refl none_of
+
+none_let_go : (ph : Phase) (n : State) → EndsNone (let_go ph n)
+none_let_go phase.Younger n = none_of
+none_let_go phase.Asking n = none_to_each n.singleton.promise.last _ (needed_others n) n
+none_let_go phase.Active n = none_to_each n.singleton.promise.last _ (needed_others n) n
+none_let_go phase.Ended n = none_of
+
+none_answered_ask : (a : Answer) (to : UniqueModel) (b : BallotModel) (n : State) → EndsNone (answered a to b n)
+none_answered_ask given.Granted to b n = none_first _ [] refl none_of
+none_answered_ask given.Old to b n = none_told_of n.singleton.promise.last _ to n
+none_answered_ask given.Busy to b n = none_told_of n.singleton.promise.last _ to n
+
+none_active : (b : Bool) (n : State) → EndsNone (becomes_active b n).1
+none_active true n = by_live n.singleton.live
+  where
+    by_live : (o : Option BallotModel) → EndsNone (told_active o)
+    by_live None = none_of
+    by_live (Some b) = none_first _ [] refl none_of
+none_active false n = none_of
+
 none_on : (word : ℕ) (n : State) → EndsNone (goes_on word n).1
 none_on word n =
     none_if (is_gone n) (nothing n) _ none_of
-    (none_if (is_member_with is_exiting (known n).view.standings (me_of n)) (exits n) (gossips_to (ticks.gossip_peer word n.membership) n)
-    (none_each n (counted_members n) message.ExitingConfirmed) (none_told (ticks.gossip_peer word n.membership) n))
+    (none_if (is_member_with is_exiting (known n).view.standings (me_of n)) (and_then exits (ends_phase n)) (and_then (gossips word) (asks_as (status_of n) n))
+    (none_both (ends_phase n).1 (exits (ends_phase n).0).1 (none_both (told_end (active_term n.singleton.phase n.singleton.live)) (let_go n.singleton.phase n) (none_ended (active_term n.singleton.phase n.singleton.live)) (none_let_go n.singleton.phase n)) (let m = (ends_phase n).0 in none_each m (counted_members m) message.ExitingConfirmed))
+    (none_both (asks_as (status_of n) n).1 (gossips word (asks_as (status_of n) n).0).1 (none_asked_as (status_of n) n) (let m = (asks_as (status_of n) n).0 in none_told (ticks.gossip_peer word m.membership) m)))
 
 none_answered : (r : Reply) (to : UniqueModel) (n : State) → EndsNone (answer r to n)
 none_answered reply.Nothing to n = none_of
@@ -104,6 +162,13 @@ none_heard from (message.Gossip g) n = none_refused (does_for from n) n (members
 none_heard from message.Heartbeat n = none_if (is_member n) _ (nothing n) (none_first _ [] refl none_of) none_of
 none_heard from message.HeartbeatReply n = none_if (is_member n) _ (nothing n) none_of none_of
 none_heard from message.ExitingConfirmed n = none_if (is_member n) _ (nothing n) none_of none_of
+none_heard from (message.Ask b) n = none_if (is_asked from b n) (answers_ask from b n) (nothing n) (none_answered_ask _ from b n) none_of
+none_heard from (message.Granted b floor reports) n = none_if (takes_grant from n) _ (nothing n) none_of none_of
+none_heard from (message.Busy b held) n = none_if (is_member n && is_some_ballot n.singleton.live b) _ (nothing n) (none_first _ [] refl none_of) none_of
+none_heard from (message.Old b last) n = none_if (is_member n) _ (nothing n) none_of none_of
+none_heard from (message.HandOverToMe b) n = none_if (is_member n && has_handed_over b n) _ (nothing n) (none_first _ [] refl none_of) none_of
+none_heard from (message.HandOverDone b floor) n = none_if (is_member n) _ (nothing n) (none_each n (in_order (needed_others n)) (message.Release b floor)) none_of
+none_heard from (message.Release b floor) n = none_if (is_member n) _ (nothing n) none_of none_of
 none_heard from (message.Leave who) n = none_left who n
 none_heard from (message.Down who) n = none_downed who n
 none_heard from other n = none_of
@@ -121,24 +186,27 @@ none_due c =
 none_closed : (n : State) → EndsNone (closes n).1
 none_closed n = none_due (closing.close (not n.runs) n.membership).1
 
+none_concluded : (n : State) → EndsNone (concludes n).1
+none_concluded n = none_both (closes n).1 _ (none_closed n) (none_active _ (closes n).0)
+
 -- ---- an update leaves the settled view to the tick
-record Leaves (m : MembershipState) (o : membership.Outcome) : Type 0 where
-  settings : o.0.settings ≡ m.settings
-  settled : o.0.settled ≡ m.settled
+pub record Leaves (m : MembershipState) (o : membership.Outcome) : Type 0 where
+  pub settings : o.0.settings ≡ m.settings
+  pub settled : o.0.settled ≡ m.settled
 
 module _ (m : MembershipState) where
-  leaves_if : (b : Bool) (o p : membership.Outcome) → Leaves m o → Leaves m p → Leaves m (if b then o else p)
+  pub leaves_if : (b : Bool) (o p : membership.Outcome) → Leaves m o → Leaves m p → Leaves m (if b then o else p)
   leaves_if true o p x y = x
   leaves_if false o p x y = y
 
-  update_leaves : (effects : List Effect) → Leaves m (update effects m)
+  pub update_leaves : (effects : List Effect) → Leaves m (update effects m)
   update_leaves effects = leaves_if (may_count m) (made effects m) (unchanged m) (record { settings = refl; settled = refl }) (record { settings = refl; settled = refl })
 
-  update_any_leaves : (effects : List Effect) → Leaves m (update_any effects m)
+  pub update_any_leaves : (effects : List Effect) → Leaves m (update_any effects m)
   update_any_leaves [] = record { settings = refl; settled = refl }
   update_any_leaves (x ∷ effects) = update_leaves (x ∷ effects)
 
-  updates_leave : Leaves m (updates m)
+  pub updates_leave : Leaves m (updates m)
   updates_leave =
       leaves_if (observes m) (update (Observed (silent m) ∷ []) m) _ (update_leaves (Observed (silent m) ∷ []))
       (leaves_if (decides m) (update (decided m) m) _ (update_leaves (decided m))
@@ -199,7 +267,7 @@ module _ (n : State) where
   ruling event.Stop = none_ends [] none_of
 
   running : (e : NodeEvent) → Ending n (running_step e n).1
-  running e = ending_if (is_dead (me_of n) e) (n, action.Dead ∷ []) (and_then closes (rule e n)) (λ _. none_ends (action.Dead ∷ []) (none_first action.Dead [] refl none_of)) (ending_both (rule e n).1 (closes (rule e n).0).1 (ruling e) (none_closed (rule e n).0))
+  running e = ending_if (is_dead (me_of n) e) (n, action.Dead ∷ []) (and_then concludes (rule e n)) (λ _. none_ends (action.Dead ∷ []) (none_first action.Dead [] refl none_of)) (ending_both (rule e n).1 (concludes (rule e n).0).1 (ruling e) (none_concluded (rule e n).0))
 
 pub step_ends : (e : NodeEvent) (n : State) → IsTrue n.runs → (who : UniqueModel) → Contains (step e n).1 (action.MarginEnd who) → Contains (ending n.membership.settings.margin n.membership.settled.view) who
 step_ends e n runs who there = running (record n { steps = n.steps + 1 }) e who (subst (λ (o : Outcome). Contains o.1 (action.MarginEnd who)) (step_is e n runs) there)

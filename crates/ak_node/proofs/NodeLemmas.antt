@@ -1,12 +1,13 @@
 -- What is true of every node after each of its steps: it had no more ticks than steps, it has shown what it knows, it serves
 -- while it runs and knows anybody, and what it has noted as settled it knew.
-use Rattle.std.proofs.Common.{◌≡◌, ℕ, ◌+◌, ◌≤◌, Bool, true, false, not, inl, inr, if◌then◌else◌, ◌⊎◌, [], ◌∷◌, Option, Some, None, is_some, Result, Ok, Err, IfOk, IsTrue, refl, sym, ap, ◌∙◌, subst, arith, true≢false, length}
+use Rattle.std.proofs.Common.{◌≡◌, ℕ, ◌+◌, ◌≤◌, Bool, true, false, not, ◌&&◌, inl, inr, if◌then◌else◌, ◌⊎◌, [], ◌∷◌, Option, Some, None, is_some, Result, Ok, Err, IfOk, IsTrue, refl, sym, ap, ◌∙◌, subst, arith, true≢false, length}
 use Rattle.std.specs.FinMap as map
 use Rattle.ak_address.specs.Unique.{AddressModel, UniqueModel}
 use Rattle.ak_address.specs.Uniques.{with_one}
 use Rattle.ak_address.proofs.TableLaws.{get-empty}
 use Rattle.ak_member.specs.declared.standing.Standing.{Standing}
 use Rattle.ak_member.specs.declared.standing.Standing.TheVariants.{Member, Buried}
+use Rattle.ak_member.specs.declared.status.Status.{Status}
 use Rattle.ak_member.specs.Standing as standing
 use Rattle.ak_member.specs.Standing.{is_exiting}
 use Rattle.ak_gossip.specs.Gossip.{GossipState}
@@ -27,6 +28,7 @@ use Rattle.ak_membership.specs.Closing.{stops, is_noted, notes}
 use Rattle.ak_membership.specs.Knowledge.{Given, nothing_given, Learns, WaitsOn, Knowledge, Keeps, Updates, Accepts, made_by}
 use Rattle.ak_membership.proofs.MembershipLemmas.{learnt_itself, waits_counting}
 use Rattle.ak_membership.proofs.Walk.{found_learns, leave_learns, down_learns, tick_learns, join_learns, gossip_learns}
+use Rattle.ak_promise.specs.Promise.{is_some_ballot}
 use Rattle.ak_wire.specs.declared.envelope.Message.{Message}
 use Rattle.ak_wire.specs.declared.envelope.Message.TheVariants as message
 use Rattle.ak_wire.specs.declared.action.Action.TheVariants as action
@@ -34,7 +36,7 @@ use Rattle.ak_wire.specs.Wire.{updates_of}
 use Rattle.ak_node.specs.declared.node.State.{State}
 use Rattle.ak_node.specs.declared.node.NodeEvent.{NodeEvent}
 use Rattle.ak_node.specs.declared.node.NodeEvent.TheVariants as event
-use Rattle.ak_node.specs.Node.{Outcome, known, me_of, is_member, is_gone, nothing, and_then, does, does_for, unless_refused, leave, down, asks_at, exits, gossips_to, goes_on, ticked, on_message, rule, closes, is_dead, running_step, step}
+use Rattle.ak_node.specs.Node.{Outcome, known, me_of, is_member, is_gone, nothing, and_then, does, does_for, unless_refused, leave, down, asks_at, exits, gossips_to, goes_on, ticked, on_message, rule, asks_as, status_of, ends_phase, is_asked, takes_grant, has_handed_over, answers_ask, gossips, closes, concludes, is_dead, running_step, step}
 use Rattle.ak_node.specs.NodeContracts.{IsNode, Serves, ServesWhileItRuns}
 use Rattle.ak_node.specs.Change.{given_by, NotesNow, Notes}
 use Rattle.ak_node.proofs.StepChanges.{rule_changes, running_changes, step_is, step_changes, ran_before}
@@ -60,10 +62,10 @@ closes_stays : (n : State) → Stays (closes n).0
 closes_stays n runs = (ran_before n.runs (is_gone n) runs).1
 
 running_stays : (e : NodeEvent) (n : State) → Stays n → Stays (running_step e n).0
-running_stays e n stays = outcome_if Stays (is_dead (me_of n) e) (n, action.Dead ∷ []) (and_then closes (rule e n)) (λ _. stays) (λ _. closes_stays (rule e n).0)
+running_stays e n stays = outcome_if Stays (is_dead (me_of n) e) (n, action.Dead ∷ []) (and_then concludes (rule e n)) (λ _. stays) (λ _. closes_stays (rule e n).0)
 
 running_shown : (e : NodeEvent) (n : State) → HasShown n → HasShown (running_step e n).0
-running_shown e n shown = outcome_if HasShown (is_dead (me_of n) e) (n, action.Dead ∷ []) (and_then closes (rule e n)) (λ _. shown) (λ _. refl)
+running_shown e n shown = outcome_if HasShown (is_dead (me_of n) e) (n, action.Dead ∷ []) (and_then concludes (rule e n)) (λ _. shown) (λ _. refl)
 
 -- a node that has stopped stays as it is
 pub stopped_is : (e : NodeEvent) (n : State) → n.runs ≡ false → step e n ≡ nothing n
@@ -104,7 +106,14 @@ module _ (n : State) where
 
   goes_settled : (word : ℕ) (m : State) → SameSettled n m → SameSettled n (goes_on word m).0
   goes_settled word m same =
-      same_if (is_gone m) (nothing m) _ same (same_if (is_member_with is_exiting (known m).view.standings (me_of m)) (exits m) (gossips_to (ticks.gossip_peer word m.membership) m) same (gossips_settled (ticks.gossip_peer word m.membership) m same))
+      let x = (asks_as (status_of m) m).0 in
+      same_if (is_gone m) (nothing m) _ same
+      (same_if (is_member_with is_exiting (known m).view.standings (me_of m)) (and_then exits (ends_phase m)) (and_then (gossips word) (asks_as (status_of m) m)) same
+      (gossips_settled (ticks.gossip_peer word x.membership) x (asks_as_settled (status_of m))))
+    where
+      asks_as_settled : (status : Option Status) → SameSettled n (asks_as status m).0
+      asks_as_settled None = same
+      asks_as_settled (Some status) = same
 
   leave_settled : (who : UniqueModel) → SameSettled n (leave who n).0
   leave_settled who = unless_settled nothing_given (does n) (membership.leave who n.membership) (λ o. refl) (leave_learns nothing_given n.membership who)
@@ -129,11 +138,18 @@ module _ (n : State) where
       by_member : (b : Bool) → SameSettled n (nothing (record n { membership = if b then record n.membership { confirmed = with_one n.membership.confirmed from } else n.membership })).0
       by_member true = inl refl
       by_member false = inl refl
+  told_settled from (message.Ask b) = same_if (is_asked from b n) (answers_ask from b n) (nothing n) (inl refl) (inl refl)
+  told_settled from (message.Granted b floor reports) = same_if (takes_grant from n) _ (nothing n) (inl refl) (inl refl)
+  told_settled from (message.Busy b held) = same_if (is_member n && is_some_ballot n.singleton.live b) _ (nothing n) (inl refl) (inl refl)
+  told_settled from (message.Old b last) = same_if (is_member n) _ (nothing n) (inl refl) (inl refl)
+  told_settled from (message.HandOverToMe b) = same_if (is_member n && has_handed_over b n) _ (nothing n) (inl refl) (inl refl)
+  told_settled from (message.HandOverDone b floor) = same_if (is_member n) _ (nothing n) (inl refl) (inl refl)
+  told_settled from (message.Release b floor) = same_if (is_member n) _ (nothing n) (inl refl) (inl refl)
   told_settled from (message.Leave who) = leave_settled who
   told_settled from (message.Down who) = down_settled who
   told_settled from other = inl refl
 
-  rule_settled : (e : NodeEvent) → SameSettled n (rule e n).0
+  pub rule_settled : (e : NodeEvent) → SameSettled n (rule e n).0
   rule_settled event.Found = (found_learns (given_by event.Found) n.membership refl).waits_on
   rule_settled (event.Join target) = same_if (is_member n) (nothing n) _ (inl refl) (by_member (is_member n))
     where
@@ -147,7 +163,7 @@ module _ (n : State) where
   rule_settled event.Stop = inl refl
 
 -- the closing notes what is known then, or nothing
-closes_notes : (n : State) → ((closes n).0.membership.settled ≡ n.membership.settled) ⊎ NotesNow (closes n).0
+pub closes_notes : (n : State) → ((closes n).0.membership.settled ≡ n.membership.settled) ⊎ NotesNow (closes n).0
 closes_notes n = by_case (notes (not n.runs) n.membership) refl
   where
     by_case : (b : Bool) → notes (not n.runs) n.membership ≡ b → ((closes n).0.membership.settled ≡ n.membership.settled) ⊎ NotesNow (closes n).0
@@ -164,11 +180,11 @@ closes_notes n = by_case (notes (not n.runs) n.membership) refl
         })
 
 running_notes : (e : NodeEvent) (n : State) → Notes n (running_step e n).0
-running_notes e n = outcome_if (Notes n) (is_dead (me_of n) e) (n, action.Dead ∷ []) (and_then closes (rule e n)) (λ _. inl (inl refl)) (λ _. after_rule (closes_notes (rule e n).0))
+running_notes e n = outcome_if (Notes n) (is_dead (me_of n) e) (n, action.Dead ∷ []) (and_then concludes (rule e n)) (λ _. inl (inl refl)) (λ _. after_rule (closes_notes (rule e n).0))
   where
-    after_rule : ((closes (rule e n).0).0.membership.settled ≡ (rule e n).0.membership.settled) ⊎ NotesNow (closes (rule e n).0).0 → Notes n (closes (rule e n).0).0
+    after_rule : ((closes (rule e n).0).0.membership.settled ≡ (rule e n).0.membership.settled) ⊎ NotesNow (closes (rule e n).0).0 → Notes n (concludes (rule e n).0).0
     after_rule (inl same) = inl (subst (WaitsOn n.membership.settings.margin n.membership.settled) (sym same) (rule_settled n e))
-    after_rule (inr now) = inr now
+    after_rule (inr now) = inr (record { version = now.version; standings = now.standings; settled = now.settled; stays = now.stays; runs = now.runs })
 
 pub step_notes : (e : NodeEvent) (n : State) → IsTrue n.runs → Notes n (step e n).0
 step_notes e n runs = subst (λ (o : Outcome). Notes n o.0) (sym (step_is e n runs)) (running_notes e (record n { steps = n.steps + 1 }))
@@ -178,7 +194,7 @@ abbrev Watches : State → Type 0
 Watches n = IsWatching n.membership
 
 running_watching : (e : NodeEvent) (n : State) → Watches n → Watches (running_step e n).0
-running_watching e n watches = outcome_if Watches (is_dead (me_of n) e) (n, action.Dead ∷ []) (and_then closes (rule e n)) (λ _. watches) (λ _ who is.
+running_watching e n watches = outcome_if Watches (is_dead (me_of n) e) (n, action.Dead ∷ []) (and_then concludes (rule e n)) (λ _. watches) (λ _ who is.
     let m = (rule e n).0.membership in
     watched_member m.me m.gossip.view.standings m.settings.deadline m.detector who is)
 
@@ -193,7 +209,7 @@ closes_counting n counts = by_case (notes (not n.runs) n.membership)
     by_case false = counts
 
 running_counting : (e : NodeEvent) (n : State) → Counts n → Counts (running_step e n).0
-running_counting e n counts = outcome_if Counts (is_dead (me_of n) e) (n, action.Dead ∷ []) (and_then closes (rule e n)) (λ _. counts) (λ _.
+running_counting e n counts = outcome_if Counts (is_dead (me_of n) e) (n, action.Dead ∷ []) (and_then concludes (rule e n)) (λ _. counts) (λ _.
     closes_counting (rule e n).0
     (subst (λ (s : SettingsModel). IsCounting s.margin (rule e n).0.membership.settled.view) (sym (rule_changes e n).same_settings)
     (waits_counting n.membership.settings.margin n.membership.settled (rule e n).0.membership.settled (rule_settled n e) counts)))

@@ -1,9 +1,12 @@
 -- What a node sends is valid: it goes to processes that the node knows or hears from, or to the address that it joins through.
-use Rattle.std.proofs.Common.{◌≡◌, ℕ, Bool, true, false, inl, inr, if◌then◌else◌, List, [], ◌∷◌, ◌++◌, Option, Some, None, is_some, not, ◌+◌, Result, Ok, Err, IsTrue, Contains, refl, sym, ap, ◌∙◌, subst, true≢false, arith}
+use Rattle.std.proofs.Common.{◌≡◌, ℕ, Bool, true, false, inl, inr, if◌then◌else◌, List, [], ◌∷◌, ◌++◌, Option, Some, None, is_some, not, ◌+◌, ◌≤◌, ◌&&◌, Result, Ok, Err, IsTrue, Contains, refl, sym, ap, ◌∙◌, subst, true≢false, arith}
+use Rattle.std.proofs.lemmas.Option.{same_Some}
+use Rattle.std.proofs.lemmas.Bool.{leb-true}
 use Rattle.std.specs.FinMap as finmap
 use Rattle.ak_address.specs.Changed.{keys_of}
-use Rattle.ak_address.specs.Unique.{AddressModel, UniqueModel, IsAddress, IsUnique}
-use Rattle.ak_address.specs.Uniques.{in_order}
+use Rattle.std.specs.Ordering.{is_eq}
+use Rattle.ak_address.specs.Unique.{AddressModel, UniqueModel, IsAddress, IsUnique, unique_cmp}
+use Rattle.ak_address.specs.Uniques.{UniqueSet, in_order}
 use Rattle.ak_address.proofs.ChangedLaws.{has-keys_of}
 use Rattle.ak_address.proofs.Elements.{contains_nothing, contains_either, contains_first, contains_rest, first_or_rest, in_map, index_of}
 use Rattle.ak_address.proofs.TableLaws.{get-empty}
@@ -28,20 +31,39 @@ use Rattle.ak_membership.specs.Closing.{is_viewed, stops, notes}
 use Rattle.ak_member.specs.Age.{counted_pairs}
 use Rattle.ak_select.specs.Select.{peer}
 use Rattle.ak_select.proofs.SelectLaws.{peer_reachable}
+use Rattle.ak_clock.specs.Version.{Counts}
+use Rattle.ak_gossip.proofs.InvariantLemmas.{and_second}
+use Rattle.ak_member.specs.declared.status.Status.{Status}
+use Rattle.ak_membership.specs.Knowledge.{nothing_given}
+use Rattle.ak_membership.proofs.MembershipLemmas.{waits_version, waits_standings}
+use Rattle.ak_membership.proofs.Walk.{tick_learns}
+use Rattle.ak_promise.specs.declared.promise.Answer.{Answer}
+use Rattle.ak_promise.specs.declared.promise.Answer.TheVariants as given
+use Rattle.ak_promise.specs.Ballot.{BallotModel, IsBallot}
+use Rattle.ak_promise.specs.Promise.{is_some_ballot, released_by}
+use Rattle.ak_settled.specs.Settled.{version_of}
+use Rattle.ak_singleton.specs.declared.phase.Phase.{Phase}
+use Rattle.ak_singleton.specs.declared.phase.Phase.TheVariants as phase
+use Rattle.ak_singleton.specs.declared.phase.Steps.{Steps}
+use Rattle.ak_singleton.specs.declared.phase.TickRule.{TickRule}
+use Rattle.ak_singleton.specs.declared.phase.TickRule.TheVariants as rules
+use Rattle.ak_singleton.specs.Singleton.{only, steps_of, active_term, is_first_grant, after_granted, is_outdone, after_old, may_activate}
 use Rattle.ak_wire.specs.declared.envelope.Envelope.{Envelope}
 use Rattle.ak_wire.specs.declared.envelope.Message.{Message}
 use Rattle.ak_wire.specs.declared.envelope.Message.TheVariants as message
 use Rattle.ak_wire.specs.declared.action.Action.{Action}
 use Rattle.ak_wire.specs.declared.action.Action.TheVariants as action
 use Rattle.ak_wire.specs.Wire.{sent, gossip_of}
-use Rattle.ak_wire.specs.Datagram.{IsSendable, IsValid}
+use Rattle.ak_wire.specs.Datagram.{IsSendable, IsValid, IsBody}
 use Rattle.ak_wire.proofs.Sending.{sent-append}
 use Rattle.ak_node.specs.declared.node.State.{State}
 use Rattle.ak_node.specs.declared.node.NodeEvent.{NodeEvent}
 use Rattle.ak_node.specs.declared.node.NodeEvent.TheVariants as event
-use Rattle.ak_node.specs.Node.{Outcome, known, me_of, is_member, is_gone, nothing, and_then, to_process, to_each, update_by, answer, does, does_for, unless_refused, number_of, asks_at, counted_members, exits, gossips_to, goes_on, ends, beats, ticked, tick, on_message, rule, closes, is_dead, running_step, step}
+use Rattle.ak_node.specs.Node as node
+use Rattle.ak_node.specs.Node.{Outcome, known, me_of, settled_of, margin_of, reports_of, status_of, floor_of, most_in_version, fits_packet, is_grantable, keeping, promising, told_of, told_its_own, told_to_each, releases, needed_others, rule_on, does_rule, asks_as, told_end, let_go, ends_phase, told_active, becomes_active, activates, is_asked, answers_ask, takes_grant, has_handed_over, gossips, concludes, is_member, is_gone, nothing, and_then, to_process, to_each, update_by, answer, does, does_for, unless_refused, number_of, asks_at, counted_members, exits, gossips_to, goes_on, ends, beats, ticked, tick, on_message, rule, closes, is_dead, running_step, step}
 use Rattle.ak_node.specs.NodeContracts.{IsNode}
-use Rattle.ak_node.specs.Sends.{AreValid, KnowsProcesses, IsTarget, IsProcess, IsSaid}
+use Rattle.ak_node.specs.Sends.{AreValid, KnowsProcesses, IsTarget, IsProcess, KeepsBallots, KeepsSettled, IsSaid}
+use Rattle.ak_node.proofs.BallotsKept.{counted_merged, counted_short, rule_kept, settled_alike, needed_process, nobody_there}
 use Rattle.ak_node.proofs.CountedPairs.{counted_have}
 use Rattle.ak_node.proofs.StepChanges.{ended_sent, due_sent, goes_quiet, step_changes, step_is}
 
@@ -53,6 +75,13 @@ GoesTo (message.Gossip g) to uid = IsUnique (record { address = to; uid = uid })
 GoesTo message.Heartbeat to uid = IsUnique (record { address = to; uid = uid })
 GoesTo message.HeartbeatReply to uid = IsUnique (record { address = to; uid = uid })
 GoesTo message.ExitingConfirmed to uid = IsUnique (record { address = to; uid = uid })
+GoesTo (message.Ask b) to uid = IsUnique (record { address = to; uid = uid }) × IsBody (message.Ask b)
+GoesTo (message.Granted b floor reports) to uid = IsUnique (record { address = to; uid = uid }) × IsBody (message.Granted b floor reports)
+GoesTo (message.Busy b held) to uid = IsUnique (record { address = to; uid = uid }) × IsBody (message.Busy b held)
+GoesTo (message.Old b last) to uid = IsUnique (record { address = to; uid = uid }) × IsBody (message.Old b last)
+GoesTo (message.HandOverToMe b) to uid = IsUnique (record { address = to; uid = uid }) × IsBody (message.HandOverToMe b)
+GoesTo (message.HandOverDone b floor) to uid = IsUnique (record { address = to; uid = uid }) × IsBody (message.HandOverDone b floor)
+GoesTo (message.Release b floor) to uid = IsUnique (record { address = to; uid = uid }) × IsBody (message.Release b floor)
 GoesTo other to uid = ⊥
 
 abbrev Goes : Envelope → Type 0
@@ -68,6 +97,13 @@ valid_by (message.Gossip g) from to uid who goes carries = record { from = who; 
 valid_by message.Heartbeat from to uid who goes carries = record { from = who; to = goes.address; uid = (goes.uid, goes.uid_fits); body = tt }
 valid_by message.HeartbeatReply from to uid who goes carries = record { from = who; to = goes.address; uid = (goes.uid, goes.uid_fits); body = tt }
 valid_by message.ExitingConfirmed from to uid who goes carries = record { from = who; to = goes.address; uid = (goes.uid, goes.uid_fits); body = tt }
+valid_by (message.Ask b) from to uid who goes carries = record { from = who; to = goes.0.address; uid = (goes.0.uid, goes.0.uid_fits); body = goes.1 }
+valid_by (message.Granted b floor reports) from to uid who goes carries = record { from = who; to = goes.0.address; uid = (goes.0.uid, goes.0.uid_fits); body = goes.1 }
+valid_by (message.Busy b held) from to uid who goes carries = record { from = who; to = goes.0.address; uid = (goes.0.uid, goes.0.uid_fits); body = goes.1 }
+valid_by (message.Old b last) from to uid who goes carries = record { from = who; to = goes.0.address; uid = (goes.0.uid, goes.0.uid_fits); body = goes.1 }
+valid_by (message.HandOverToMe b) from to uid who goes carries = record { from = who; to = goes.0.address; uid = (goes.0.uid, goes.0.uid_fits); body = goes.1 }
+valid_by (message.HandOverDone b floor) from to uid who goes carries = record { from = who; to = goes.0.address; uid = (goes.0.uid, goes.0.uid_fits); body = goes.1 }
+valid_by (message.Release b floor) from to uid who goes carries = record { from = who; to = goes.0.address; uid = (goes.0.uid, goes.0.uid_fits); body = goes.1 }
 valid_by other from to uid who goes carries = absurd goes
 
 -- ---- lists of actions
@@ -180,14 +216,97 @@ gossips_go : (to : Option UniqueModel) (n : State) → ((who : UniqueModel) → 
 gossips_go None n names = none_go [] refl
 gossips_go (Some to) n names = one_goes (record { from = me_of n; to = to.address; uid = to.uid; message = message.Gossip (known n) }) (names to refl)
 
-goes_on_go : (word : ℕ) (n : State) → KnowsProcesses n → AllGo (goes_on word n).1
-goes_on_go word n names =
-    go_if (is_gone n) (nothing n) _ (λ gone. none_go [] refl) (λ stays.
-    go_if (is_member_with is_exiting (known n).view.standings (me_of n)) (exits n) (gossips_to (gossip_peer word n.membership) n)
-    (λ exiting. all_go n (counted_members n) message.ExitingConfirmed (λ u who. who) (λ u there. names u (counted_known n u there)))
-    (λ other. gossips_go (gossip_peer word n.membership) n (λ who is. names who (known_of (known n).view.standings who (peer_known word n.membership who is)))))
+-- ---- promises and the singleton
+of_go : (o : Option BallotModel) (what : BallotModel → Message) (to : UniqueModel) (n : State) → ((b : BallotModel) → o ≡ Some b → GoesTo (what b) to.address to.uid) → AllGo (told_of o what to n)
+of_go None what to n goes = none_go [] refl
+of_go (Some b) what to n goes = one_goes (record { from = me_of n; to = to.address; uid = to.uid; message = what b }) (goes b refl)
 
-module _ (n : State) (names : KnowsProcesses n) (is : IsProcess n) (node : IsNode n) where
+own_go : (o : Option BallotModel) (n : State) → ((b : BallotModel) → o ≡ Some b → IsBallot b) → AllGo (told_its_own o n)
+own_go None n is = none_go [] refl
+own_go (Some b) n is = one_goes (record { from = me_of n; to = b.unique.address; uid = b.unique.uid; message = message.HandOverToMe b }) (let ballot = is b refl in (ballot.unique, ballot))
+
+to_each_go : (o : Option BallotModel) (what : BallotModel → Message) (to : UniqueSet) (n : State) → ((b : BallotModel) (u : UniqueModel) → o ≡ Some b → IsUnique u → GoesTo (what b) u.address u.uid) → ((u : UniqueModel) → Contains (in_order to) u → IsUnique u) → AllGo (told_to_each o what to n)
+to_each_go None what to n goes names = none_go [] refl
+to_each_go (Some b) what to n goes names = all_go n (in_order to) (what b) (λ u who. goes b u refl who) names
+
+releases_go : (to : UniqueSet) (n : State) → KeepsBallots n.singleton → KeepsSettled n → ((u : UniqueModel) → Contains (in_order to) u → IsUnique u) → AllGo (releases to n)
+releases_go to n kb ks names = to_each_go n.singleton.promise.last (λ b. message.Release b (version_of (settled_of n))) to n (λ b u at who. (who, (kb.last b at, counted_short (version_of (settled_of n)) ks.version ks.few))) names
+
+module _ (n : State) (me : IsUnique (me_of n)) (kb : KeepsBallots n.singleton) (ks : KeepsSettled n) where
+  abbrev steps_by : TickRule → Steps
+  steps_by r = steps_of r (me_of n) (settled_of n) (margin_of n) n.singleton
+
+  handed : (r : TickRule) (b : BallotModel) → (steps_by r).hand_over_to ≡ Some b → IsBallot b
+  handed rules.Rests b at = absurd (true≢false (sym (ap is_some at)))
+  handed rules.Opens b at = absurd (true≢false (sym (ap is_some at)))
+  handed rules.HandsOver b at = kb.last b at
+  handed rules.Closes b at = absurd (true≢false (sym (ap is_some at)))
+  handed rules.Asks b at = absurd (true≢false (sym (ap is_some at)))
+
+  released_to : (r : TickRule) (u : UniqueModel) → Contains (in_order (steps_by r).release) u → IsUnique u
+  released_to rules.Rests u there = absurd (nobody_there u there)
+  released_to rules.Opens u there = absurd (nobody_there u there)
+  released_to rules.HandsOver u there = absurd (nobody_there u there)
+  released_to rules.Closes u there = needed_process n ks (only (me_of n)) u there
+  released_to rules.Asks u there = absurd (nobody_there u there)
+
+  asked_of : (r : TickRule) (u : UniqueModel) → Contains (in_order (steps_by r).ask) u → IsUnique u
+  asked_of rules.Rests u there = absurd (nobody_there u there)
+  asked_of rules.Opens u there = needed_process n ks (only (me_of n)) u there
+  asked_of rules.HandsOver u there = absurd (nobody_there u there)
+  asked_of rules.Closes u there = absurd (nobody_there u there)
+  asked_of rules.Asks u there = needed_process n ks n.singleton.granted u there
+
+  asks_as_go : (status : Option Status) → AllGo (asks_as status n).1
+  asks_as_go None = none_go [] refl
+  asks_as_go (Some status) =
+      let r = rule_on status n in
+      let after : State = (does_rule r n).0 in
+      let kept : KeepsBallots after.singleton = rule_kept n.singleton kb (me_of n) me (settled_of n) ks.version status (margin_of n) in
+      let settled_after : KeepsSettled after = settled_alike n after refl refl ks in
+      both_go (told_its_own (steps_by r).hand_over_to after ++ releases (steps_by r).release after) (told_to_each after.singleton.live message.Ask (steps_by r).ask after)
+      (both_go (told_its_own (steps_by r).hand_over_to after) (releases (steps_by r).release after) (own_go (steps_by r).hand_over_to after (handed r)) (releases_go (steps_by r).release after kept settled_after (released_to r)))
+      (to_each_go after.singleton.live message.Ask (steps_by r).ask after (λ b u at who. (who, kept.live b at)) (asked_of r))
+
+  ends_go : AllGo (ends_phase n).1
+  ends_go = both_go (told_end (active_term n.singleton.phase n.singleton.live)) (let_go n.singleton.phase n) (none_go (told_end (active_term n.singleton.phase n.singleton.live)) (unsent (active_term n.singleton.phase n.singleton.live))) (by_phase n.singleton.phase)
+    where
+      unsent : (term : Option ℕ) → sent (told_end term) ≡ []
+      unsent None = refl
+      unsent (Some term) = refl
+
+      by_phase : (ph : Phase) → AllGo (let_go ph n)
+      by_phase phase.Younger = none_go [] refl
+      by_phase phase.Asking = releases_go (needed_others n) n kb ks (needed_process n ks (only (me_of n)))
+      by_phase phase.Active = releases_go (needed_others n) n kb ks (needed_process n ks (only (me_of n)))
+      by_phase phase.Ended = none_go [] refl
+
+  goes_on_go : (word : ℕ) → KnowsProcesses n → AllGo (goes_on word n).1
+  goes_on_go word names =
+      go_if (is_gone n) (nothing n) _ (λ gone. none_go [] refl) (λ stays.
+      go_if (is_member_with is_exiting (known n).view.standings (me_of n)) (and_then exits (ends_phase n)) (and_then (gossips word) (asks_as (status_of n) n))
+      (λ exiting. let m = (ends_phase n).0 in both_go (ends_phase n).1 (exits m).1 ends_go (all_go m (counted_members m) message.ExitingConfirmed (λ u who. who) (λ u there. names u (counted_known m u there))))
+      (λ other. both_go (asks_as (status_of n) n).1 (gossips word (asks_as (status_of n) n).0).1 (asks_as_go (status_of n)) (by_status (status_of n))))
+    where
+      gossips_after : (m : State) → ((who : UniqueModel) → IsTrue (is_known (known m).view.standings who) → IsUnique who) → AllGo (gossips word m).1
+      gossips_after m all = gossips_go (gossip_peer word m.membership) m (λ who is. all who (known_of (known m).view.standings who (peer_known word m.membership who is)))
+
+      by_status : (status : Option Status) → AllGo (gossips word (asks_as status n).0).1
+      by_status None = gossips_after n names
+      by_status (Some status) = gossips_after (asks_as (Some status) n).0 names
+
+  -- answers to messages about ballots
+  at_most : (v : Counts) → fits_packet v ≡ true → finmap.len v ≤ most_in_version
+  at_most v is = leb-true (finmap.len v) most_in_version is
+
+  answered_go : (a : Answer) (from : UniqueModel) (b : BallotModel) → IsUnique from → IsBallot b → is_grantable n ≡ true → AllGo (node.answered a from b n)
+  answered_go given.Granted from b who is fits =
+      one_goes (record { from = me_of n; to = from.address; uid = from.uid; message = message.Granted b (floor_of n) (reports_of n) })
+      (who, (is, (counted_short (floor_of n) (counted_merged n.singleton.promise.floor (version_of (settled_of n)) kb.floor ks.version) (at_most (floor_of n) fits), record { few = omega arith; each = tt })))
+  answered_go given.Old from b who is fits = of_go n.singleton.promise.last (λ last. message.Old b last) from n (λ last at. (who, (is, kb.last last at)))
+  answered_go given.Busy from b who is fits = of_go n.singleton.promise.last (λ last. message.Busy b last) from n (λ last at. (who, (is, kb.last last at)))
+
+module _ (n : State) (names : KnowsProcesses n) (is : IsProcess n) (node : IsNode n) (kb : KeepsBallots n.singleton) (ks : KeepsSettled n) where
   beats_go : is_member n ≡ true → AllGo (beats (record n { membership = (ticks.tick n.membership).0 }))
   beats_go member =
       let after : State = record n { membership = (ticks.tick n.membership).0 } in
@@ -208,7 +327,7 @@ module _ (n : State) (names : KnowsProcesses n) (is : IsProcess n) (node : IsNod
           (both_go (ends after ++ beats after) (update_by o.1.number o.1.effects)
           (both_go (ends after) (beats after) (none_go (ends after) (ended_sent after.membership.settled.just_ended)) (beats_go member))
           (none_go (update_by o.1.number o.1.effects) (untold o.1.number o.1.effects)))
-          (goes_on_go word after (subst (λ (g : GossipState). (who : UniqueModel) → IsTrue (is_known g.view.standings who) → IsUnique who) (goes_quiet word after).same later))
+          (goes_on_go after (subst IsUnique (sym (tick_learns nothing_given n.membership).same_me) is.me) kb (settled_alike n after (waits_version (margin_of n) n.membership.settled after.membership.settled (tick_learns nothing_given n.membership).waits_on) (waits_standings (margin_of n) n.membership.settled after.membership.settled (tick_learns nothing_given n.membership).waits_on) ks) word (subst (λ (g : GossipState). (who : UniqueModel) → IsTrue (is_known g.view.standings who) → IsUnique who) (goes_quiet word after).same later))
 
       by_member : (b : Bool) → is_member n ≡ b
           → KnowsProcesses (if b then and_then (goes_on word) (ticked n (ticks.tick n.membership)) else asks_at n.membership.target n).0
@@ -217,47 +336,71 @@ module _ (n : State) (names : KnowsProcesses n) (is : IsProcess n) (node : IsNod
       by_member false member later = asks_go n.membership.target n is.target
 
 -- ---- packets and local events
-told_goes : (n : State) (from : UniqueModel) (m : Message) → IsUnique from → AllGo (on_message from m n).1
-told_goes n from message.Join who = unless_refused_goes (does_for from n) n (membership.on_join from n.membership) (answered from n who)
-told_goes n from (message.Welcome g) who = unless_refused_goes (does_for from n) n (membership.on_gossip g n.membership) (answered from n who)
-told_goes n from (message.Gossip g) who = unless_refused_goes (does_for from n) n (membership.on_gossip g n.membership) (answered from n who)
-told_goes n from message.Heartbeat who = go_if (is_member n) (n, to_process n from message.HeartbeatReply ∷ []) (nothing n) (λ member. one_goes (record { from = me_of n; to = from.address; uid = from.uid; message = message.HeartbeatReply }) who) (λ none. none_go [] refl)
-told_goes n from message.HeartbeatReply who = go_if (is_member n) _ (nothing n) (λ member. none_go [] refl) (λ none. none_go [] refl)
-told_goes n from message.ExitingConfirmed who = go_if (is_member n) _ (nothing n) (λ member. none_go [] refl) (λ none. none_go [] refl)
-told_goes n from (message.Leave subject) who = unless_refused_goes (does n) n (membership.leave subject n.membership) (update_goes n)
-told_goes n from (message.Down subject) who = unless_refused_goes (does n) n (membership.down subject n.membership) (update_goes n)
-told_goes n from other who = none_go [] refl
+told_goes : (n : State) (me : IsUnique (me_of n)) (kb : KeepsBallots n.singleton) (ks : KeepsSettled n) (from : UniqueModel) (m : Message) → IsUnique from → IsBody m → AllGo (on_message from m n).1
+told_goes n me kb ks from message.Join who said = unless_refused_goes (does_for from n) n (membership.on_join from n.membership) (answered from n who)
+told_goes n me kb ks from (message.Welcome g) who said = unless_refused_goes (does_for from n) n (membership.on_gossip g n.membership) (answered from n who)
+told_goes n me kb ks from (message.Gossip g) who said = unless_refused_goes (does_for from n) n (membership.on_gossip g n.membership) (answered from n who)
+told_goes n me kb ks from message.Heartbeat who said = go_if (is_member n) (n, to_process n from message.HeartbeatReply ∷ []) (nothing n) (λ member. one_goes (record { from = me_of n; to = from.address; uid = from.uid; message = message.HeartbeatReply }) who) (λ none. none_go [] refl)
+told_goes n me kb ks from message.HeartbeatReply who said = go_if (is_member n) _ (nothing n) (λ member. none_go [] refl) (λ none. none_go [] refl)
+told_goes n me kb ks from message.ExitingConfirmed who said = go_if (is_member n) _ (nothing n) (λ member. none_go [] refl) (λ none. none_go [] refl)
+told_goes n me kb ks from (message.Ask b) who said = go_if (is_asked from b n) (answers_ask from b n) (nothing n) (λ is. answered_go n me kb ks _ from b who said (and_second (is_member n && is_eq (unique_cmp b.unique from)) (is_grantable n) is)) (λ is. none_go [] refl)
+told_goes n me kb ks from (message.Granted b floor reports) who said = go_if (takes_grant from n) (nothing (keeping (after_granted (is_first_grant from b n.singleton) from floor n.singleton) n)) (nothing n) (λ is. none_go [] refl) (λ is. none_go [] refl)
+told_goes n me kb ks from (message.Busy b held) who said = go_if (is_member n && is_some_ballot n.singleton.live b) (n, told_its_own (Some held) n) (nothing n) (λ is. own_go (Some held) n (λ c at. subst IsBallot (same_Some held c at) said.1)) (λ is. none_go [] refl)
+told_goes n me kb ks from (message.Old b last) who said = go_if (is_member n) (nothing (keeping (after_old (is_outdone b last n.singleton) b last n.singleton) n)) (nothing n) (λ is. none_go [] refl) (λ is. none_go [] refl)
+told_goes n me kb ks from (message.HandOverToMe b) who said =
+    go_if (is_member n && has_handed_over b n) (n, to_process n from (message.HandOverDone b (version_of (settled_of n))) ∷ []) (nothing n)
+    (λ is. one_goes (record { from = me_of n; to = from.address; uid = from.uid; message = message.HandOverDone b (version_of (settled_of n)) }) (who, (said, counted_short (version_of (settled_of n)) ks.version ks.few))) (λ is. none_go [] refl)
+told_goes n me kb ks from (message.HandOverDone b floor) who said =
+    go_if (is_member n) (promising (released_by n.singleton.promise b floor) n, to_each n (in_order (needed_others n)) (message.Release b floor)) (nothing n)
+    (λ is. all_go n (in_order (needed_others n)) (message.Release b floor) (λ u unique. (unique, said)) (needed_process n ks (only (me_of n)))) (λ is. none_go [] refl)
+told_goes n me kb ks from (message.Release b floor) who said = go_if (is_member n) (nothing (promising (released_by n.singleton.promise b floor) n)) (nothing n) (λ is. none_go [] refl) (λ is. none_go [] refl)
+told_goes n me kb ks from (message.Leave subject) who said = unless_refused_goes (does n) n (membership.leave subject n.membership) (update_goes n)
+told_goes n me kb ks from (message.Down subject) who said = unless_refused_goes (does n) n (membership.down subject n.membership) (update_goes n)
+told_goes n me kb ks from other who said = none_go [] refl
 
-rule_goes : (e : NodeEvent) (n : State) → IsSaid e → KnowsProcesses n → IsProcess n → IsNode n → KnowsProcesses (rule e n).0 → AllGo (rule e n).1
-rule_goes event.Found n said names is node later = update_goes n (membership.found n.membership)
-rule_goes (event.Join target) n said names is node later = go_if (is_member n) (nothing n) _ (λ member. none_go [] refl) (λ none. one_goes (record { from = me_of n; to = target; uid = 0; message = message.Join }) (refl, said))
-rule_goes (event.Tick word) n said names is node later = tick_goes n names is node word later
-rule_goes (event.Packet p) n said names is node later = told_goes n p.from p.message said
-rule_goes (event.Leave who) n said names is node later = unless_refused_goes (does n) n (membership.leave who n.membership) (update_goes n)
-rule_goes (event.Down who) n said names is node later = unless_refused_goes (does n) n (membership.down who n.membership) (update_goes n)
-rule_goes event.Stop n said names is node later = none_go [] refl
+rule_goes : (e : NodeEvent) (n : State) → IsSaid e → KnowsProcesses n → IsProcess n → IsNode n → KeepsBallots n.singleton → KeepsSettled n → KnowsProcesses (rule e n).0 → AllGo (rule e n).1
+rule_goes event.Found n said names is node kb ks later = update_goes n (membership.found n.membership)
+rule_goes (event.Join target) n said names is node kb ks later = go_if (is_member n) (nothing n) _ (λ member. none_go [] refl) (λ none. one_goes (record { from = me_of n; to = target; uid = 0; message = message.Join }) (refl, said))
+rule_goes (event.Tick word) n said names is node kb ks later = tick_goes n names is node kb ks word later
+rule_goes (event.Packet p) n said names is node kb ks later = told_goes n is.me kb ks p.from p.message said.from said.body
+rule_goes (event.Leave who) n said names is node kb ks later = unless_refused_goes (does n) n (membership.leave who n.membership) (update_goes n)
+rule_goes (event.Down who) n said names is node kb ks later = unless_refused_goes (does n) n (membership.down who n.membership) (update_goes n)
+rule_goes event.Stop n said names is node kb ks later = none_go [] refl
 
-running_goes : (e : NodeEvent) (n : State) → IsSaid e → KnowsProcesses n → IsProcess n → IsNode n → KnowsProcesses (running_step e n).0 → AllGo (running_step e n).1
-running_goes e n said names is node later = by_dead (is_dead (me_of n) e) later
+running_goes : (e : NodeEvent) (n : State) → IsSaid e → KnowsProcesses n → IsProcess n → IsNode n → KeepsBallots n.singleton → KeepsSettled n → KnowsProcesses (running_step e n).0 → AllGo (running_step e n).1
+running_goes e n said names is node kb ks later = by_dead (is_dead (me_of n) e) later
   where
-    by_dead : (b : Bool) → KnowsProcesses (if b then (n, action.Dead ∷ []) else and_then closes (rule e n)).0 → AllGo (if b then (n, action.Dead ∷ []) else and_then closes (rule e n)).1
+    closing_sent : (after : State) → sent (closes after).1 ≡ []
+    closing_sent after = due_sent (is_viewed after.membership) (stops (not after.runs) after.membership) (notes (not after.runs) after.membership)
+
+    told_sent : (o : Option BallotModel) → sent (told_active o) ≡ []
+    told_sent None = refl
+    told_sent (Some b) = refl
+
+    active_sent : (b : Bool) (x : State) → sent (becomes_active b x).1 ≡ []
+    active_sent true x = told_sent x.singleton.live
+    active_sent false x = refl
+
+    by_dead : (b : Bool) → KnowsProcesses (if b then (n, action.Dead ∷ []) else and_then concludes (rule e n)).0 → AllGo (if b then (n, action.Dead ∷ []) else and_then concludes (rule e n)).1
     by_dead true later = none_go (action.Dead ∷ []) refl
     by_dead false later =
         let after = (rule e n).0 in
-        both_go (rule e n).1 (closes after).1 (rule_goes e n said names is node later)
-        (none_go (closes after).1 (due_sent (is_viewed after.membership) (stops (not after.runs) after.membership) (notes (not after.runs) after.membership)))
+        let c = (closes after).0 in
+        both_go (rule e n).1 (concludes after).1 (rule_goes e n said names is node kb ks later)
+        (both_go (closes after).1 (activates c).1 (none_go (closes after).1 (closing_sent after))
+        (none_go (activates c).1 (active_sent (c.runs && may_activate (me_of c) (settled_of c) (margin_of c) c.singleton) c)))
 
 -- a step more changes nothing of what is asked of a node
 more : (n : State) → IsNode n → IsNode (record n { steps = n.steps + 1 })
 more n node = record { ticked = let ticked = node.ticked in omega arith; shown = node.shown; watching = node.watching; counting = node.counting; stays = node.stays }
 
-pub sends_valid : (e : NodeEvent) (n : State) → IsSaid e → KnowsProcesses n → IsProcess n → IsNode n → KnowsProcesses (step e n).0 → IsGossip (known (step e n).0) → AreValid (step e n).1
-sends_valid e n said names is node later gossip = by_runs n.runs refl
+pub sends_valid : (e : NodeEvent) (n : State) → IsSaid e → KnowsProcesses n → IsProcess n → IsNode n → KeepsBallots n.singleton → KeepsSettled n → KnowsProcesses (step e n).0 → IsGossip (known (step e n).0) → AreValid (step e n).1
+sends_valid e n said names is node kb ks later gossip = by_runs n.runs refl
   where
     runs_valid : n.runs ≡ true → AreValid (step e n).1
     runs_valid runs p there =
         let c = step_changes e n runs in
-        let goes = running_goes e (record n { steps = n.steps + 1 }) said names (record { me = is.me; target = is.target }) (more n node) (subst (λ (o : Outcome). KnowsProcesses o.0) (step_is e n runs) later) p (subst (λ (o : Outcome). Contains (sent o.1) p) (step_is e n runs) there) in
+        let goes = running_goes e (record n { steps = n.steps + 1 }) said names (record { me = is.me; target = is.target }) (more n node) kb (settled_alike n (record n { steps = n.steps + 1 }) refl refl ks) (subst (λ (o : Outcome). KnowsProcesses o.0) (step_is e n runs) later) p (subst (λ (o : Outcome). Contains (sent o.1) p) (step_is e n runs) there) in
         valid_by p.message p.from p.to p.uid (subst IsUnique (sym (c.from p there)) is.me) goes
         (λ g carries. subst IsSendable (sym (c.carried p g there carries)) (record { gossip = gossip; uniques = later }))
 
@@ -269,10 +412,10 @@ sends_valid e n said names is node later gossip = by_runs n.runs refl
 pub names_of : (s : State) (g : GossipState) → g ≡ known s → IsSendable g → KnowsProcesses s
 names_of s g is sendable = (subst IsSendable is sendable).uniques
 
-pub step_sends : (e : NodeEvent) (n s : State) (actions : List Action) (g : GossipState) → IsSaid e → KnowsProcesses n → IsProcess n → IsNode n → s ≡ (step e n).0 → actions ≡ (step e n).1 → g ≡ known s → IsSendable g → AreValid actions
-step_sends e n s actions g said names is node state done same sendable =
+pub step_sends : (e : NodeEvent) (n s : State) (actions : List Action) (g : GossipState) → IsSaid e → KnowsProcesses n → IsProcess n → IsNode n → KeepsBallots n.singleton → KeepsSettled n → s ≡ (step e n).0 → actions ≡ (step e n).1 → g ≡ known s → IsSendable g → AreValid actions
+step_sends e n s actions g said names is node kb ks state done same sendable =
     let known_then : IsSendable (known (step e n).0) = subst IsSendable (same ∙ ap known state) sendable in
-    subst AreValid (sym done) (sends_valid e n said names is node known_then.uniques known_then.gossip)
+    subst AreValid (sym done) (sends_valid e n said names is node kb ks known_then.uniques known_then.gossip)
 
 -- whoever knows nothing knows no process
 pub no_names : (g : GossipState) → g ≡ nothing_known → (who : UniqueModel) → IsTrue (is_known g.view.standings who) → IsUnique who

@@ -1,12 +1,14 @@
 -- The one walk over a node's rules: each does to what is known one thing at most. What is proved of a step is proved from this.
-use Rattle.std.proofs.Common.{◌≡◌, ℕ, Bool, true, false, not, ◌||◌, inl, inr, if◌then◌else◌, List, [], ◌∷◌, ◌++◌, map, Option, Some, None, is_some, IsTrue, Contains, refl, sym, ap, ◌∙◌, subst, arith, true≢false, ◌+◌}
+use Rattle.std.proofs.Common.{◌≡◌, ℕ, Bool, true, false, not, ◌&&◌, ◌||◌, inl, inr, if◌then◌else◌, List, [], ◌∷◌, ◌++◌, map, Option, Some, None, is_some, IsTrue, Contains, refl, sym, ap, ◌∙◌, subst, arith, true≢false, ◌+◌}
 use Rattle.std.specs.Ordering.{eq_by_cmp}
 use Rattle.ak_address.specs.Unique.{AddressModel, UniqueModel, unique_cmp}
 use Rattle.ak_address.specs.Changed.{keys_of}
-use Rattle.ak_address.specs.Uniques.{has, with_one, in_order}
+use Rattle.ak_address.specs.Uniques.{UniqueSet, has, with_one, in_order}
 use Rattle.ak_address.proofs.Elements.{contains_nothing}
 use Rattle.ak_address.proofs.TableLaws.{same_key}
 use Rattle.ak_address.proofs.UniquesLaws.{has-with_one}
+use Rattle.ak_clock.specs.Version.{Counts}
+use Rattle.ak_member.specs.declared.status.Status.{Status}
 use Rattle.ak_member.specs.Standing as standing
 use Rattle.ak_member.specs.Standing.{is_exiting}
 use Rattle.ak_gossip.specs.Gossip.{GossipState}
@@ -15,6 +17,14 @@ use Rattle.ak_membership.specs.Membership.{is_member_with}
 use Rattle.ak_membership.specs.Closing.{is_viewed, stops, notes}
 use Rattle.ak_membership.specs.Knowledge.{Keeps, Learns}
 use Rattle.ak_membership.proofs.Walk.{found_learns, leave_learns, down_learns, tick_learns, join_learns, gossip_learns}
+use Rattle.ak_promise.specs.declared.promise.Answer.{Answer}
+use Rattle.ak_promise.specs.declared.promise.Answer.TheVariants as given
+use Rattle.ak_promise.specs.Ballot.{BallotModel}
+use Rattle.ak_promise.specs.Promise.{is_some_ballot}
+use Rattle.ak_singleton.specs.declared.phase.Phase.{Phase}
+use Rattle.ak_singleton.specs.declared.phase.Phase.TheVariants as phase
+use Rattle.ak_singleton.specs.declared.phase.TickRule.{TickRule}
+use Rattle.ak_singleton.specs.Singleton.{SingletonModel, steps_of, active_term, after_activation}
 use Rattle.ak_wire.specs.declared.envelope.Envelope.{Envelope}
 use Rattle.ak_wire.specs.declared.envelope.Message.{Message}
 use Rattle.ak_wire.specs.declared.envelope.Message.TheVariants as message
@@ -25,11 +35,11 @@ use Rattle.ak_wire.proofs.Sending.{sent-append, updates-append}
 use Rattle.ak_node.specs.declared.node.State.{State}
 use Rattle.ak_node.specs.declared.node.NodeEvent.{NodeEvent}
 use Rattle.ak_node.specs.declared.node.NodeEvent.TheVariants as event
-use Rattle.ak_node.specs.Node.{known, me_of, is_member, is_gone, nothing, to_address, does, does_for, join, leave, down, stop, asks_at, counted_members, exits, gossips_to, goes_on, ends, beats, ticked, update_by, tick, on_gossip, on_confirmed, on_message, rule, if_so, closes, is_dead, running_step, step}
+use Rattle.ak_node.specs.Node.{known, me_of, status_of, is_member, is_gone, nothing, to_address, does, does_for, join, leave, down, stop, asks_at, counted_members, exits, gossips_to, gossips, keeping, told_of, told_its_own, told_to_each, releases, needed_others, rule_on, does_rule, asks_as, told_end, let_go, ends_phase, told_active, becomes_active, activates, floor_of, reports_of, answered, is_asked, answers_ask, on_ask, takes_grant, on_granted, on_busy, on_old, has_handed_over, on_hand_over, on_release, on_done, goes_on, ends, beats, ticked, update_by, tick, on_gossip, on_confirmed, on_message, rule, if_so, closes, concludes, is_dead, running_step, step}
 use Rattle.ak_membership.specs.Tick as ticks
 use Rattle.ak_membership.specs.Tick.{gossip_peer}
 use Rattle.ak_node.specs.Change.{Changes, Quiet, IsConfirmed, given_by, asker_in}
-use Rattle.ak_node.proofs.ChangeLemmas.{some_gossip, changes_after, itself, silent, still, quiet_if, sends, one_sent, each_sent, each_made, changes_if, quietly, changes_then, does_changes, does_for_changes, unless_refused_changes}
+use Rattle.ak_node.proofs.ChangeLemmas.{some_gossip, changes_after, IsAlike, itself, silent, still, quiet_if, quiet_then, Tells, tells_nothing, tells_both, tells_each, tells_one, tells_quiet, sends, one_sent, each_sent, each_made, changes_if, quietly, changes_then, does_changes, does_for_changes, unless_refused_changes}
 
 no_gossip : (g h : GossipState) → None ≡ Some h → h ≡ g
 no_gossip g h is = absurd (true≢false (sym (ap is_some is)))
@@ -51,10 +61,97 @@ gossips_quiet : (to : Option UniqueModel) (n : State) → Quiet n (gossips_to to
 gossips_quiet None n = still n
 gossips_quiet (Some to) n = one_sent n n (record { from = me_of n; to = to.address; uid = to.uid; message = message.Gossip (known n) }) (itself n) refl (some_gossip (known n)) refl
 
+-- ---- promises and the singleton
+keeps_alike : (n : State) (s : SingletonModel) → IsAlike n (keeping s n)
+keeps_alike n s = record { same = refl; me = refl; settings = refl; steps = refl; ran = λ r. r; ticks = refl; confirmed = refl; founder = refl }
+
+pub of_tells : (o : Option BallotModel) (what : BallotModel → Message) → ((b : BallotModel) → gossip_of (what b) ≡ None) → ((b : BallotModel) → says_it_stops (what b) ≡ false) → (to : UniqueModel) (n : State) → Tells (me_of n) (told_of o what to n)
+of_tells None what bare stays to n = tells_nothing (me_of n) [] refl refl
+of_tells (Some b) what bare stays to n = tells_one n to (what b) (bare b) (stays b)
+
+pub own_tells : (o : Option BallotModel) (n : State) → Tells (me_of n) (told_its_own o n)
+own_tells None n = tells_nothing (me_of n) [] refl refl
+own_tells (Some b) n = tells_one n b.unique (message.HandOverToMe b) refl refl
+
+pub to_each_tells : (o : Option BallotModel) (what : BallotModel → Message) → ((b : BallotModel) → gossip_of (what b) ≡ None) → ((b : BallotModel) → says_it_stops (what b) ≡ false) → (to : UniqueSet) (n : State) → Tells (me_of n) (told_to_each o what to n)
+to_each_tells None what bare stays to n = tells_nothing (me_of n) [] refl refl
+to_each_tells (Some b) what bare stays to n = tells_each n (in_order to) (what b) (bare b) (stays b)
+
+releases_tell : (to : UniqueSet) (n : State) → Tells (me_of n) (releases to n)
+releases_tell to n = to_each_tells n.singleton.promise.last _ (λ b. refl) (λ b. refl) to n
+
+rule_quiet : (r : TickRule) (n : State) → Quiet n (does_rule r n)
+rule_quiet r n =
+    let after : State = (does_rule r n).0 in
+    let steps = steps_of r (me_of n) n.membership.settled.view n.membership.settings.margin n.singleton in
+    tells_quiet n after (does_rule r n).1 (keeps_alike n after.singleton)
+    (tells_both (me_of n) (told_its_own steps.hand_over_to after ++ releases steps.release after) _
+    (tells_both (me_of n) (told_its_own steps.hand_over_to after) (releases steps.release after) (own_tells steps.hand_over_to after) (releases_tell steps.release after))
+    (to_each_tells after.singleton.live message.Ask (λ b. refl) (λ b. refl) steps.ask after))
+
+asks_as_quiet : (status : Option Status) (n : State) → Quiet n (asks_as status n)
+asks_as_quiet None n = still n
+asks_as_quiet (Some status) n = rule_quiet (rule_on status n) n
+
+end_tells : (me : UniqueModel) (term : Option ℕ) → Tells me (told_end term)
+end_tells me None = tells_nothing me [] refl refl
+end_tells me (Some term) = tells_nothing me (action.Ended term ∷ []) refl refl
+
+let_go_tells : (ph : Phase) (n : State) → Tells (me_of n) (let_go ph n)
+let_go_tells phase.Younger n = tells_nothing (me_of n) [] refl refl
+let_go_tells phase.Asking n = releases_tell (needed_others n) n
+let_go_tells phase.Active n = releases_tell (needed_others n) n
+let_go_tells phase.Ended n = tells_nothing (me_of n) [] refl refl
+
+ends_quiet : (n : State) → Quiet n (ends_phase n)
+ends_quiet n =
+    tells_quiet n (ends_phase n).0 (ends_phase n).1 (keeps_alike n (ends_phase n).0.singleton)
+    (tells_both (me_of n) (told_end (active_term n.singleton.phase n.singleton.live)) (let_go n.singleton.phase n) (end_tells (me_of n) (active_term n.singleton.phase n.singleton.live)) (let_go_tells n.singleton.phase n))
+
 pub goes_quiet : (word : ℕ) (n : State) → Quiet n (goes_on word n)
 goes_quiet word n =
     quiet_if n (is_gone n) (λ is. still n) (λ is.
-    quiet_if n (is_member_with is_exiting (known n).view.standings (me_of n)) (λ is. exits_quiet n) (λ is. gossips_quiet (gossip_peer word n.membership) n))
+    quiet_if n (is_member_with is_exiting (known n).view.standings (me_of n))
+    (λ is. quiet_then n exits (ends_phase n) (ends_quiet n) (exits_quiet (ends_phase n).0))
+    (λ is. quiet_then n (gossips word) (asks_as (status_of n) n) (asks_as_quiet (status_of n) n) (let m = (asks_as (status_of n) n).0 in gossips_quiet (gossip_peer word m.membership) m)))
+
+active_tells : (me : UniqueModel) (o : Option BallotModel) → Tells me (told_active o)
+active_tells me None = tells_nothing me [] refl refl
+active_tells me (Some b) = tells_nothing me (action.Active b.term ∷ []) refl refl
+
+becomes_quiet : (b : Bool) (n : State) → Quiet n (becomes_active b n)
+becomes_quiet true n = tells_quiet n _ (told_active n.singleton.live) (keeps_alike n (after_activation true n.singleton)) (active_tells (me_of n) n.singleton.live)
+becomes_quiet false n = tells_quiet n _ [] (keeps_alike n (after_activation false n.singleton)) (tells_nothing (me_of n) [] refl refl)
+
+-- a message about a ballot
+answer_tells : (a : Answer) (to : UniqueModel) (b : BallotModel) (n : State) → Tells (me_of n) (answered a to b n)
+answer_tells given.Granted to b n = tells_one n to (message.Granted b (floor_of n) (reports_of n)) refl refl
+answer_tells given.Old to b n = of_tells n.singleton.promise.last (λ last. message.Old b last) (λ last. refl) (λ last. refl) to n
+answer_tells given.Busy to b n = of_tells n.singleton.promise.last (λ last. message.Busy b last) (λ last. refl) (λ last. refl) to n
+
+kept_quiet : (s : SingletonModel) (actions : List Action) (n : State) → Tells (me_of n) actions → Quiet n (keeping s n, actions)
+kept_quiet s actions n t = tells_quiet n (keeping s n) actions (keeps_alike n s) t
+
+ask_quiet : (from : UniqueModel) (b : BallotModel) (n : State) → Quiet n (on_ask from b n)
+ask_quiet from b n = quiet_if n (is_asked from b n) (λ is. kept_quiet (answers_ask from b n).0.singleton _ n (answer_tells _ from b n)) (λ is. still n)
+
+granted_quiet : (from : UniqueModel) (b : BallotModel) (floor : Counts) (n : State) → Quiet n (on_granted from b floor n)
+granted_quiet from b floor n = quiet_if n (takes_grant from n) (λ is. kept_quiet _ [] n (tells_nothing (me_of n) [] refl refl)) (λ is. still n)
+
+busy_quiet : (b held : BallotModel) (n : State) → Quiet n (on_busy b held n)
+busy_quiet b held n = quiet_if n (is_member n && is_some_ballot n.singleton.live b) (λ is. tells_quiet n n _ (itself n) (own_tells (Some held) n)) (λ is. still n)
+
+old_quiet : (b last : BallotModel) (n : State) → Quiet n (on_old b last n)
+old_quiet b last n = quiet_if n (is_member n) (λ is. kept_quiet _ [] n (tells_nothing (me_of n) [] refl refl)) (λ is. still n)
+
+hand_over_quiet : (from : UniqueModel) (b : BallotModel) (n : State) → Quiet n (on_hand_over from b n)
+hand_over_quiet from b n = quiet_if n (is_member n && has_handed_over b n) (λ is. tells_quiet n n _ (itself n) (tells_one n from (message.HandOverDone b _) refl refl)) (λ is. still n)
+
+done_quiet : (b : BallotModel) (floor : Counts) (n : State) → Quiet n (on_done b floor n)
+done_quiet b floor n = quiet_if n (is_member n) (λ is. kept_quiet _ _ n (tells_each n (in_order (needed_others n)) (message.Release b floor) refl refl)) (λ is. still n)
+
+release_quiet : (b : BallotModel) (floor : Counts) (n : State) → Quiet n (on_release b floor n)
+release_quiet b floor n = quiet_if n (is_member n) (λ is. kept_quiet _ [] n (tells_nothing (me_of n) [] refl refl)) (λ is. still n)
 
 -- the margins that end neither update nor send
 ended_made : (whos : List UniqueModel) → updates_of (map action.MarginEnd whos) ≡ []
@@ -155,6 +252,13 @@ module _ (e : NodeEvent) (n : State) where
       (λ _. quietly e n _ (silent n (record n { membership = membership.on_heard p.from n.membership }) [] (record { same = refl; me = refl; settings = refl; steps = refl; ran = λ r. r; ticks = refl; confirmed = refl; founder = refl }) refl refl))
       (λ _. quietly e n (nothing n) (still n))
   being_told p is message.ExitingConfirmed what = confirming p is (ap says_it_stops what)
+  being_told p is (message.Ask b) what = quietly e n _ (ask_quiet p.from b n)
+  being_told p is (message.Granted b floor reports) what = quietly e n _ (granted_quiet p.from b floor n)
+  being_told p is (message.Busy b held) what = quietly e n _ (busy_quiet b held n)
+  being_told p is (message.Old b last) what = quietly e n _ (old_quiet b last n)
+  being_told p is (message.HandOverToMe b) what = quietly e n _ (hand_over_quiet p.from b n)
+  being_told p is (message.HandOverDone b floor) what = quietly e n _ (done_quiet b floor n)
+  being_told p is (message.Release b floor) what = quietly e n _ (release_quiet b floor n)
   being_told p is (message.Leave who) what = leaving who
   being_told p is (message.Down who) what = downing who
   being_told p is other what = quietly e n (nothing n) (still n)
@@ -204,7 +308,7 @@ closes_quiet n = silent n (closes n).0 (closes n).1
 pub running_changes : (e : NodeEvent) (n : State) → Changes e n (running_step e n)
 running_changes e n =
     changes_if e n (is_dead (me_of n) e) (λ is. quietly e n (n, action.Dead ∷ []) (silent n n (action.Dead ∷ []) (itself n) refl refl))
-    (λ is. changes_then e n closes (rule e n) (rule_changes e n) (closes_quiet (rule e n).0))
+    (λ is. changes_then e n concludes (rule e n) (rule_changes e n) (quiet_then (rule e n).0 activates (closes (rule e n).0) (closes_quiet (rule e n).0) (becomes_quiet _ (closes (rule e n).0).0)))
 
 -- the step of a node that runs, as that of the node with one step more
 pub step_is : (e : NodeEvent) (n : State) → IsTrue n.runs → step e n ≡ running_step e (record n { steps = n.steps + 1 })

@@ -1,12 +1,16 @@
 -- A node of the cluster: its state, and what one event makes of it (Akka's Cluster Specification, "Membership Lifecycle";
--- the messages and their order are this project's choice). What it knows of the cluster is its membership.
-use Rattle.std.specs.Prelude.{ℕ, ◌+◌, Bool, true, false, ◌&&◌, ◌||◌, not, ◌==◌, List, [], ◌∷◌, ◌++◌, Option, Some, None, Result, Ok, Err, map, if◌then◌else◌}
+-- the messages and their order are this project's choice). What it knows of the cluster is its membership; what it promised, and
+-- how far it is with the singleton, is its singleton.
+use Rattle.std.specs.Prelude.{ℕ, ◌+◌, Bool, true, false, ◌&&◌, ◌||◌, not, nat_le, ◌==◌, List, [], ◌∷◌, ◌++◌, Option, Some, None, is_some, option_map, Result, Ok, Err, map, if◌then◌else◌}
+use Rattle.std.specs.FinMap as finmap
 use Rattle.std.specs.Ordering.{is_eq}
 use Rattle.ak_address.specs.Changed.{keys_of}
-use Rattle.ak_address.specs.Unique.{AddressModel, UniqueModel, address_cmp}
-use Rattle.ak_address.specs.Uniques.{in_order}
+use Rattle.ak_address.specs.Unique.{AddressModel, UniqueModel, address_cmp, unique_cmp}
+use Rattle.ak_address.specs.Uniques.{UniqueSet, in_order}
+use Rattle.ak_clock.specs.Version.{Counts, merged}
 use Rattle.ak_member.specs.declared.effect.Effect.{Effect}
-use Rattle.ak_member.specs.Standing.{members_of, is_exiting}
+use Rattle.ak_member.specs.declared.status.Status.{Status}
+use Rattle.ak_member.specs.Standing.{member_of, members_of, tombstone_of, is_exiting}
 use Rattle.ak_member.specs.Age.{counted_pairs}
 use Rattle.ak_gossip.specs.Gossip.{GossipState}
 use Rattle.ak_schedule.specs.Settings.{SettingsModel}
@@ -19,6 +23,18 @@ use Rattle.ak_membership.specs.Membership as membership
 use Rattle.ak_membership.specs.Membership.{is_member_with}
 use Rattle.ak_membership.specs.Tick as ticks
 use Rattle.ak_membership.specs.Closing as closing
+use Rattle.ak_promise.specs.declared.promise.Answer.{Answer}
+use Rattle.ak_promise.specs.declared.promise.Answer as given
+use Rattle.ak_promise.specs.Ballot.{BallotModel}
+use Rattle.ak_promise.specs.Promise.{PromiseModel, answer_to, asked, is_some_ballot, released_by}
+use Rattle.ak_settled.specs.SettledView.{SettledView}
+use Rattle.ak_settled.specs.Settled.{version_of, standings_of}
+use Rattle.ak_shard_id.specs.declared.report.Report.{Report}
+use Rattle.ak_singleton.specs.declared.phase.Phase.{Phase}
+use Rattle.ak_singleton.specs.declared.phase.Phase as phase
+use Rattle.ak_singleton.specs.declared.phase.TickRule.{TickRule}
+use Rattle.ak_singleton.specs.Singleton as singleton
+use Rattle.ak_singleton.specs.Singleton.{SingletonModel, only, needed_but}
 use Rattle.ak_wire.specs.declared.envelope.Message.{Message}
 use Rattle.ak_wire.specs.declared.envelope.Message as message
 use Rattle.ak_wire.specs.declared.envelope.Envelope.{Envelope}
@@ -30,7 +46,7 @@ use Rattle.ak_node.specs.declared.node.NodeEvent as event
 
 -- a process starts, and knows nothing
 abbrev pub started : UniqueModel → SettingsModel → State
-started me settings = record { membership = membership.started me settings; runs = true; steps = 0 }
+started me settings = record { membership = membership.started me settings; singleton = singleton.unasked; runs = true; steps = 0 }
 
 -- the process that a node is
 abbrev pub me_of : State → UniqueModel
@@ -47,6 +63,13 @@ is_member n = membership.is_member n.membership
 -- its view shows it as Down or as a tombstone
 abbrev pub is_gone : State → Bool
 is_gone n = membership.is_gone n.membership
+
+-- the settled view that it noted last, and how long its tombstones are waited for
+abbrev pub settled_of : State → SettledView
+settled_of n = n.membership.settled.view
+
+abbrev pub margin_of : State → ℕ
+margin_of n = n.membership.settings.margin
 
 -- what a rule makes of a state, and what it does
 abbrev pub Outcome : Type 0
@@ -138,6 +161,155 @@ asks_at (Some target) n = (n, to_address n target message.TheVariants.Join ∷ [
 abbrev pub counted_members : State → List UniqueModel
 counted_members n = map (λ (pair : UniqueModel × ℕ). pair.0) (counted_pairs (members_of (known n).view.standings))
 
+-- ---- promises and the singleton
+-- this is kept of the singleton from now on
+abbrev pub keeping : SingletonModel → State → State
+keeping s n = record n { singleton = s }
+
+-- this is promised from now on
+abbrev pub promising : PromiseModel → State → State
+promising p n = keeping (record n.singleton { promise = p }) n
+
+-- a message about a ballot, where there is one: to one process, to its own process, and to several
+abbrev pub told_of : Option BallotModel → (BallotModel → Message) → UniqueModel → State → List Action
+told_of None what to n = []
+told_of (Some b) what to n = to_process n to (what b) ∷ []
+
+abbrev pub told_its_own : Option BallotModel → State → List Action
+told_its_own None n = []
+told_its_own (Some b) n = to_process n b.unique (message.TheVariants.HandOverToMe b) ∷ []
+
+abbrev pub told_to_each : Option BallotModel → (BallotModel → Message) → UniqueSet → State → List Action
+told_to_each None what to n = []
+told_to_each (Some b) what to n = to_each n (in_order to) (what b)
+
+-- that the last ballot is released, with what is settled
+abbrev pub releases : UniqueSet → State → List Action
+releases to n = told_to_each n.singleton.promise.last (λ b. message.TheVariants.Release b (version_of (settled_of n))) to n
+
+-- whom the node needs, but itself
+abbrev pub needed_others : State → UniqueSet
+needed_others n = needed_but (margin_of n) (settled_of n) (only (me_of n))
+
+abbrev pub rule_on : Status → State → TickRule
+rule_on status n = singleton.tick_rule (me_of n) (settled_of n) status (margin_of n) n.singleton
+
+-- its part of a tick, by what that does: the messages name the live ballot after it, and the last one
+abbrev pub does_rule : TickRule → State → Outcome
+does_rule r n =
+    let steps = singleton.steps_of r (me_of n) (settled_of n) (margin_of n) n.singleton in
+    let after : State = keeping (singleton.after_rule r (me_of n) (settled_of n) n.singleton) n in
+    (after, told_its_own steps.hand_over_to after ++ releases steps.release after ++ told_to_each after.singleton.live message.TheVariants.Ask steps.ask after)
+
+abbrev pub asks_as : Option Status → State → Outcome
+asks_as None n = nothing n
+asks_as (Some status) n = does_rule (rule_on status n) n
+
+-- its status in its own view
+abbrev pub status_of : State → Option Status
+status_of n = option_map (λ (member : Status × ℕ). member.0) (member_of (finmap.get (known n).view.standings (me_of n)))
+
+-- the end of its phase: of an activity its term is told, and of an asking or an activity the release
+abbrev pub told_end : Option ℕ → List Action
+told_end None = []
+told_end (Some term) = action.TheVariants.Ended term ∷ []
+
+abbrev pub let_go : Phase → State → List Action
+let_go phase.TheVariants.Younger n = []
+let_go phase.TheVariants.Asking n = releases (needed_others n) n
+let_go phase.TheVariants.Active n = releases (needed_others n) n
+let_go phase.TheVariants.Ended n = []
+
+abbrev pub ends_phase : State → Outcome
+ends_phase n = (
+  keeping (singleton.ended (settled_of n) n.singleton) n,
+  told_end (singleton.active_term n.singleton.phase n.singleton.live) ++ let_go n.singleton.phase n,
+)
+
+-- a candidate that each needed node has granted becomes active
+abbrev pub told_active : Option BallotModel → List Action
+told_active None = []
+told_active (Some b) = action.TheVariants.Active b.term ∷ []
+
+abbrev pub becomes_active : Bool → State → Outcome
+becomes_active b n = (keeping (singleton.after_activation b n.singleton) n, if b then told_active n.singleton.live else [])
+
+abbrev pub activates : State → Outcome
+activates n = becomes_active (n.runs && singleton.may_activate (me_of n) (settled_of n) (margin_of n) n.singleton) n
+
+-- what the node reports of its shards (none yet: shards are not built)
+abbrev pub reports_of : State → List Report
+reports_of n = []
+
+-- the floor that a grant carries, which has to fit into a packet
+abbrev pub floor_of : State → Counts
+floor_of n = merged n.singleton.promise.floor (version_of (settled_of n))
+
+abbrev pub most_in_version : ℕ
+most_in_version = 128
+
+abbrev pub fits_packet : Counts → Bool
+fits_packet v = nat_le (finmap.len v) most_in_version
+
+abbrev pub is_grantable : State → Bool
+is_grantable n = fits_packet (floor_of n)
+
+-- the answer to who asks for a ballot
+abbrev pub answered : Answer → UniqueModel → BallotModel → State → List Action
+answered given.TheVariants.Granted to b n = to_process n to (message.TheVariants.Granted b (floor_of n) (reports_of n)) ∷ []
+answered given.TheVariants.Old to b n = told_of n.singleton.promise.last (λ last. message.TheVariants.Old b last) to n
+answered given.TheVariants.Busy to b n = told_of n.singleton.promise.last (λ last. message.TheVariants.Busy b last) to n
+
+abbrev pub is_over_here : State → Bool
+is_over_here n = singleton.is_holder_finished (margin_of n) (settled_of n) n.singleton.promise.last
+
+abbrev pub answers_ask : UniqueModel → BallotModel → State → Outcome
+answers_ask from b n = (promising (asked n.singleton.promise b (is_over_here n)) n, answered (answer_to n.singleton.promise b (is_over_here n)) from b n)
+
+-- a ballot is asked for by its own process
+abbrev pub is_asked : UniqueModel → BallotModel → State → Bool
+is_asked from b n = is_member n && is_eq (unique_cmp b.unique from) && is_grantable n
+
+abbrev pub on_ask : UniqueModel → BallotModel → State → Outcome
+on_ask from b n = if is_asked from b n then answers_ask from b n else nothing n
+
+-- a grant counts only of who is no tombstone of the settled view: one that was removed cannot help, and what it reports may be old
+abbrev pub is_buried : State → UniqueModel → Bool
+is_buried n who = is_some (tombstone_of (finmap.get (standings_of (settled_of n)) who))
+
+abbrev pub takes_grant : UniqueModel → State → Bool
+takes_grant from n = is_member n && not (is_buried n from)
+
+abbrev pub on_granted : UniqueModel → BallotModel → Counts → State → Outcome
+on_granted from b floor n =
+    if takes_grant from n then nothing (keeping (singleton.after_granted (singleton.is_first_grant from b n.singleton) from floor n.singleton) n) else nothing n
+
+-- the process of the ballot that binds is asked to hand over
+abbrev pub on_busy : BallotModel → BallotModel → State → Outcome
+on_busy b held n = if is_member n && is_some_ballot n.singleton.live b then (n, told_its_own (Some held) n) else nothing n
+
+abbrev pub on_old : BallotModel → BallotModel → State → Outcome
+on_old b last n = if is_member n then nothing (keeping (singleton.after_old (singleton.is_outdone b last n.singleton) b last n.singleton) n) else nothing n
+
+-- an own ballot that is not live has been handed over
+abbrev pub has_handed_over : BallotModel → State → Bool
+has_handed_over b n = is_eq (unique_cmp b.unique (me_of n)) && not (is_some_ballot n.singleton.live b)
+
+abbrev pub on_hand_over : UniqueModel → BallotModel → State → Outcome
+on_hand_over from b n =
+    if is_member n && has_handed_over b n then (n, to_process n from (message.TheVariants.HandOverDone b (version_of (settled_of n))) ∷ []) else nothing n
+
+-- a release, of which whoever heard that the hand-over was done tells those that it needs
+abbrev pub on_release : BallotModel → Counts → State → Outcome
+on_release b floor n = if is_member n then nothing (promising (released_by n.singleton.promise b floor) n) else nothing n
+
+abbrev pub on_done : BallotModel → Counts → State → Outcome
+on_done b floor n =
+    if is_member n
+    then (promising (released_by n.singleton.promise b floor) n, to_each n (in_order (needed_others n)) (message.TheVariants.Release b floor))
+    else nothing n
+
+-- ---- the rest of a tick
 -- a node that exits tells those that count that it stops, and stops
 abbrev pub exits : State → Outcome
 exits n = (record n { runs = false }, to_each n (counted_members n) message.TheVariants.ExitingConfirmed)
@@ -147,12 +319,17 @@ abbrev pub gossips_to : Option UniqueModel → State → Outcome
 gossips_to None n = nothing n
 gossips_to (Some to) n = (n, to_process n to (message.TheVariants.Gossip (known n)) ∷ [])
 
--- what follows the update of a tick: nothing where the node is Down now; a word chooses to whom it gossips
+-- what is known is told to whom a word chooses
+abbrev pub gossips : ℕ → State → Outcome
+gossips word n = gossips_to (ticks.gossip_peer word n.membership) n
+
+-- what follows the update of a tick: nothing where the node is Down now; one that is Exiting ends its phase, and exits; any other
+-- does its part for the singleton, and gossips
 abbrev pub goes_on : ℕ → State → Outcome
 goes_on word n =
     if is_gone n then nothing n
-    else (if is_member_with is_exiting (known n).view.standings (me_of n) then exits n
-    else gossips_to (ticks.gossip_peer word n.membership) n)
+    else (if is_member_with is_exiting (known n).view.standings (me_of n) then and_then exits (ends_phase n)
+    else and_then (gossips word) (asks_as (status_of n) n))
 
 -- the tombstones of the settled view that have waited for as long as the margin now
 abbrev pub ends : State → List Action
@@ -200,6 +377,13 @@ on_message from (message.TheVariants.Gossip g) n = on_gossip from g n
 on_message from message.TheVariants.Heartbeat n = on_heartbeat from n
 on_message from message.TheVariants.HeartbeatReply n = on_heard from n
 on_message from message.TheVariants.ExitingConfirmed n = on_confirmed from n
+on_message from (message.TheVariants.Ask b) n = on_ask from b n
+on_message from (message.TheVariants.Granted b floor reports) n = on_granted from b floor n
+on_message from (message.TheVariants.Busy b held) n = on_busy b held n
+on_message from (message.TheVariants.Old b last) n = on_old b last n
+on_message from (message.TheVariants.HandOverToMe b) n = on_hand_over from b n
+on_message from (message.TheVariants.HandOverDone b floor) n = on_done b floor n
+on_message from (message.TheVariants.Release b floor) n = on_release b floor n
 on_message from (message.TheVariants.Leave who) n = leave who n
 on_message from (message.TheVariants.Down who) n = down who n
 on_message from other n = nothing n
@@ -226,6 +410,10 @@ closes n =
     let c = closing.close (not n.runs) n.membership in
     (record n { membership = c.0; runs = not c.1.stopped }, due c.1)
 
+-- and last, where the node goes on, it may become active
+abbrev pub concludes : State → Outcome
+concludes n = and_then activates (closes n)
+
 -- a packet is for this process, or for whichever is at its address
 abbrev pub is_for : UniqueModel → Envelope → Bool
 is_for me e = is_eq (address_cmp e.to me.address) && (e.uid == 0 || e.uid == me.uid)
@@ -242,7 +430,7 @@ is_dead me event.TheVariants.Stop = false
 
 -- the step of a running node
 abbrev pub running_step : NodeEvent → State → Outcome
-running_step e n = if is_dead (me_of n) e then (n, action.TheVariants.Dead ∷ []) else and_then closes (rule e n)
+running_step e n = if is_dead (me_of n) e then (n, action.TheVariants.Dead ∷ []) else and_then concludes (rule e n)
 
 -- one event given to a node; one that has stopped does nothing
 abbrev pub step : NodeEvent → State → Outcome

@@ -5,7 +5,7 @@ ghost use Rattle.ak_membership.specs.MembershipContracts.{IsWatching};
 ghost use Rattle.ak_membership.specs.Tick as rules_of_ticks;
 ghost use Rattle.ak_node.specs.Node as rules;
 ghost use Rattle.ak_address.specs.Unique.{IsAddress, IsUnique};
-ghost use Rattle.ak_node.specs.Sends.{AreValid, IsProcess, IsSaid};
+ghost use Rattle.ak_node.specs.Sends.{AreValid, ComesValid, IsProcess, IsSaid};
 ghost use Rattle.ak_node.specs.NodeContracts.{Does, IsSameProcess, IsLeftOver, IsSilent, ServesWhileItRuns};
 
 use ak_address::{Address, Unique};
@@ -13,7 +13,8 @@ use ak_gossip::Gossip;
 use ak_membership::{Change, Closing, MemberFault, Membership, Reply};
 use ak_schedule::Settings;
 use ak_settled::Settled;
-use ak_wire::{Action, Actions, Envelope, Message, SharedEnvelope, sendable};
+use ak_singleton::Singleton;
+use ak_wire::{Action, Actions, Cover, Envelope, Message, SharedEnvelope, sendable};
 use std::alloc::{AllocError, Global};
 use std::marker::Model;
 
@@ -41,6 +42,8 @@ pub enum NodeEvent {
 pub struct State {
     /// What it knows of the cluster.
     pub membership: Membership,
+    /// What it promised, and how far it is with the singleton.
+    pub singleton: Singleton,
     /// It has not stopped.
     pub runs: bool,
     /// How many events it was given while it ran.
@@ -102,29 +105,6 @@ fn refuse(alloc: Global, fault: MemberFault) -> Result<Actions, AllocError>
     one(alloc, Action::Refused(number))
 }
 
-// What stands on the outside of a packet: from whom it is, and to whom. The message comes last, so that no error lets one go.
-#[derive(Drop)]
-struct Cover {
-    from: Unique,
-    to: Address,
-    uid: u64,
-}
-
-impl Cover {
-    fn around(self, alloc: Global, message: Message) -> Result<Action, AllocError>
-        ensures { IfOk result (λ action. action ≡ Action.Send (record { from = self.from; to = self.to; uid = self.uid; message = message })) }
-    {
-        let Cover { from, to, uid } = self;
-        let envelope = Envelope {
-            from,
-            to,
-            uid,
-            message,
-        };
-        Ok(Action::Send(SharedEnvelope::of(alloc, envelope)?))
-    }
-}
-
 impl State {
     fn process(&self)
         ensures { IsProcess self.now }
@@ -135,24 +115,17 @@ impl State {
         }
     }
 
-    fn me(&self) -> &Unique
+    pub(crate) fn me(&self) -> &Unique
         ensures { result.now ≡ rules.me_of self.now }
     {
         self.membership.me()
     }
 
     // The outside of a packet to one process.
-    fn cover(&self, alloc: Global, to: &Unique) -> Result<Cover, AllocError>
+    pub(crate) fn cover(&self, alloc: Global, to: &Unique) -> Result<Cover, AllocError>
         ensures { IfOk result (λ cover. cover ≡ record { from = rules.me_of self.now; to = to.now.address; uid = to.now.uid }) }
     {
-        let from = self.me().copy(alloc)?;
-        let address = to.address.copy(alloc)?;
-        let uid = to.uid;
-        Ok(Cover {
-            from,
-            to: address,
-            uid,
-        })
+        Cover::between(alloc, self.me(), to)
     }
 
     // Asks for admission through an address.
@@ -361,10 +334,12 @@ impl State {
             return Ok(());
         }
         if self.is_exiting() {
+            self.ends_phase(alloc, actions)?;
             self.confirms(alloc, actions)?;
             self.runs = false;
             return Ok(());
         }
+        self.asks_as(alloc, actions)?;
         self.gossips(alloc, word, actions)
     }
 
@@ -443,6 +418,18 @@ impl State {
             Message::ExitingConfirmed => self.on_confirmed(alloc, &envelope.from),
             Message::Leave(who) => self.leave(alloc, who),
             Message::Down(who) => self.down(alloc, who),
+            Message::Ask(ballot) => self.on_ask(alloc, &envelope.from, ballot),
+            Message::Granted(ballot, floor, _) => self.on_granted(
+                alloc,
+                &envelope.from,
+                ballot,
+                floor,
+            ),
+            Message::Busy(ballot, held) => self.on_busy(alloc, ballot, held),
+            Message::Old(ballot, last) => self.on_old(alloc, ballot, last),
+            Message::HandOverToMe(ballot) => self.on_hand_over(alloc, &envelope.from, ballot),
+            Message::HandOverDone(ballot, floor) => self.on_done(alloc, ballot, floor),
+            Message::Release(ballot, floor) => self.on_release(alloc, ballot, floor),
             _ => Ok(Actions::empty(alloc)),
         }
     }
@@ -489,11 +476,12 @@ impl State {
     fn acts<E: Given>(&mut self, alloc: Global, event: &E) -> Result<Actions, AllocError>
         requires ticks { self.old.membership.ticks < 2 ^ 62 }
         requires watching { IsWatching self.old.membership }
-        ensures does { IfOk result (λ actions. Does (rules.and_then rules.closes (rules.rule (E.event event.now) self.old)) self.new actions) }
+        ensures does { IfOk result (λ actions. Does (rules.and_then rules.concludes (rules.rule (E.event event.now) self.old)) self.new actions) }
         ensures same { IsSameProcess self.old self.new }
     {
         let mut actions = event.rule(alloc, self)?;
         self.closes(alloc, &mut actions)?;
+        self.activates(alloc, &mut actions)?;
         Ok(actions)
     }
 }
@@ -516,8 +504,9 @@ trait Given {
         ensures does { IfOk result (λ actions. Does (rules.rule (event self.now) state.old) state.new actions) }
         ensures same { IsSameProcess state.old state.new };
 
-    // Tells a proof that the process or the address in it is in its ranges.
+    // Tells a proof that the address in it is in its ranges, as every address is.
     fn said(&self)
+        requires { ComesValid (event self.now) }
         ensures { IsSaid (event self.now) };
 }
 
@@ -551,11 +540,11 @@ impl Given for NodeEvent {
     }
 
     fn said(&self)
+        requires { ComesValid self.now }
         ensures { IsSaid self.now }
     {
         match self {
             NodeEvent::Join(target) => address(target),
-            NodeEvent::Packet(envelope) => process(&envelope.from),
             _ => {}
         }
     }
@@ -580,10 +569,9 @@ impl Given for Envelope {
     }
 
     fn said(&self)
+        requires { ComesValid (NodeEvent.Packet self.now) }
         ensures { IsSaid (NodeEvent.Packet self.now) }
-    {
-        process(&self.from)
-    }
+    {}
 }
 
 // Adds what is due at a closing.
@@ -635,17 +623,18 @@ pub struct Node {
 
 impl Model for Node {
     ghost use Rattle.ak_node.specs.NodeContracts.{NodeModel, IsNode, HasForgotten};
-    ghost use Rattle.ak_node.specs.Sends.{KnowsProcesses};
+    ghost use Rattle.ak_node.specs.Sends.{KnowsProcesses, KeepsBallots, KeepsSettled};
     ghost use Rattle.std.specs.Coded.{codes};
     ghost use Rattle.ak_membership.specs.contracts.membership.Membership as membership;
+    ghost use Rattle.ak_singleton.specs.SingletonView.{coded_singleton};
 
     ghost Value = { NodeModel };
 
-    ghost coded = { Prim.hlevel (codes, membership.the_row.coded) };
+    ghost coded = { Prim.hlevel (codes, membership.the_row.coded, coded_singleton) };
 
     ghost view = { λ n. record { state = n.state; spent = n.spent } };
 
-    ghost invariant = { λ n. IsNode n.state × HasForgotten n.spent n.state × KnowsProcesses n.state };
+    ghost invariant = { λ n. IsNode n.state × HasForgotten n.spent n.state × KnowsProcesses n.state × KeepsBallots n.state.singleton × KeepsSettled n.state };
 }
 
 impl Node {
@@ -656,6 +645,7 @@ impl Node {
         let membership = Membership::start(alloc, me, settings)?;
         let state = State {
             membership,
+            singleton: Singleton::new(alloc),
             runs: true,
             steps: 0,
         };
@@ -665,12 +655,13 @@ impl Node {
         })
     }
 
-    /// Gives the node one event, and answers its actions; a node that has stopped answers none, and knows what it knew. Each
-    /// packet that it sends is valid: it has a spelling as bytes, whatever came before. While
-    /// it runs and knows anybody, it is a member of its own view, and not Down. Once out of memory the node is spent: it still
-    /// shows its process and its settings, and has forgotten what it knew.
+    /// Gives the node one event, and answers its actions; a node that has stopped answers none, and knows what it knew. A packet
+    /// that comes has to be valid, as `decode` answers it; then each packet that the node sends is valid too: it has a spelling
+    /// as bytes. While it runs and knows anybody, it is a member of its own view, and not Down. Once out of memory the node is
+    /// spent: it still shows its process and its settings, and has forgotten what it knew.
     pub fn step(&mut self, alloc: Global, event: NodeEvent) -> Result<Actions, AllocError>
-        requires { self.old.state.steps < 2 ^ 62 }
+        requires steps { self.old.state.steps < 2 ^ 62 }
+        requires comes { ComesValid event }
         ensures ok { IfOk result (λ actions. Does (rules.step event self.old.state) self.new.state actions) }
         ensures valid { IfOk result (λ actions. AreValid actions) }
         ensures silent { IfOk result (λ actions. IsSilent self.old.state self.new.state actions) }
@@ -685,7 +676,8 @@ impl Node {
 
     // The event is taken, and stays with whoever gave it.
     fn take<E: Given>(&mut self, alloc: Global, event: &E) -> Result<Actions, AllocError>
-        requires { self.old.state.steps < 2 ^ 62 }
+        requires steps { self.old.state.steps < 2 ^ 62 }
+        requires comes { ComesValid (E.event event.now) }
         ensures ok { IfOk result (λ actions. Does (rules.step (E.event event.now) self.old.state) self.new.state actions) }
         ensures valid { IfOk result (λ actions. AreValid actions) }
         ensures silent { IfOk result (λ actions. IsSilent self.old.state self.new.state actions) }
@@ -706,15 +698,17 @@ impl Node {
             }
             Err(error) => {
                 self.state.membership.forget(alloc);
+                self.state.singleton = Singleton::new(alloc);
                 self.spent = true;
                 Err(error)
             }
         }
     }
 
-    /// Gives the node a packet, as `step` does with such an event; the packet stays with whoever gave it.
+    /// Gives the node a valid packet, as `step` does with such an event; the packet stays with whoever gave it.
     pub fn receive(&mut self, alloc: Global, envelope: &Envelope) -> Result<Actions, AllocError>
-        requires { self.old.state.steps < 2 ^ 62 }
+        requires steps { self.old.state.steps < 2 ^ 62 }
+        requires comes { ComesValid (NodeEvent.Packet envelope.now) }
         ensures ok { IfOk result (λ actions. Does (rules.step (NodeEvent.Packet envelope.now) self.old.state) self.new.state actions) }
         ensures valid { IfOk result (λ actions. AreValid actions) }
         ensures silent { IfOk result (λ actions. IsSilent self.old.state self.new.state actions) }

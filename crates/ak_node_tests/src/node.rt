@@ -5,7 +5,7 @@ use ak_gossip::{Gossip, Indices, Part, Parts, parts_valid};
 use ak_member::{Effect, Effects, Status};
 use ak_node::{Node, NodeEvent};
 use ak_schedule::{Draft, Settings};
-use ak_wire::{Action, Actions, Envelope, Message};
+use ak_wire::{Action, Actions, Envelope, Message, valid};
 use std::alloc::{AllocError, Global};
 use std::test::Fail;
 
@@ -108,13 +108,6 @@ fn few_steps(node: &Node) -> Result<(), Fail>
     Ok(())
 }
 
-// What the node does at an event, which is made after all else that may fail: so it is let go on one path alone.
-fn step(alloc: Global, node: &mut Node, event: NodeEvent) -> Result<Actions, Fail>
-    requires { node.old.state.steps < 1000 }
-{
-    Ok(node.step(alloc, event)?)
-}
-
 // The process of this letter, which sends, and the address of the node, which receives.
 fn ways(alloc: Global, node: &Node, from: u8) -> Result<(Unique, Address), Fail> {
     let from = process(alloc, from)?;
@@ -122,21 +115,41 @@ fn ways(alloc: Global, node: &Node, from: u8) -> Result<(Unique, Address), Fail>
     Ok((from, to))
 }
 
-// The event that a message comes.
-fn packet(ways: (Unique, Address), message: Message) -> NodeEvent {
-    NodeEvent::Packet(Envelope {
+// For whichever process is at the address, where the message may be, and else for the one with uid 1.
+fn uid_for(message: &Message) -> u64 {
+    match message {
+        Message::Join => 0,
+        Message::Leave(_) => 0,
+        Message::Down(_) => 0,
+        _ => 1,
+    }
+}
+
+// What a message comes in.
+fn packet(ways: (Unique, Address), message: Message) -> Envelope {
+    Envelope {
         from: ways.0,
         to: ways.1,
-        uid: 0,
+        uid: uid_for(&message),
         message,
-    })
+    }
+}
+
+// What the node does at a packet, which has a spelling.
+fn receive(alloc: Global, node: &mut Node, packet: &Envelope) -> Result<Actions, Fail>
+    requires { node.old.state.steps < 1000 }
+{
+    if valid(packet) {
+        return Ok(node.receive(alloc, packet)?);
+    }
+    Err("the packet is not valid")?
 }
 
 // What it does where the process of this letter asks to join.
 fn asked(alloc: Global, node: &mut Node, from: u8) -> Result<Actions, Fail> {
     few_steps(node)?;
     let ways = ways(alloc, node, from)?;
-    step(alloc, node, packet(ways, Message::Join))
+    receive(alloc, node, &packet(ways, Message::Join))
 }
 
 // What it does at a gossip of these lines that the process of this letter sends.
@@ -144,7 +157,7 @@ fn told(alloc: Global, node: &mut Node, from: u8, lines: &[(u8, u64)]) -> Result
     few_steps(node)?;
     let ways = ways(alloc, node, from)?;
     let gossip = gossip(alloc, lines)?;
-    step(alloc, node, packet(ways, Message::Gossip(gossip)))
+    receive(alloc, node, &packet(ways, Message::Gossip(gossip)))
 }
 
 // What it does at the gossip of a crowd that c sends.
@@ -152,7 +165,7 @@ fn told_of_crowd(alloc: Global, node: &mut Node, others: u32) -> Result<Actions,
     few_steps(node)?;
     let ways = ways(alloc, node, b'c')?;
     let gossip = crowd(alloc, others)?;
-    step(alloc, node, packet(ways, Message::Gossip(gossip)))
+    receive(alloc, node, &packet(ways, Message::Gossip(gossip)))
 }
 
 fn is_refusal(actions: &Actions, code: u8) -> bool {
@@ -232,7 +245,7 @@ fn answers_with_what_it_knows(alloc: Global, node: &mut Node) -> Result<bool, Fa
 // The node founds the cluster: its own count is 1.
 fn found(alloc: Global, node: &mut Node) -> Result<(), Fail> {
     few_steps(node)?;
-    if is_founding(&step(alloc, node, NodeEvent::Found)?) {
+    if is_founding(&node.step(alloc, NodeEvent::Found)?) {
         return Ok(());
     }
     Err("it does not found")?
@@ -316,7 +329,7 @@ fn told_of_two_up(alloc: Global, node: &mut Node) -> Result<Actions, Fail> {
     few_steps(node)?;
     let ways = ways(alloc, node, b'b')?;
     let gossip = gossip_of_two_up(alloc)?;
-    step(alloc, node, packet(ways, Message::Gossip(gossip)))
+    receive(alloc, node, &packet(ways, Message::Gossip(gossip)))
 }
 
 // The node a comes to know itself and b, both Up.
@@ -332,7 +345,7 @@ fn asked_to_leave(alloc: Global, node: &mut Node, who: u8) -> Result<Actions, Fa
     few_steps(node)?;
     let ways = ways(alloc, node, b'z')?;
     let who = process(alloc, who)?;
-    step(alloc, node, packet(ways, Message::Leave(who)))
+    receive(alloc, node, &packet(ways, Message::Leave(who)))
 }
 
 // What it does where a packet of z asks to down the process of this letter.
@@ -340,7 +353,7 @@ fn asked_to_down(alloc: Global, node: &mut Node, who: u8) -> Result<Actions, Fai
     few_steps(node)?;
     let ways = ways(alloc, node, b'z')?;
     let who = process(alloc, who)?;
-    step(alloc, node, packet(ways, Message::Down(who)))
+    receive(alloc, node, &packet(ways, Message::Down(who)))
 }
 
 // The effects are that this process rises to this status, with no number.
@@ -399,7 +412,7 @@ fn forwarded(alloc: Global, node: &mut Node) -> Result<Actions, Fail> {
     few_steps(node)?;
     let ways = ways(alloc, node, b'b')?;
     let entity = Text::from_bytes(alloc, b"e")?;
-    step(alloc, node, packet(ways, Message::Forward(entity, 5)))
+    receive(alloc, node, &packet(ways, Message::Forward(entity, 5)))
 }
 
 fn ignores_what_has_no_rule(alloc: Global, node: &mut Node) -> Result<bool, Fail> {

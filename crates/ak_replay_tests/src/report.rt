@@ -1,4 +1,4 @@
-use ak_address::{Unique, Uniques, parse_address, parse_unique};
+use ak_address::{Text, Unique, Uniques, parse_address, parse_unique};
 use ak_gossip::{Gossip, Indices, Part, Parts, parts_valid};
 use ak_member::{Effect, Effects, Status};
 use ak_report::print_actions;
@@ -159,5 +159,31 @@ fn members_and_tombstones_are_listed(rt: HostRuntime) -> Result<(), Fail> {
     let wanted =
         b"  view a:1#1=1, b:1#1=9, g:1#1=2 | b:1#1 joining, c:1#1 up 2, e:1#1 leaving 3, f:1#1 exiting 4, g:1#1 down 5, h:1#1 down | a:1#1, d:1#1 confirmed\n";
     assert!(rt; prints(alloc, &gossip, Action::View, wanted)?);
+    Ok(())
+}
+
+// What a node does for the shards and entities.
+fn sharding_actions(alloc: Global) -> Result<Actions, Fail> {
+    let mut actions = Actions::empty(alloc);
+    actions.push(Action::Host(6, 4611686018427387904))?;
+    actions.push(Action::Entity(Text::from_bytes(alloc, b"cart")?))?;
+    actions.push(Action::Deliver(Text::from_bytes(alloc, b"cart")?, 5))?;
+    actions.push(Action::Gone(6))?;
+    actions.push(Action::Forward(Text::from_bytes(alloc, b"~!")?, 18446744073709551615))?;
+    actions.push(Action::Buffer(Text::from_bytes(alloc, b"cart")?, 0))?;
+    actions.push(Action::Drop(Text::from_bytes(alloc, b"cart")?, 7))?;
+    Ok(actions)
+}
+
+#[test]
+fn shards_and_entities_are_printed(rt: HostRuntime) -> Result<(), Fail> {
+    let alloc = rt.alloc();
+    let nobody = Gossip::empty(alloc);
+    let actions = sharding_actions(alloc)?;
+    let mut out = Vec::new(alloc);
+    print_actions(alloc, &nobody, 1, &actions, &mut out)?;
+    let wanted =
+        b"  host 6 4611686018427387904\n  entity cart\n  deliver cart 5\n  gone 6\n  forward ~! 18446744073709551615\n  buffer cart 0\n  drop cart 7\n";
+    assert!(rt; out.as_slice() == wanted.as_slice());
     Ok(())
 }

@@ -10,7 +10,7 @@ use Rattle.ak_gossip.proofs.InvariantLemmas.{and_first, and_second}
 use Rattle.ak_schedule.specs.Settings.{SettingsModel}
 use Rattle.ak_schedule.specs.declared.event.Event.{Event}
 use Rattle.ak_wire.specs.declared.action.Action.{Action}
-use Rattle.ak_wire.specs.declared.action.Action.TheVariants.{Send, Update, View, Settled, MarginEnd, Refused, Dead, Stopped}
+use Rattle.ak_wire.specs.declared.action.Action.TheVariants.{Send, Update, View, Settled, Active, Ended, Host, Gone, Entity, Deliver, Forward, Buffer, Drop, MarginEnd, Refused, Dead, Stopped}
 use Rattle.ak_node.specs.declared.node.State.{State}
 use Rattle.ak_node.specs.Node.{me_of, started, step}
 use Rattle.ak_node.proofs.StepChanges.{step_changes}
@@ -34,8 +34,8 @@ abbrev pub Ends : List Action → ℕ → UniqueModel → Type 0
 Ends actions place who = slice_get actions place ≡ Some (MarginEnd who)
 
 -- who ends in a step was started before it, and is another node than the one that acts
-record Other (settings : SettingsModel) (w : WorldState) (done : Done) (who : UniqueModel) : Type 0 where
-  was_started : WasStarted settings w.nodes who
+pub record Other (settings : SettingsModel) (w : WorldState) (done : Done) (who : UniqueModel) : Type 0 where
+  pub was_started : WasStarted settings w.nodes who
   index : ℕ
   node : State
   after : State
@@ -49,7 +49,7 @@ module _ (settings : SettingsModel) (events : List Event) (done : Done) (place :
   abbrev w : WorldState
   w = run settings events
 
-  is_other : Happened settings w done → Ends done.actions place who → Other settings w done who
+  pub is_other : Happened settings w done → Ends done.actions place who → Other settings w done who
   is_other h = elim h as (λ d _. Ends d.actions place who → Other settings w d who) [
     | begins u unknown free listed few ↦ λ ends. absurd (contains_nothing _ (contains_at [] place (MarginEnd who) ends))
     | steps e index n founded at runs was_sent ↦ λ ends.
@@ -175,6 +175,15 @@ action_by nodes (Send e) number is = absurd (cc)
 action_by nodes (Update k effects) number is = absurd (cc)
 action_by nodes View number is = absurd (cc)
 action_by nodes Settled number is = absurd (cc)
+action_by nodes (Active term) number is = absurd (cc)
+action_by nodes (Ended term) number is = absurd (cc)
+action_by nodes (Host shard m) number is = absurd (cc)
+action_by nodes (Gone shard) number is = absurd (cc)
+action_by nodes (Entity entity) number is = absurd (cc)
+action_by nodes (Deliver entity payload) number is = absurd (cc)
+action_by nodes (Forward entity payload) number is = absurd (cc)
+action_by nodes (Buffer entity payload) number is = absurd (cc)
+action_by nodes (Drop entity payload) number is = absurd (cc)
 action_by nodes (MarginEnd who) number is = (who, refl, is)
 action_by nodes (Refused why) number is = absurd (cc)
 action_by nodes Dead number is = absurd (cc)
@@ -202,7 +211,7 @@ take_first zero events e le = refl
 take_first (suc i) [] e le = absurd (omega arith)
 take_first (suc i) (x ∷ events) e le = ap (λ (l : List Event). x ∷ l) (take_first i events e (omega arith))
 
-take_whole : (events : List Event) (e : Event) → take (length events) (events ++ e ∷ []) ≡ events
+pub take_whole : (events : List Event) (e : Event) → take (length events) (events ++ e ∷ []) ≡ events
 take_whole [] e = refl
 take_whole (x ∷ events) e = ap (λ (l : List Event). x ∷ l) (take_whole events e)
 
@@ -210,23 +219,23 @@ module _ (settings : SettingsModel) (events : List Event) (e : Event) where
   abbrev more : List Event
   more = events ++ e ∷ []
 
-  old_or_new : (time : ℕ) (event : Event) → slice_get more time ≡ Some event → (slice_get events time ≡ Some event) ⊎ ((time ≡ length events) × (event ≡ e))
+  pub old_or_new : (time : ℕ) (event : Event) → slice_get more time ≡ Some event → (slice_get events time ≡ Some event) ⊎ ((time ≡ length events) × (event ≡ e))
   old_or_new = push_at (λ i x. (slice_get events i ≡ Some x) ⊎ ((i ≡ length events) × (x ≡ e))) events e (λ i x is. inl is) (inr (refl, refl))
 
   -- the same steps, and the same ends
-  step_later : (time : ℕ) (event : Event) (done : Done) → IsStep settings events time event done → IsStep settings more time event done
+  pub step_later : (time : ℕ) (event : Event) (done : Done) → IsStep settings events time event done → IsStep settings more time event done
   step_later time event done s = record {
     at = prefix_at events (e ∷ []) time event s.at;
     happened = ap (λ l. happens settings event (run settings l)) (take_first time events e (let lt = slice_get_within events time event s.at in omega arith)) ∙ s.happened;
   }
 
-  step_sooner : (time : ℕ) (event : Event) (done : Done) → slice_get events time ≡ Some event → IsStep settings more time event done → IsStep settings events time event done
+  pub step_sooner : (time : ℕ) (event : Event) (done : Done) → slice_get events time ≡ Some event → IsStep settings more time event done → IsStep settings events time event done
   step_sooner time event done at s = record {
     at = at;
     happened = ap (λ l. happens settings event (run settings l)) (sym (take_first time events e (let lt = slice_get_within events time event at in omega arith))) ∙ s.happened;
   }
 
-  untold_later : (time place node : ℕ) (who : UniqueModel) → IsUntold settings events time place node who → IsUntold settings more time place node who
+  pub untold_later : (time place node : ℕ) (who : UniqueModel) → IsUntold settings events time place node who → IsUntold settings more time place node who
   untold_later time place node who u =
       runs_untold settings more time place who node u.event u.done (step_later time u.event u.done u.did) u.acted u.ended
       (subst (λ l. Runs (run settings l).nodes who) (sym (take_first time events e (let lt = slice_get_within events time u.event u.did.at in omega arith))) (untold_runs settings events time place who node u))
@@ -238,7 +247,7 @@ module _ (settings : SettingsModel) (events : List Event) (e : Event) where
 
   -- ---- the last step
   module _ (done : Done) (did : happens settings e (run settings events) ≡ Ok done) where
-    last_step : IsStep settings more (length events) e done
+    pub last_step : IsStep settings more (length events) e done
     last_step = record { at = push_here events e; happened = ap (λ l. happens settings e (run settings l)) (take_whole events e) ∙ did }
 
     -- an end in the last step of one who runs
@@ -247,7 +256,7 @@ module _ (settings : SettingsModel) (events : List Event) (e : Event) where
       acted : done.node ≡ Some node
       runs : Runs (run settings events).nodes who
 
-    same_done : (x : Done) → happens settings e (run settings events) ≡ Ok x → x ≡ done
+    pub same_done : (x : Done) → happens settings e (run settings events) ≡ Ok x → x ≡ done
     same_done x is = ap (done_or x) (sym is ∙ did)
 
     untold_last : (time place node : ℕ) (who : UniqueModel) (u : IsUntold settings more time place node who) → time ≡ length events → u.event ≡ e → LastEnd place node who

@@ -4,9 +4,12 @@ pub mod InRun
 pub mod Kept
 pub mod Margin
 pub mod MarginMark
+pub mod Noting
 pub mod Remembered
 pub mod RunLine
 pub mod SettledLine
+pub mod Singletons
 pub mod StepText
+pub mod Worked
 pub mod World
 pub mod WorldContracts

@@ -3,7 +3,7 @@ use Rattle.std.specs.Prelude.{ℕ, Bool, ◌&&◌, List, [], ◌∷◌, Option, 
 use Rattle.std.specs.List.{position}
 use Rattle.ak_address.specs.Unique.{UniqueModel}
 use Rattle.ak_wire.specs.declared.action.Action.{Action}
-use Rattle.ak_wire.specs.declared.action.Action.TheVariants.{Send, Update, View, Settled, MarginEnd, Refused, Dead, Stopped}
+use Rattle.ak_wire.specs.declared.action.Action.TheVariants.{Send, Update, View, Settled, Active, Ended, Host, Gone, Entity, Deliver, Forward, Buffer, Drop, MarginEnd, Refused, Dead, Stopped}
 use Rattle.ak_node.specs.declared.node.State.{State}
 use Rattle.ak_world.specs.declared.margin.Margin.{Margin}
 use Rattle.ak_world.specs.declared.margin.Margin.TheVariants.{Kept, Broken}
@@ -19,6 +19,15 @@ running_end nodes (Send e) = None
 running_end nodes (Update number effects) = None
 running_end nodes View = None
 running_end nodes Settled = None
+running_end nodes (Active term) = None
+running_end nodes (Ended term) = None
+running_end nodes (Host shard number) = None
+running_end nodes (Gone shard) = None
+running_end nodes (Entity entity) = None
+running_end nodes (Deliver entity payload) = None
+running_end nodes (Forward entity payload) = None
+running_end nodes (Buffer entity payload) = None
+running_end nodes (Drop entity payload) = None
 running_end nodes (MarginEnd who) = position (runs_as who) nodes
 running_end nodes (Refused why) = None
 running_end nodes Dead = None

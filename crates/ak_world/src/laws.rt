@@ -1,4 +1,4 @@
-ghost use Rattle.std.specs.Prelude.{◌≡◌, ◌⊎◌, ℕ, ◌+◌, ◌≤◌, List, ◌++◌, take, slice_get, Some, Ok, Contains, IsTrue, IsSomeAnd};
+ghost use Rattle.std.specs.Prelude.{◌≡◌, ◌⊎◌, ◌↔◌, ℕ, ◌+◌, ◌≤◌, List, ◌++◌, take, slice_get, true, Some, Ok, Contains, IsTrue, IsSomeAnd};
 ghost use Rattle.ak_address.specs.Unique.{UniqueModel};
 ghost use Rattle.ak_address.specs.Uniques.{has};
 ghost use Rattle.ak_clock.specs.Version.{Counts, count, Covers};
@@ -7,7 +7,7 @@ ghost use Rattle.ak_wire.specs.declared.action.Action.TheVariants.{Update, Margi
 ghost use Rattle.ak_schedule.specs.Settings.{SettingsModel, settling_size};
 ghost use Rattle.ak_schedule.specs.declared.event.Event.{Event};
 ghost use Rattle.ak_node.specs.declared.node.State.{State};
-ghost use Rattle.ak_node.specs.Node.{known, me_of};
+ghost use Rattle.ak_node.specs.Node.{known, me_of, settled_of, margin_of};
 ghost use Rattle.ak_world.specs.Fold.{IsFold, IsIn};
 ghost use Rattle.ak_gossip.specs.Gossip.{GossipState};
 ghost use Rattle.ak_history.specs.declared.entry.Entry.{Entry};
@@ -18,12 +18,18 @@ ghost use Rattle.ak_world.specs.Held.{Holds, Held, Enters, Made};
 ghost use Rattle.ak_history.specs.Shown.{IsRemoved};
 ghost use Rattle.ak_line.specs.Grows.{Grows};
 ghost use Rattle.ak_line.specs.Line.{IsLine};
-ghost use Rattle.ak_settled.specs.Settled.{candidate, is_finished, needed};
+ghost use Rattle.ak_member.specs.Standing.{tombstone_of};
+ghost use Rattle.ak_settled.specs.Settled.{candidate, is_finished, needed, standings_of, version_of};
+ghost use Rattle.std.specs.FinMap as map;
 ghost use Rattle.ak_settled.specs.SettledView.{NotedView};
 ghost use Rattle.ak_world.specs.RunLine.{IsAged, line_of};
 ghost use Rattle.ak_world.specs.SettledLine.{WasSettled, IsOverHalf, AreInLine};
 ghost use Rattle.ak_world.specs.declared.margin.Margin.{Margin};
+ghost use Rattle.ak_world.specs.declared.margin.Margin.TheVariants.{Kept};
+ghost use Rattle.ak_world.specs.Noting.{HasSettled, NotesAt, TellsMarginEnd};
+ghost use Rattle.ak_world.specs.Singletons.{FinishedHaveStopped, IsActiveSingleton, OneIsActive, RunsSingleton};
 ghost use Rattle.ak_world.specs.Margin.{IsStep, Runs, IsTold, IsUntold, IsMargin};
+ghost use Rattle.ak_world.specs.Worked.{alone, passing, rise, three};
 ghost use Rattle.ak_world.specs.InRun.{WasStarted, HasStopped, AllServe, RunAlone, IsConfirmed, IsNamedIn, IsSettled, HasNoted};
 
 /// After any events, what each node knows and what each packet carries is the fold of the history: its members with
@@ -151,4 +157,57 @@ pub fn margins_break_where_members_run()
 pub fn each_run_has_one_margin()
     ensures some { (settings : SettingsModel) (events : List Event) → (margin : Margin) × IsMargin settings events margin }
     ensures one { (settings : SettingsModel) (events : List Event) (one other : Margin) → IsMargin settings events one → IsMargin settings events other → one ≡ other }
+{}
+
+/// Where the strategy is a static quorum of more than half of the listed addresses: after each number of events through which the
+/// removal margin was kept at most one node is an active singleton, by what nodes told (Akka's "Cluster Singleton"), also in a run
+/// that breaks the margin later.
+pub fn at_most_one_node_is_active()
+    ensures { (settings : SettingsModel) (events : List Event) (quorum time : ℕ) → IsOverHalf settings quorum → 1 ≤ settings.margin → IsMargin settings (take time events) Kept → OneIsActive settings (take time events) }
+{}
+
+/// A node is an active singleton, by what it told, exactly where it runs and its phase is active.
+pub fn active_ones_tell_it()
+    ensures { (settings : SettingsModel) (events : List Event) (i : ℕ) → IsActiveSingleton settings events i ↔ ((n : State) × (slice_get (run settings events).nodes i ≡ Some n) × RunsSingleton n) }
+{}
+
+/// After each number of events through which the removal margin was kept, whoever is finished by the settled view of a node has
+/// stopped, under any strategy.
+pub fn whoever_is_finished_has_stopped()
+    ensures { (settings : SettingsModel) (events : List Event) (time : ℕ) → 1 ≤ settings.margin → IsMargin settings (take time events) Kept → FinishedHaveStopped settings (take time events) }
+{}
+
+/// Whoever is finished by the settled view of a node has a confirmed tombstone there, or the node told at some step that its
+/// margin ended. So a margin that nobody tells the end of finishes nobody.
+pub fn whoever_is_finished_is_confirmed_or_ended()
+    ensures { (settings : SettingsModel) (events : List Event) → 1 ≤ settings.margin → (index : ℕ) (n : State) → slice_get (run settings events).nodes index ≡ Some n → (who : UniqueModel) → IsTrue (is_finished (margin_of n) (settled_of n) who)
+        → (tombstone_of (map.get (standings_of (settled_of n)) who) ≡ Some true) ⊎ ((time : ℕ) × TellsMarginEnd settings events time index who) }
+{}
+
+/// What a node has noted as settled was settled at that very node, at the end of the step in which it noted it, and that step told
+/// it. Where the view of a running node is settled, the version that it has noted counts what it knows: each covers the other.
+pub fn settled_views_are_noted_where_they_settle()
+    ensures noted { (settings : SettingsModel) (events : List Event) (index : ℕ) (n : State) (noted : NotedView) → slice_get (run settings events).nodes index ≡ Some n → n.membership.settled.view ≡ Some noted → (time : ℕ) × NotesAt settings events time index noted.version }
+    ensures latest { (settings : SettingsModel) (events : List Event) (index : ℕ) (n : State) → slice_get (run settings events).nodes index ≡ Some n → IsTrue n.runs → HasSettled settings n
+        → Covers (version_of (settled_of n)) (known n).version × Covers (known n).version (version_of (settled_of n)) }
+{}
+
+/// A node can become active while the margin is kept, under a static quorum of more than half of the listed addresses: where one
+/// address is listed, its process founds the cluster, comes Up, settles, and is an active singleton after these four events.
+pub fn a_node_can_become_active()
+    ensures over_half { IsOverHalf alone 1 }
+    ensures waits { 1 ≤ alone.margin }
+    ensures kept { IsMargin alone rise Kept }
+    ensures active { IsActiveSingleton alone rise 0 }
+{}
+
+/// An activity can pass to another node while the margin is kept, under such a quorum: where three addresses are listed, the node
+/// that started first is an active singleton after 15 of these 33 events; it leaves, ends its activity and exits; and the node
+/// that started second is an active singleton after all of them.
+pub fn an_activity_can_pass_to_another_node()
+    ensures over_half { IsOverHalf three 2 }
+    ensures waits { 1 ≤ three.margin }
+    ensures kept { IsMargin three passing Kept }
+    ensures first { IsActiveSingleton three (take 15 passing) 0 }
+    ensures second { IsActiveSingleton three passing 1 }
 {}

@@ -3,6 +3,8 @@ ghost use Rattle.std.specs.Option.{option_copied, option_map};
 ghost use Rattle.ak_wire.specs.Wire.{sent};
 ghost use Rattle.ak_world.specs.World as rules;
 ghost use Rattle.ak_world.specs.Margin.{IsMargin};
+ghost use Rattle.ak_world.specs.Singletons.{FinishedHaveStopped, OneIsActive};
+ghost use Rattle.ak_world.specs.declared.margin.Margin.TheVariants.{Kept};
 ghost use Rattle.ak_world.specs.MarginMark as mark;
 ghost use Rattle.std.specs.List.{list_any, position};
 ghost use Rattle.ak_address.specs.Unique.{UniqueModel};
@@ -19,7 +21,7 @@ ghost use Rattle.ak_world.specs.InRun.{WasStarted, HasStopped, AllServe, RunAlon
 ghost use Rattle.ak_world.specs.SettledLine.{WasSettled, IsOverHalf, AreInLine};
 ghost use Rattle.ak_schedule.specs.Settings.{settling_size};
 ghost use Rattle.ak_node.specs.Node as rules_of_nodes;
-ghost use Rattle.ak_node.specs.Sends.{AreValid};
+ghost use Rattle.ak_node.specs.Sends.{AreValid, ComesValid};
 ghost use Rattle.ak_world.specs.WorldContracts.{AreSpelled, Applies, Scenes, IsReady, Acts, Keeps, states, state_of};
 ghost use Rattle.ak_node.specs.NodeContracts.{NodeModel};
 
@@ -326,6 +328,7 @@ impl Scene {
     // The process is given an event.
     fn act(&mut self, alloc: Global, who: &Unique, event: NodeEvent) -> Result<Step, Refused>
         requires ready { IsReady (state_of self.old) }
+        requires comes { ComesValid event }
         ensures settings { self.new.settings ≡ self.old.settings }
         ensures scenes { Scenes (state_of self.old) (rules.acts event (rules.node_of who.now (state_of self.old)) (state_of self.old)) result (state_of self.new) }
     {
@@ -339,6 +342,7 @@ impl Scene {
     fn give(&mut self, alloc: Global, index: usize, event: NodeEvent) -> Result<Step, Refused>
         requires ready { IsReady (state_of self.old) }
         requires index { index < length self.old.nodes.items }
+        requires comes { ComesValid event }
         ensures settings { self.new.settings ≡ self.old.settings }
         ensures scenes { Scenes (state_of self.old) (rules.gives event index (slice_get (state_of self.old).nodes index) (state_of self.old)) result (state_of self.new) }
     {
@@ -582,6 +586,10 @@ impl World {
     /// Where the strategy is a static quorum of more than half of the listed addresses, any two versions that were settled so
     /// far, at whichever running nodes and whenever, are comparable: one covers the other. It matters neither what was delivered
     /// nor who stopped. What a node has noted as settled was settled.
+    ///
+    /// Under such a quorum, after each number of accepted events through which the removal margin was kept, at most one node is an
+    /// active singleton, by what nodes told (Akka's "Cluster Singleton"): also where the margin is broken later. Under any strategy,
+    /// while the margin is kept, whoever is finished by the settled view of a node has stopped.
     pub fn apply(&mut self, alloc: Global, event: &Event) -> Result<Step, Refused>
         requires { length self.old.events < 2 ^ 62 }
         ensures applied { Applies event.now self.old result self.new }
@@ -600,7 +608,10 @@ impl World {
         ensures grows { self.new.spent ≡ false → (i j : ℕ) (who : UniqueModel) (earlier later : Counts) → i ≤ j → HasNoted (rules.run self.new.settings (take i self.new.events)) who earlier → HasNoted (rules.run self.new.settings (take j self.new.events)) who later → Covers later earlier }
         ensures line { self.new.spent ≡ false → (quorum : ℕ) → IsOverHalf self.new.settings quorum → AreInLine self.new.settings self.new.events quorum }
         ensures noted { self.new.spent ≡ false → (index : ℕ) (n : State) (noted : NotedView) → slice_get self.new.state.nodes index ≡ Some n → n.membership.settled.view ≡ Some noted → WasSettled self.new.settings self.new.events (settling_size self.new.settings.strategy) noted.version }
+        ensures one_active { (quorum time : ℕ) → IsOverHalf self.new.settings quorum → IsMargin self.new.settings (take time self.new.events) Kept → OneIsActive self.new.settings (take time self.new.events) }
+        ensures finished { (time : ℕ) → IsMargin self.new.settings (take time self.new.events) Kept → FinishedHaveStopped self.new.settings (take time self.new.events) }
     {
+        self.scene.settings.invariant();
         if self.is_spent {
             return Err(Refused::NoMemory);
         }

@@ -6,7 +6,7 @@ use Rattle.ak_member.specs.Standing.{Standings}
 use Rattle.ak_wire.specs.declared.action.Action.{Action}
 use Rattle.ak_wire.specs.declared.action.Action.TheVariants as action
 use Rattle.ak_wire.specs.declared.envelope.Message.TheVariants as message
-use Rattle.ak_node.specs.declared.node.Cover.{Cover}
+use Rattle.ak_wire.specs.declared.cover.Cover.{Cover}
 use Rattle.ak_node.specs.Node.{to_process, to_each, known}
 use Rattle.ak_node.proofs.SendLemmas.{processes_of, counted_processes, keeps_processes, done_next, done_none, done_all}
 use Rattle.ak_node.proofs.node.State.confirms.Goals as goal

@@ -9,19 +9,22 @@ use Rattle.ak_world.specs.WorldContracts.{state_of, states}
 use Rattle.ak_world.proofs.WorldLemmas.{found-receiver, same-answer, ran-out, dead-delivery, delivery, delivery-accepted, receiver-within, length-states, state-at, state-set, set-states, kept-scenes}
 use Rattle.ak_world.proofs.world.Scene.deliver.Goals as goal
 
-pub receive-requires : goal.receive-requires
-receive-requires c =
+pub receive-requires-clause-steps : goal.receive-requires-clause-steps
+receive-requires-clause-steps c =
     let e = c.in-Some.packet.now in
     let nodes = c.args.self.now.nodes.items in
-    let reached = found-receiver e _ nodes _ _ _ c.receiver_of.ensures c.envelope.ensures c.deref-2.ensures.value c.in-Some-receiver_of.is in
+    let reached = found-receiver e _ nodes _ _ _ c.receiver_of.ensures c.envelope.ensures.same c.deref-2.ensures.value c.in-Some-receiver_of.is in
     let within = receiver-within e nodes c.in-Some-receiver_of.index reached in
     c.requires.ready.few_steps c.in-Some-receiver_of.index c.index_mut.result.now.state (state-at nodes c.in-Some-receiver_of.index c.index_mut.result.now within c.index_mut.ensures.value)
+
+pub receive-requires-clause-comes : goal.receive-requires-clause-comes
+receive-requires-clause-comes c = c.envelope-2.ensures.valid
 
 pub keep-requires-clause-index : goal.keep-requires-clause-index
 keep-requires-clause-index c =
     let e = c.in-Some.packet.now in
     let nodes = c.args.self.now.nodes.items in
-    let reached = found-receiver e _ nodes _ _ _ c.receiver_of.ensures c.envelope.ensures c.deref-2.ensures.value c.in-Some-receiver_of.is in
+    let reached = found-receiver e _ nodes _ _ _ c.receiver_of.ensures c.envelope.ensures.same c.deref-2.ensures.value c.in-Some-receiver_of.is in
     let within = receiver-within e nodes c.in-Some-receiver_of.index reached in
     let long = length-set nodes c.in-Some-receiver_of.index c.receive.new.self in
     omega (arith, long, within)
@@ -30,7 +33,7 @@ pub keep-requires-clause-number : goal.keep-requires-clause-number
 keep-requires-clause-number c =
     let e = c.in-Some.packet.now in
     let nodes = c.args.self.now.nodes.items in
-    let reached = found-receiver e _ nodes _ _ _ c.receiver_of.ensures c.envelope.ensures c.deref-2.ensures.value c.in-Some-receiver_of.is in
+    let reached = found-receiver e _ nodes _ _ _ c.receiver_of.ensures c.envelope.ensures.same c.deref-2.ensures.value c.in-Some-receiver_of.is in
     let within = receiver-within e nodes c.in-Some-receiver_of.index reached in
     omega (arith, within, length-states nodes, c.requires.ready.few_nodes)
 
@@ -46,21 +49,21 @@ returns-in_default-receiver_of-clause-scenes c =
     let e = c.in-Some.packet.now in
     let packet : numbered c.args.self.now.packets.items c.args.number ≡ Some e =
     sym (ap (λ (ps : List Envelope). numbered ps c.args.number) c.deref.ensures.value) ∙ sym c.in-Some.ensures in
-    let nobody = found-receiver e _ c.args.self.now.nodes.items _ _ _ c.receiver_of.ensures c.envelope.ensures c.deref-2.ensures.value c.in_default-receiver_of.is in
+    let nobody = found-receiver e _ c.args.self.now.nodes.items _ _ _ c.receiver_of.ensures c.envelope.ensures.same c.deref-2.ensures.value c.in_default-receiver_of.is in
     dead-delivery (state_of c.args.self.now) c.args.number e _ packet (sym c.is_full-is_full.ensures ∙ c.if-is_full.false) nobody refl c.next_packet.ensures c.next_packet.type_inv c.empty.ensures
 
 pub returns-clause-scenes : goal.returns-clause-scenes
 returns-clause-scenes c =
     let e = c.in-Some.packet.now in
     let nodes = c.args.self.now.nodes.items in
-    let reached = found-receiver e _ nodes _ _ _ c.receiver_of.ensures c.envelope.ensures c.deref-2.ensures.value c.in-Some-receiver_of.is in
+    let reached = found-receiver e _ nodes _ _ _ c.receiver_of.ensures c.envelope.ensures.same c.deref-2.ensures.value c.in-Some-receiver_of.is in
     let within = receiver-within e nodes c.in-Some-receiver_of.index reached in
     let w = state_of c.args.self.now in
     let index = c.in-Some-receiver_of.index in
     let m = c.receive.new.self in
     let packet : numbered c.args.self.now.packets.items c.args.number ≡ Some e =
     sym (ap (λ (ps : List Envelope). numbered ps c.args.number) c.deref.ensures.value) ∙ sym c.in-Some.ensures in
-    same-answer _ _ _ _ _ (delivery w c.args.number e c.envelope-2.result.now index packet (sym c.is_full-is_full.ensures ∙ c.if-is_full.false) reached c.envelope-2.ensures)
+    same-answer _ _ _ _ _ (delivery w c.args.number e c.envelope-2.result.now index packet (sym c.is_full-is_full.ensures ∙ c.if-is_full.false) reached c.envelope-2.ensures.same)
     (kept-scenes w (record w { nodes = states (set nodes index m) }) _ index (Packet c.envelope-2.result.now) c.index_mut.result.now.state m.state c.in_ok-actions.actions _
     (state-at nodes index c.index_mut.result.now within c.index_mut.ensures.value)
     c.in_ok-actions.ensures.ok.state_after c.in_ok-actions.ensures.ok.actions_done

@@ -5,9 +5,12 @@ use Rattle.ak_world.specs.WorldContracts.{state_of, states}
 use Rattle.ak_world.proofs.WorldLemmas.{state-at, state-set, set-states, kept-scenes}
 use Rattle.ak_world.proofs.world.Scene.give.Goals as goal
 
-pub step-requires : goal.step-requires
-step-requires c =
+pub step-requires-clause-steps : goal.step-requires-clause-steps
+step-requires-clause-steps c =
     c.requires.ready.few_steps c.args.index c.index_mut.result.now.state (state-at c.args.self.now.nodes.items c.args.index c.index_mut.result.now c.requires.index c.index_mut.ensures.value)
+
+pub step-requires-clause-comes : goal.step-requires-clause-comes
+step-requires-clause-comes c = c.requires.comes
 
 pub keep-requires-clause-index : goal.keep-requires-clause-index
 keep-requires-clause-index c =

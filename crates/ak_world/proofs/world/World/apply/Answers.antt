@@ -1,6 +1,7 @@
 use Rattle.std.proofs.Common.{◌≡◌, false, ◌<◌, ◌≤◌, ◌^◌, ◌++◌, ◌∷◌, [], List, length, sym, subst, ap, ◌∙◌, arith}
 use Rattle.std.proofs.lemmas.Grind.{common_steps}
 use Rattle.ak_schedule.specs.declared.event.Event.{Event}
+use Rattle.ak_schedule.specs.Settings.{SettingsModel}
 use Rattle.ak_world.specs.World.{WorldState, run}
 use Rattle.ak_world.specs.WorldContracts.{WorldModel, IsReady, state_of}
 use Rattle.ak_world.proofs.FoldRuns.{folds-of_run, views_at_times}
@@ -11,6 +12,7 @@ use Rattle.ak_world.proofs.InRunLemmas.{serve-of_run, confirmed-of_run, alone-of
 use Rattle.ak_world.proofs.Noted.{noted_in_order}
 use Rattle.ak_world.proofs.SettledRuns.{in_line, noted-of_run}
 use Rattle.ak_world.proofs.MarginRuns.{went_margin}
+use Rattle.ak_world.proofs.OneActiveRuns.{finished-of_run, one_active-of_run}
 use Rattle.ak_world.proofs.WorldLemmas.{ready_run, few_run, length-states, run-went, at-ok}
 use Rattle.ak_world.proofs.world.World.apply.Goals as goal
 
@@ -160,3 +162,33 @@ pub returns-in-Err-Invalid-clause-noted : goal.returns-in-Err-Invalid-clause-not
 returns-in-Err-Invalid-clause-noted c =
     let is_run : c.self.inside.is_spent ≡ false → state_of c.happens.new.self ≡ run c.happens.new.self.settings c.self.inside.accepted.items = grind (arith, common_steps) in
     λ alive. noted-of_run c.happens.new.self.settings c.self.inside.accepted.items (state_of c.happens.new.self) (is_run alive)
+
+pub returns-then-self-clause-one_active : goal.returns-then-self-clause-one_active
+returns-then-self-clause-one_active c = one_active-of_run _ _ (subst (λ (w : WorldModel). 1 ≤ w.settings.margin) c.self.view_is c.invariant.ensures.margin.from)
+
+pub returns-then-self-clause-finished : goal.returns-then-self-clause-finished
+returns-then-self-clause-finished c = finished-of_run _ _ (subst (λ (w : WorldModel). 1 ≤ w.settings.margin) c.self.view_is c.invariant.ensures.margin.from)
+
+pub returns-then-is_ok-clause-one_active : goal.returns-then-is_ok-clause-one_active
+returns-then-is_ok-clause-one_active c = one_active-of_run _ _ (subst (λ (s : SettingsModel). 1 ≤ s.margin) (sym c.happens.ensures.settings) c.invariant.ensures.margin.from)
+
+pub returns-then-is_ok-clause-finished : goal.returns-then-is_ok-clause-finished
+returns-then-is_ok-clause-finished c = finished-of_run _ _ (subst (λ (s : SettingsModel). 1 ≤ s.margin) (sym c.happens.ensures.settings) c.invariant.ensures.margin.from)
+
+pub returns-else-is_ok-clause-one_active : goal.returns-else-is_ok-clause-one_active
+returns-else-is_ok-clause-one_active c = one_active-of_run _ _ (subst (λ (s : SettingsModel). 1 ≤ s.margin) (sym c.happens.ensures.settings) c.invariant.ensures.margin.from)
+
+pub returns-else-is_ok-clause-finished : goal.returns-else-is_ok-clause-finished
+returns-else-is_ok-clause-finished c = finished-of_run _ _ (subst (λ (s : SettingsModel). 1 ≤ s.margin) (sym c.happens.ensures.settings) c.invariant.ensures.margin.from)
+
+pub returns-in-Err-NoMemory-clause-one_active : goal.returns-in-Err-NoMemory-clause-one_active
+returns-in-Err-NoMemory-clause-one_active c = one_active-of_run _ _ (subst (λ (s : SettingsModel). 1 ≤ s.margin) (sym c.happens.ensures.settings) c.invariant.ensures.margin.from)
+
+pub returns-in-Err-NoMemory-clause-finished : goal.returns-in-Err-NoMemory-clause-finished
+returns-in-Err-NoMemory-clause-finished c = finished-of_run _ _ (subst (λ (s : SettingsModel). 1 ≤ s.margin) (sym c.happens.ensures.settings) c.invariant.ensures.margin.from)
+
+pub returns-in-Err-Invalid-clause-one_active : goal.returns-in-Err-Invalid-clause-one_active
+returns-in-Err-Invalid-clause-one_active c = one_active-of_run _ _ (subst (λ (s : SettingsModel). 1 ≤ s.margin) (sym c.happens.ensures.settings) c.invariant.ensures.margin.from)
+
+pub returns-in-Err-Invalid-clause-finished : goal.returns-in-Err-Invalid-clause-finished
+returns-in-Err-Invalid-clause-finished c = finished-of_run _ _ (subst (λ (s : SettingsModel). 1 ≤ s.margin) (sym c.happens.ensures.settings) c.invariant.ensures.margin.from)
