@@ -1,0 +1,223 @@
+import sys, copy
+from rules import *
+U = {('a', 1): 'a_1', ('b', 1): 'b_1', ('c', 1): 'c_1'}
+
+def u(x):
+    return U[x]
+
+def lst0(xs):
+    return '[]' if not xs else ' ∷ '.join(xs) + ' ∷ []'
+
+def lst(xs):
+    return '[]' if not xs else '(' + lst0(xs) + ')'
+
+def counts(v):
+    return lst(['(%s, %d)' % (u(k), c) for k, c in v.items()])
+
+def standing(v):
+    return 'Member %s %d' % (v[1], v[2]) if v[0] == 'M' else 'Buried %s' % ('true' if v[1] else 'false')
+
+def standings(st):
+    return lst(['(%s, %s)' % (u(k), standing(v)) for k, v in st.items()])
+
+def procs(s):
+    return lst([u(k) for k in s])
+
+def ballot(b):
+    return 'ballot %d %s' % (b[0], u(b[1]))
+
+def some(x, f):
+    return 'None' if x is None else 'Some (%s)' % f(x)
+
+def par(x):
+    return x if x.startswith('(') or ' ' not in x else '(%s)' % x
+MESSAGES = set()
+
+class Gen:
+
+    def __init__(s, settings, quorum, nodes):
+        s.settings = settings
+        s.q = quorum
+        s.nodes = nodes
+        s.known = {}
+        s.out = []
+        s.world = []
+        s.st = [Sim(quorum, []).started(x) for x in nodes]
+        s.nm = ['started %s %s' % (u(x), settings) for x in nodes]
+        s.packets = []
+        s.pnames = {}
+
+    def key(s, g):
+        return (tuple(g['version'].items()), tuple(g['standings'].items()))
+
+    def gossip(s, g):
+        return '%s %s' % (s.known[s.key(g)], procs(g['seen']))
+
+    def name_known(s, g, k):
+        kk = s.key(g)
+        if kk not in s.known and g['version']:
+            n = 'known_%d' % k
+            s.known[kk] = n
+            s.out.append('abbrev %s : List UniqueModel → GossipState\n%s = gossip_of %s %s\n' % (n, n, counts(g['version']), standings(g['standings'])))
+
+    def settled(s, sv):
+        if sv is None:
+            return 'unsettled'
+        return 'settled_as (%s [])' % s.known[tuple(sv['version'].items()), tuple(sv['standings'].items())]
+
+    def msg(s, m):
+        k = m[0]
+        if k in ('Welcome', 'Gossip'):
+            return 'message.%s (%s)' % (k, s.gossip(m[1]))
+        if k == 'Ask':
+            return 'message.Ask (%s)' % ballot(m[1])
+        if k == 'Granted':
+            return 'message.Granted (%s) (table %s) []' % (ballot(m[1]), counts(m[2]))
+        if k == 'Release':
+            return 'message.Release (%s) (table %s)' % (ballot(m[1]), counts(m[2]))
+        return 'message.' + k
+
+    def env(s, p):
+        if p['uid']:
+            return 'packet %s %s %s' % (u(p['frm']), u((p['to'], 1)), par(s.msg(p['msg'])))
+        return 'record { from = %s; to = at_%s; uid = 0; message = %s }' % (u(p['frm']), p['to'], s.msg(p['msg']))
+
+    def effect(s, e):
+        if e[0] == 'Joined':
+            return 'Joined %s' % u(e[1])
+        if e[0] == 'Rise':
+            return 'Rise %s %s %d' % (u(e[1]), e[2], e[3])
+        return 'Removed %s true' % u(e[1])
+
+    def act(s, a):
+        if a[0] == 'Send':
+            i = id(a[1])
+            if i in s.pnames:
+                return 'Send %s' % s.pnames[i]
+            return 'Send (%s)' % s.env(a[1])
+        if a[0] == 'Update':
+            return 'Update %d %s' % (a[1], lst([s.effect(e) for e in a[2]]))
+        if a[0] in ('Active', 'Ended'):
+            return '%s %d' % (a[0], a[1])
+        return a[0]
+    MEM = [('gossip', lambda s, n: s.gossip(n['gossip'])), ('shown', lambda s, n: 'table ' + counts(n['shown'])), ('founder', lambda s, n: str(n['founder']).lower()), ('target', lambda s, n: 'Some at_%s' % n['target'] if n['target'] else 'None'), ('ticks', lambda s, n: str(n['ticks'])), ('stable', lambda s, n: str(n['stable'])), ('moved', lambda s, n: str(n['moved']).lower()), ('detector', lambda s, n: 'table ' + counts(n['detector'])), ('confirmed', lambda s, n: 'set ' + procs(n['confirmed'])), ('settled', lambda s, n: s.settled(n['settled']))]
+    SIN = [('phase', lambda s, n: 'phase.' + n['phase']), ('live', lambda s, n: some(n['live'], ballot)), ('granted', lambda s, n: 'set ' + procs(n['granted'])), ('floor', lambda s, n: 'table ' + counts(n['floor']))]
+
+    def mem(s, old, new):
+        return ['%s = %s' % (k, fn(s, new)) for k, fn in s.MEM if old[k] != new[k]]
+
+    def sin(s, old, new):
+        f = []
+        if old['promise'] != new['promise']:
+            p = new['promise']
+            f.append('promise = record { last = %s; released = %s; floor = table %s }' % (some(p['last'], ballot), str(p['released']).lower(), counts(p['floor'])))
+        return f + ['%s = %s' % (k, fn(s, new)) for k, fn in s.SIN if old[k] != new[k]]
+
+    def diff(s, old, new, base, membership=None):
+        f = []
+        m = s.mem(old, new)
+        if membership:
+            f.append('membership = ' + membership)
+        elif m:
+            f.append('membership = record %s.membership { %s }' % (base, '; '.join(m)))
+        t = s.sin(old, new)
+        if t:
+            f.append('singleton = record %s.singleton { %s }' % (base, '; '.join(t)))
+        if old['runs'] != new['runs']:
+            f.append('runs = ' + str(new['runs']).lower())
+        if old['steps'] != new['steps']:
+            f.append('steps = %d' % new['steps'])
+        return base if not f else 'record %s { %s }' % (base, '; '.join(f))
+
+    def event(s, k, e, delivered):
+        packet = None
+        if e[0] == 'D':
+            p = s.packets[e[1] - 1]
+            i = [j for j, x in enumerate(s.nodes) if x[0] == p['to']][0]
+            packet = s.pnames[id(p)]
+            ev = '(event.Packet %s)' % packet
+        else:
+            i = e[1]
+            ev = 'event.' + e[2]
+            if e[3] is not None:
+                ev = '(%s %s)' % (ev, e[3])
+        old = s.st[i]
+        base = par(s.nm[i])
+        n = copy.deepcopy(old)
+        n['steps'] += 1
+        me = u(n['me'])[0]
+        now = '%s_%d' % (me, k)
+        istick = e[0] == 'N' and e[2] == 'Tick'
+        if istick:
+            ch = mtick(n, s.q)
+            m = copy.deepcopy(n)
+            beats = [to(n, w, ('Heartbeat',)) for w in n['detector']]
+            upd = [('Update', ch[0], ch[1])] if ch[0] else []
+            does = goes_on(n, int(e[3]), s.q)
+            first = beats + upd + does
+        elif e[0] == 'N':
+            if e[2] == 'Found':
+                n['founder'] = True
+                c = update(n, [('Joined', n['me'])])
+                first = [('Update', c, [('Joined', n['me'])])]
+            elif e[2] == 'Join':
+                n['target'] = e[3][-1]
+                first = [to_addr(n, e[3][-1], ('Join',))]
+            elif e[2] == 'Leave':
+                c = update(n, [('Rise', n['me'], 'Leaving', 0)])
+                first = [('Update', c, [('Rise', n['me'], 'Leaving', 0)])]
+        else:
+            first = on_packet(n, p)
+        ruled = copy.deepcopy(n)
+        second = closes(n, s.q)
+        closed = copy.deepcopy(n)
+        third = activates(n)
+        base_count = len(s.packets)
+        for a in first:
+            if a[0] == 'Send':
+                s.packets.append(a[1])
+        L = s.out
+        L.append('-- ---- %d' % k)
+        s.name_known(ruled['gossip'], k)
+        num = base_count
+        for a in first:
+            if a[0] == 'Send':
+                num += 1
+                if num in delivered:
+                    s.pnames[id(a[1])] = 'packet_%d' % num
+                    L.append('abbrev pub packet_%d : Envelope\npacket_%d = %s\n' % (num, num, s.env(a[1])))
+        if istick:
+            L.append('abbrev ticked_%d : MembershipState\nticked_%d = record %s.membership { %s }\n' % (k, k, base, '; '.join(s.mem(old, m))))
+            change = '(record { number = %s; effects = %s; reply = Nothing })' % ('Some %d' % ch[0] if ch[0] else 'None', lst0([s.effect(x) for x in ch[1]]))
+        changed = s.mem(ruled, closed) or ruled['runs'] != closed['runs'] or third
+        rb = s.diff(old, ruled, base, 'ticked_%d' % k if istick else None)
+        if changed:
+            L.append('abbrev ruled_%d : State\nruled_%d = %s\n' % (k, k, rb))
+            rn = 'ruled_%d' % k
+        else:
+            rn = now
+            L.append('abbrev pub %s : State\n%s = %s\n' % (now, now, rb))
+        cl = s.diff(ruled, closed, rn)
+        cn = now
+        if third:
+            if cl != rn:
+                L.append('abbrev closed_%d : State\nclosed_%d = %s\n' % (k, k, cl))
+                cn = 'closed_%d' % k
+            else:
+                cn = rn
+            L.append('abbrev pub %s : State\n%s = %s\n' % (now, now, s.diff(closed, n, cn)))
+        elif changed:
+            L.append('abbrev pub %s : State\n%s = %s\n' % (now, now, cl))
+        f, se, th = [lst([s.act(a) for a in x]) for x in (first, second, third)]
+        L.append('abbrev pub does_%d : List Action\ndoes_%d = %s\n' % (k, k, lst0([s.act(a) for a in first + second + third])))
+        L.append('pub step_%d : step %s %s ≡ (%s, does_%d)' % (k, ev, base, now, k))
+        L.append('unfolding covers merged_tables union')
+        if istick:
+            rule = '(in_ticks %s (record %s { steps = %d }) %s ticked_%d %s %s %s (simp listed) (simp listed) (simp listed) (simp listed))' % (e[3], base, n['steps'], rn, k, change, lst([s.act(a) for a in beats]), lst([s.act(a) for a in does]))
+        else:
+            rule = '(simp listed)'
+        act = 'refl' if closed['phase'] != 'Asking' or not closed['runs'] else '(simp listed)'
+        L.append('step_%d =\n    in_stages %s %s %s %s %s %s %s %s refl refl\n    %s\n    (simp listed)\n    %s\n' % (k, ev, base, rn, cn, now, f, se, th, rule, act))
+        s.st[i] = n
+        s.nm[i] = now
+        return (i, now, first + second + third)
