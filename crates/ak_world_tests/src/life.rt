@@ -55,18 +55,18 @@ static LEAVES: [Life; 21] = [
     Life("deliver 8", Some(1), LEAVING, false),
     Life("tick a:1#1 0", Some(0), EXITING, false),
     Life("deliver 7", Some(0), EXITING, false),
-    Life("deliver 10", Some(1), EXITING, false),
+    Life("deliver 11", Some(1), EXITING, false),
     Life("tick b:1#1 0", Some(1), EXITING, true),
-    Life("deliver 13", Some(0), EXITING, true),
+    Life("deliver 14", Some(0), EXITING, true),
     Life("tick a:1#1 0", Some(0), REMOVED, true),
     Life("deliver 10", None, REMOVED, true),
     Life("start b:1#2", Some(2), REMOVED, true),
     Life("join b:1#2 a:1", Some(2), REMOVED, true),
-    Life("deliver 15", Some(0), REMOVED, true),
-    Life("deliver 16", Some(2), REMOVED, true),
+    Life("deliver 17", Some(0), REMOVED, true),
+    Life("deliver 18", Some(2), REMOVED, true),
     Life("start c:1#1", Some(3), REMOVED, true),
     Life("join c:1#1 b:1", Some(3), REMOVED, true),
-    Life("deliver 18", Some(2), REMOVED, true),
+    Life("deliver 20", Some(2), REMOVED, true),
 ];
 
 // b stops at once. Its successor asks to join, and so a learns that b has stopped: it goes Down, and the successor waits.
