@@ -237,6 +237,16 @@ becomes_active b n = (keeping (singleton.after_activation b n.singleton) n, if b
 abbrev pub activates : State → Outcome
 activates n = becomes_active (n.runs && singleton.may_activate (me_of n) (settled_of n) (margin_of n) n.singleton) n
 
+-- the ballot with which a node that runs is active
+abbrev pub active_in : Phase → Option BallotModel → Option BallotModel
+active_in phase.TheVariants.Younger live = None
+active_in phase.TheVariants.Asking live = None
+active_in phase.TheVariants.Active live = live
+active_in phase.TheVariants.Ended live = None
+
+abbrev pub active : State → Option BallotModel
+active n = if n.runs then active_in n.singleton.phase n.singleton.live else None
+
 -- what the node reports of its shards (none yet: shards are not built)
 abbrev pub reports_of : State → List Report
 reports_of n = []

@@ -1,4 +1,4 @@
-ghost use Rattle.std.specs.Prelude.{◌≡◌, ◌≤◌, ◌++◌, ◌∷◌, [], IfOk, OnOk, IsTrue, Some, is_some, nat_le};
+ghost use Rattle.std.specs.Prelude.{◌≡◌, ◌≤◌, ◌++◌, ◌∷◌, [], IfOk, OnOk, IsTrue, Some, is_some, nat_le, option_copied};
 ghost use Rattle.std.specs.FinMap as finmap;
 ghost use Rattle.ak_address.specs.Uniques.{in_order};
 ghost use Rattle.ak_promise.specs.Promise.{is_some_ballot};
@@ -222,6 +222,21 @@ impl State {
         match self.singleton.live() {
             Some(live) => actions.push(Action::Active(live.term)),
             None => Ok(()),
+        }
+    }
+
+    // The ballot with which it is active, where it runs.
+    pub(crate) fn active(&self) -> Option<&Ballot>
+        ensures { option_copied result ≡ rules.active self.now }
+    {
+        if !self.runs {
+            return None;
+        }
+        match self.singleton.phase() {
+            Phase::Younger => None,
+            Phase::Asking => None,
+            Phase::Active => self.singleton.live(),
+            Phase::Ended => None,
         }
     }
 

@@ -1,4 +1,4 @@
-ghost use Rattle.std.specs.Prelude.{◌≡◌, ◌<◌, ◌≤◌, ◌^◌, ◌++◌, ◌∷◌, [], not, true, false, IfOk, OnOk, OnErr};
+ghost use Rattle.std.specs.Prelude.{◌≡◌, ◌<◌, ◌≤◌, ◌^◌, ◌++◌, ◌∷◌, [], not, true, false, IfOk, OnOk, OnErr, option_copied};
 ghost use Rattle.ak_member.specs.Standing.{is_exiting};
 ghost use Rattle.ak_membership.specs.Membership as rules_of_membership;
 ghost use Rattle.ak_membership.specs.MembershipContracts.{IsWatching};
@@ -11,6 +11,7 @@ ghost use Rattle.ak_node.specs.NodeContracts.{Does, IsSameProcess, IsLeftOver, I
 use ak_address::{Address, Unique};
 use ak_gossip::Gossip;
 use ak_membership::{Change, Closing, MemberFault, Membership, Reply};
+use ak_promise::Ballot;
 use ak_schedule::Settings;
 use ak_settled::Settled;
 use ak_singleton::Singleton;
@@ -752,5 +753,13 @@ impl Node {
         ensures { result.now ≡ self.now.state.membership.settled }
     {
         self.state.membership.settled()
+    }
+
+    /// The ballot with which it is the active singleton: from the step that told `Active` on, until one tells that it ended or
+    /// stopped; none exactly where it is not (Akka's "Cluster Singleton"). Takes no memory.
+    pub fn active(&self) -> Option<&Ballot>
+        ensures { option_copied result ≡ rules.active self.now.state }
+    {
+        self.state.active()
     }
 }

@@ -171,10 +171,21 @@ fn refuses_what_is_over(alloc: Global, world: &mut World) -> Result<bool, Fail>
     Ok(stopped && used && taken)
 }
 
+// The founder is the active singleton with its first ballot, and b, which has stopped, is not.
+fn founder_is_active(world: &World) -> bool {
+    let (Some(founder), Some(other)) = (world.node(0), world.node(1)) else {
+        return false;
+    };
+    match founder.active() {
+        Some(ballot) => ballot.term == 1 && other.active().is_none(),
+        None => false,
+    }
+}
+
 pub(crate) fn leaves(alloc: Global, world: &mut World) -> Result<bool, Fail>
     requires { length world.old.events < 10 }
 {
-    if all_go_in(alloc, world, &LEAVES)? {
+    if all_go_in(alloc, world, &LEAVES)? && founder_is_active(world) {
         return refuses_what_is_over(alloc, world);
     }
     Ok(false)
