@@ -32,6 +32,7 @@ impl<'a, R: Net> UdpLink<'a, R> {
     pub fn new(rt: &'a R) -> Self
         ensures faults { ⟦<UdpLink<'a, R> as Link>⟧.faults result ≡ 0 }
         ensures losses { ⟦<UdpLink<'a, R> as Link>⟧.losses result ≡ 0 }
+        ensures unbound { result.socket ≡ None }
     {
         UdpLink {
             runtime: rt,
@@ -55,8 +56,10 @@ impl<'a, R: Net> UdpLink<'a, R> {
         self.loss_count
     }
 
-    /// The port that it has, where it is bound and the system says it.
-    pub fn port(&self) -> Option<u16> {
+    /// The port that it has, where it is bound and the system says it. None where it was never bound.
+    pub fn port(&self) -> Option<u16>
+        ensures { self.now.socket ≡ None → result ≡ None }
+    {
         match &self.socket {
             Some(socket) => match socket.local_addr() {
                 Ok(address) => Some(address.port()),

@@ -1,5 +1,5 @@
 // The system's clock, at the edge. What is trusted: that the runtime gives the time since some start, which never goes back.
-ghost use Rattle.std.specs.Prelude.{None};
+ghost use Rattle.std.specs.Prelude.{◌≡◌, None};
 
 use crate::clock::Clock;
 use std::time;
@@ -13,8 +13,11 @@ pub struct StdClock<'a, R: time::Clock> {
 }
 
 impl<'a, R: time::Clock> StdClock<'a, R> {
-    /// The clock as the runtime has it.
-    pub fn new(rt: &'a R) -> Self {
+    /// The clock as the runtime has it. Until the system has given a reading it reads 0.
+    pub fn new(rt: &'a R) -> Self
+        ensures runtime { result.runtime.now ≡ rt.now }
+        ensures last { result.last ≡ 0 }
+    {
         StdClock {
             runtime: rt,
             last: 0,

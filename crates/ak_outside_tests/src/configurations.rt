@@ -179,6 +179,69 @@ fn configurations_have_their_first_fault(rt: HostRuntime) -> Result<(), Fail> {
     Ok(())
 }
 
+// A document, and what its first fault shows.
+static SHOWN: [(&str, &str); 8] = [
+    ("self", "C1"),
+    ("", "C2"),
+    ("z = 1", "C3"),
+    ("self = 1", "C4"),
+    ("self = \"a:1\"\nuid = 0", "C5"),
+    ("self = \"a\"", "C6"),
+    (
+        "self = \"b:1\"\nuid = 1\nlisted = [\"a:1\"]\nstrategy = \"down-all\"",
+        "C7",
+    ),
+    (
+        "self = \"a:1\"\nuid = 1\nlisted = [\"a:1\", \"a:1\"]\nstrategy = \"down-all\"",
+        "C8",
+    ),
+];
+
+fn shows(alloc: Global, fault: &ConfigFault, code: &str) -> Result<bool, AllocError> {
+    Ok(format!(in alloc; "{fault}")?.as_str() == code)
+}
+
+fn all_show(alloc: Global, cases: &[(&str, &str)]) -> Result<bool, AllocError> {
+    'cases: for (document, code) in cases {
+        match read_config(alloc, document.as_bytes()) {
+            Ok(_) => return Ok(false),
+            Err(fault) => {
+                if !shows(alloc, &fault, code)? {
+                    return Ok(false);
+                }
+            }
+        }
+    }
+    Ok(true)
+}
+
+#[test]
+fn faults_show_their_codes(rt: HostRuntime) -> Result<(), Fail> {
+    assert!(rt; all_show(rt.alloc(), &SHOWN)?);
+    assert!(rt; shows(rt.alloc(), &ConfigFault::NoMemory, "memory")?);
+    Ok(())
+}
+
+// A document that lists so many addresses, its own first.
+fn listing(alloc: Global, count: u16) -> Result<String, AllocError> {
+    let mut document = format!(in alloc;
+        "self = \"a:1\"\nuid = 1\nstrategy = \"down-all\"\nlisted = ["
+    )?;
+    'ports: for port in 1..=count {
+        document.push_str(format!(in alloc; "\"a:{port}\",")?.as_str())?;
+    }
+    document.push_str("]\n")?;
+    Ok(document)
+}
+
+#[test]
+fn as_many_as_32_addresses_are_listed(rt: HostRuntime) -> Result<(), Fail> {
+    let alloc = rt.alloc();
+    assert!(rt; is_answered(alloc, listing(alloc, 32)?.as_bytes(), "", ""));
+    assert!(rt; is_answered(alloc, listing(alloc, 33)?.as_bytes(), "C5", "listed"));
+    Ok(())
+}
+
 fn has_defaults(config: &Config) -> bool {
     let settings = &config.settings;
     let times = settings.margin == 20 && settings.deadline == 5 && settings.stable == 20;

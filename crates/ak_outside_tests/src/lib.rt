@@ -1,4 +1,4 @@
-//! The outside of a real node: its configuration, its folder, link and clock, and envelopes over a link.
+//! The outside of a real node: its command line, its configuration, its folder, link and clock, and envelopes over a link.
 #![tactic(auto)]
 
 #[cfg(test)]
@@ -7,5 +7,7 @@ mod configurations;
 mod edges;
 #[cfg(test)]
 mod envelopes;
+#[cfg(test)]
+mod options;
 #[cfg(test)]
 mod sockets;

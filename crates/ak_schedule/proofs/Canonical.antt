@@ -2,9 +2,10 @@
 use Rattle.std.proofs.Common.{◌≡◌, ℕ, ◌+◌, ◌-◌, ◌^◌, ◌<◌, ◌≤◌, Bool, true, false, not, ◌==◌, List, [], ◌∷◌, ◌++◌, length, codes, ◌∙◌, ap, refl, arith, append_assoc, length-append}
 use Rattle.std.specs.Prelude.{decimal}
 use Rattle.std.specs.List.{list_all}
-use Rattle.std.proofs.lemmas.List.Elements.{All-weaker, All-from_recursion}
+use Rattle.std.proofs.lemmas.List.Elements.{All-weaker}
 use Rattle.std.proofs.lemmas.List.Sums.{AllPass-from_list_all}
 use Rattle.std.proofs.lemmas.Bool.Decides.{nat_tests}
+use Rattle.ak_field.specs.Ranges.{is_entity_byte, IsEntity}
 use Rattle.ak_address.specs.Unique.{AddressModel, UniqueModel, IsUnique, IsAddress}
 use Rattle.ak_address.specs.Spelling.{IsWord, address_text, unique_text}
 use Rattle.ak_address.proofs.SpellingLemmas.{number_word, address_word, unique_word, number_text_spells, address_text_spells, unique_text_spells}
@@ -14,7 +15,7 @@ use Rattle.ak_schedule.specs.declared.kind.Kind as kind
 use Rattle.ak_schedule.specs.Line.{words, begins, most_bytes}
 use Rattle.ak_schedule.specs.Kind.{kind_name}
 use Rattle.ak_schedule.proofs.LineParts.{IsPlain, next_words, one_word}
-use Rattle.ak_schedule.specs.Schedule.{SpellsEvent, SpellsWords, SpellsNumber, IsEntity, IsEvent, IsSpelled, event_text}
+use Rattle.ak_schedule.specs.Schedule.{SpellsEvent, SpellsWords, SpellsNumber, IsEvent, IsSpelled, event_text}
 
 no_space : (b : ℕ) → 32 < b → (b == 32) ≡ false
 no_space b above = grind (arith, nat_tests)
@@ -29,11 +30,13 @@ plain_word word is = record {
   letters = All-weaker (λ b. (32 < b) × (b < 127)) (λ b. (b == 32) ≡ false) (λ b within. no_space b within.0) word is.1;
 }
 
+from_first : (b : ℕ) → is_entity_byte b ≡ true → 32 < b
+from_first b printable = grind (arith, nat_tests)
+
 plain_entity : (name : List ℕ) → IsEntity name → IsPlain name
 plain_entity name is = record {
   begun = begun_some name is.not_empty;
-  letters = All-weaker (λ b. (33 ≤ b) × (b ≤ 126)) (λ b. (b == 32) ≡ false) (λ b within. no_space b (omega arith)) name
-      (All-from_recursion (λ b. (33 ≤ b) × (b ≤ 126)) name is.printable);
+  letters = All-weaker (λ b. is_entity_byte b ≡ true) (λ b. (b == 32) ≡ false) (λ b printable. no_space b (from_first b printable)) name (AllPass-from_list_all is_entity_byte name is.printable);
 }
 
 plain_number : (n : ℕ) → n < 2 ^ 64 → IsPlain (decimal n)

@@ -10,6 +10,7 @@ use Rattle.std.proofs.lemmas.Bool.Decides.{leb_tells}
 use Rattle.std.proofs.lemmas.List.Elements.{All-from_recursion, recursion_from_All, All-from_get_or}
 use Rattle.std.proofs.lemmas.List.Kept.{AllPairs-cons}
 use Rattle.std.proofs.lemmas.Slice.Eq.{bytes_eq-Decides}
+use Rattle.ak_field.specs.Ranges.{is_entity_byte, IsEntity}
 use Rattle.ak_address.specs.Unique.{AddressModel, UniqueModel, IsHost, IsAddress, is_host_byte}
 use Rattle.ak_address.specs.Spelling.{SpellsAddress, SpellsUnique, before_byte, after_byte}
 use Rattle.ak_address.proofs.SpellingLemmas.{address_read, address_parts, unique_read, unique_parts}
@@ -20,7 +21,7 @@ use Rattle.ak_schedule.specs.declared.settings.Strategy.{Strategy}
 use Rattle.ak_schedule.specs.declared.settings.Strategy.TheVariants.{StaticQuorum, KeepMajority, DownAll}
 use Rattle.ak_schedule.specs.Line.{words, is_comment, most_bytes, IsPassedOver}
 use Rattle.ak_schedule.specs.Settings.{SettingsModel, IsListing}
-use Rattle.ak_schedule.specs.Schedule.{SpellsNumber, SpellsSetting, SpellsStrategy, SpellsListing, Sets, SetsHeader, IsEntity, SpellsWords, SpellsEvent}
+use Rattle.ak_schedule.specs.Schedule.{SpellsNumber, SpellsSetting, SpellsStrategy, SpellsListing, Sets, SetsHeader, SpellsWords, SpellsEvent}
 use Rattle.ak_schedule.proofs.OneWay.{same_addresses}
 
 -- it holds, or it does not
@@ -121,7 +122,7 @@ entity name =
     alike
     (λ h. record { not_empty = h.0; short = h.1.0; printable = h.1.1 })
     (λ s. (s.not_empty, (s.short, s.printable)))
-    (both (at_most 1 (length name)) (both (at_most (length name) 64) (each (λ b. (33 ≤ b) × (b ≤ 126)) (λ b. both (at_most 33 b) (at_most b 126)) name)))
+    (both (at_most 1 (length name)) (both (at_most (length name) 64) (is_true (list_all is_entity_byte name))))
 
 -- ---- words of an event
 one : {T : Type 0} (P : List ℕ → T → Type 0) → ((word : List ℕ) → Finds (P word)) → (name : List ℕ) (ws : List (List ℕ))

@@ -1,6 +1,7 @@
 -- The grammar of a recorded schedule: nine header lines and then events, one a line (this project's format).
 use Rattle.std.specs.Prelude.{◌≡◌, ℕ, ◌-◌, ◌^◌, ◌<◌, ◌≤◌, List, [], ◌∷◌, ◌++◌, length, codes}
-use Rattle.std.specs.List.{AllZip, AllByRecursion}
+use Rattle.std.specs.List.{AllZip}
+use Rattle.ak_field.specs.Ranges.{IsEntity}
 use Rattle.std.specs.Fmt.{decimal}
 use Rattle.ak_address.specs.Unique.{AddressModel, IsAddress, IsUnique}
 use Rattle.ak_address.specs.Spelling.{IsNumber, SpellsAddress, SpellsUnique, address_text, unique_text}
@@ -67,12 +68,6 @@ SpellsValue header.TheVariants.Limit ws s = SpellsSetting (codes "limit") 1000 w
 -- nine header lines, none of them too long, spell these settings, a line for each in the order of the headers
 abbrev pub SpellsSettings : List (List ℕ) → SettingsModel → Type 0
 SpellsSettings headings s = AllZip (λ which line. (length line ≤ most_bytes) × SpellsValue which (words line) s) headers headings
-
--- what an entity is called: 1 to 64 bytes from `!` to `~`
-pub record IsEntity (name : List ℕ) : Type 0 where
-  pub not_empty : 1 ≤ length name
-  pub short : length name ≤ 64
-  pub printable : AllByRecursion (λ b. (33 ≤ b) × (b ≤ 126)) name
 
 -- the words of an event line
 abbrev pub SpellsWords : List (List ℕ) → Event → Type 0

@@ -1,6 +1,7 @@
 ghost use Rattle.std.specs.Prelude.{◌≡◌, IfOk};
 
-use ak_address::{Address, Text, Unique};
+use ak_address::{Address, Unique};
+use ak_field::EntityId;
 use std::alloc::{AllocError, Global};
 
 /// One event of a schedule. The first unique is the process that acts.
@@ -21,7 +22,7 @@ pub enum Event {
     /// The process is asked to down a member.
     Down(Unique, Unique),
     /// A message for an entity is offered at the process: the entity's id and the payload.
-    Offer(Unique, Text, u64),
+    Offer(Unique, EntityId, u64),
     /// The process stops at once.
     Stop(Unique),
 }

@@ -35,7 +35,7 @@ fn append_event(event: &Event, out: &mut Vec<u8>) -> Result<(), AllocError>
         Event::Down(who, member) => return append_two(b"down ", who, member, out),
         Event::Offer(who, entity, payload) => return append_offer(
             who,
-            entity.bytes(),
+            entity.name().bytes(),
             *payload,
             out,
         ),

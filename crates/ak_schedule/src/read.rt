@@ -1,9 +1,9 @@
-ghost use Rattle.std.specs.Prelude.{◌≡◌, ◌↔◌, ◌+◌, ◌-◌, ◌≤◌, ◌∷◌, IsTrue, MatchOption, All, ℕ};
+ghost use Rattle.std.specs.Prelude.{◌≡◌, ◌↔◌, ◌+◌, ◌-◌, ◌≤◌, ◌∷◌, IsTrue, MatchOption, ℕ};
 ghost use Rattle.ak_address.specs.Spelling.{SpellsAddress, SpellsUnique};
 ghost use Rattle.ak_schedule.specs.Line.{words};
 ghost use Rattle.ak_schedule.specs.Kind.{kind_name};
 ghost use Rattle.ak_schedule.specs.Reading.{Reads, SpellsOne, SpellsTwo};
-ghost use Rattle.ak_schedule.specs.Schedule.{SpellsEvent, SpellsWords, SpellsNumber, IsEntity};
+ghost use Rattle.ak_schedule.specs.Schedule.{SpellsEvent, SpellsWords, SpellsNumber};
 
 use crate::event::Event;
 use crate::fault::LineFault;
@@ -13,13 +13,12 @@ use ak_address::{
     Address, AddressFault, Text, Unique, is_address, is_unique, parse_address, parse_number,
     parse_unique,
 };
+use ak_field::{EntityId, is_entity};
 use std::alloc::Global;
 
 const MOST_TICK_WORD: u64 = 4294967295;
 
 const MOST_NUMBER: u64 = 9223372036854775807;
-
-const MOST_ENTITY_BYTES: usize = 64;
 
 /// The event that the line spells. Refused as `Malformed` exactly where it spells none, whether or not memory would be
 /// found; a line that is passed over spells none. Only memory can fail besides, for a line that spells an event. The
@@ -167,7 +166,7 @@ fn read_offer(alloc: Global, rest: &[u8]) -> Result<Event, LineFault>
     match unique_of(alloc, who) {
         Err(fault) => return Err(fault),
         Ok(who) => match Text::from_bytes(alloc, entity) {
-            Ok(entity) => return Ok(Event::Offer(who, entity, payload)),
+            Ok(name) => return Ok(Event::Offer(who, EntityId::of(name), payload)),
             Err(_) => return Err(LineFault::NoMemory),
         },
     }
@@ -231,22 +230,4 @@ fn number_of(word: &[u8], most: u64) -> Option<u64>
     ensures { MatchOption result ((n : ℕ) → SpellsNumber word.now 0 most n → ⊥) (λ n. SpellsNumber word.now 0 most n) }
 {
     parse_number(word, 0, most)
-}
-
-fn is_entity(word: &[u8]) -> bool
-    ensures { IsTrue result ↔ IsEntity word.now }
-{
-    if word.is_empty() {
-        return false;
-    }
-    if word.len() > MOST_ENTITY_BYTES {
-        return false;
-    }
-    all_printable(word)
-}
-
-fn all_printable(word: &[u8]) -> bool
-    ensures { IsTrue result ↔ All (λ b. (33 ≤ b) × (b ≤ 126)) word.now }
-{
-    word.iter().all(|b| *b >= b'!' && *b <= b'~')
 }

@@ -1,15 +1,20 @@
-//! `akka`: the command line, standard input and standard output, handed to `ak_driver::run`.
+//! `akka`: the command line, the files, the standard streams, a socket and a clock, handed to `ak_driver::run`.
 #![tactic(auto)]
 
 use ak_driver::{exit, run};
-use ak_outside::{StdArguments, StdSink, StdSource};
+use ak_link::UdpLink;
+use ak_outside::{StdArguments, StdClock, StdFolder, StdSink, StdSource};
 use std::process::ExitCode;
 
 fn main(rt: HostRuntime) -> ExitCode {
     exit(run(
+        &rt,
         rt.alloc(),
         &StdArguments::new(&rt),
+        &mut StdFolder::new(&rt),
         &mut StdSource::new(&rt),
         &mut StdSink::new(&rt),
+        &mut UdpLink::new(&rt),
+        &mut StdClock::new(&rt),
     ))
 }

@@ -1,0 +1,4 @@
+pub mod Options
+pub mod Requests
+pub mod CommandLine
+pub mod Answers
