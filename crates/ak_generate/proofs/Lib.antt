@@ -1,0 +1,5 @@
+pub mod CensusKept
+pub mod CensusLemmas
+pub mod EndLemmas
+pub mod GenerateLemmas
+pub mod SeenLemmas

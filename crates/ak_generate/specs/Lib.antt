@@ -1,0 +1,5 @@
+pub mod Fixed
+pub mod Words
+pub mod Generated
+pub mod Generator
+pub mod Census

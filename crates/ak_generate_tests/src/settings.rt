@@ -1,0 +1,42 @@
+use ak_address::parse_address;
+use ak_generate::fixed_settings;
+use ak_schedule::{Settings, Strategy};
+use std::alloc::Global;
+use std::test::Fail;
+
+static LISTED: [&str; 5] = ["n1:1", "n2:1", "n3:1", "n4:1", "n5:1"];
+
+fn is_listed(alloc: Global, settings: &Settings, name: &str) -> Result<bool, Fail> {
+    let address = parse_address(alloc, name.as_bytes())?;
+    Ok(settings.is_listed(&address))
+}
+
+fn lists_five(alloc: Global, settings: &Settings) -> Result<bool, Fail> {
+    'names: for name in &LISTED {
+        if !is_listed(alloc, settings, name)? {
+            return Ok(false);
+        }
+    }
+    Ok(settings.listed.len() == 5)
+}
+
+fn numbers(settings: &Settings) -> [u32; 7] {
+    [
+        settings.margin,
+        settings.deadline,
+        settings.stable,
+        settings.shards,
+        settings.buffer,
+        settings.threshold,
+        settings.limit,
+    ]
+}
+
+#[test]
+fn the_settings_are_fixed(rt: HostRuntime) -> Result<(), Fail> {
+    let settings = fixed_settings(rt.alloc())?;
+    assert!(rt; lists_five(rt.alloc(), &settings)?);
+    assert!(rt; settings.strategy == Strategy::StaticQuorum(3));
+    assert!(rt; numbers(&settings) == [6, 3, 3, 10, 4, 1, 1]);
+    Ok(())
+}

@@ -1,0 +1,10 @@
+//! The lines of many runs, one a seed, by as many workers as are wanted.
+#![tactic(auto)]
+
+mod gate;
+mod line;
+mod workers;
+
+pub use gate::{Gate, OpenGate};
+pub use line::Line;
+pub use workers::{sweep, sweep_one};
