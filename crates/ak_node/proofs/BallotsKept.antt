@@ -1,13 +1,15 @@
 -- Ballots and versions that a node keeps stay in their ranges, and what it has settled fits into a packet.
-use Rattle.std.proofs.Common.{◌≡◌, ℕ, zero, suc, ◌+◌, ◌<◌, ◌≤◌, max, Bool, true, false, not, List, [], ◌∷◌, slice_get, Option, Some, None, is_some, unwrap_or, IfSome, IsTrue, Contains, refl, sym, ap, ◌∙◌, subst, arith, true≢false}
+use Rattle.std.proofs.Common.{◌≡◌, ℕ, zero, suc, ◌+◌, ◌<◌, ◌≤◌, max, Bool, true, false, not, ◌||◌, List, [], ◌∷◌, slice_get, Option, Some, None, is_some, unwrap_or, IfSome, IsTrue, Contains, refl, sym, ap, ◌∙◌, subst, arith, true≢false}
 use Rattle.std.proofs.lemmas.Option.{same_Some}
 use Rattle.std.specs.FinMap as finmap
 use Rattle.std.specs.List.{AllByRecursion}
-use Rattle.ak_address.specs.Unique.{UniqueModel, IsUnique}
-use Rattle.ak_address.specs.Uniques.{UniqueSet, no_one, has, in_order}
+use Rattle.std.specs.Ordering.{eq_by_cmp}
+use Rattle.ak_sharding.specs.Ranges.{AreUniques}
+use Rattle.ak_address.specs.Unique.{UniqueModel, IsUnique, unique_cmp}
+use Rattle.ak_address.specs.Uniques.{UniqueSet, no_one, with_one, has, in_order}
 use Rattle.ak_address.proofs.Elements.{index_of}
-use Rattle.ak_address.proofs.TableLaws.{get_at, index_of_get}
-use Rattle.ak_address.proofs.UniquesLaws.{has-no_one, has-those, has_at}
+use Rattle.ak_address.proofs.TableLaws.{get_at, index_of_get, same_key}
+use Rattle.ak_address.proofs.UniquesLaws.{has-no_one, has-with_one, has-those, has_at}
 use Rattle.ak_clock.specs.declared.version.TheConstants.{BOUND}
 use Rattle.ak_clock.specs.Version.{Counts, count, merged}
 use Rattle.ak_clock.proofs.VersionLaws.{count-empty, count-merged, empty_is_version, merged_is_version, stored_count}
@@ -21,7 +23,7 @@ use Rattle.ak_member.specs.declared.standing.Standing.{Standing}
 use Rattle.ak_promise.specs.declared.promise.Answer.{Answer}
 use Rattle.ak_promise.specs.declared.promise.Answer.TheVariants as given
 use Rattle.ak_promise.specs.Ballot.{BallotModel, IsBallot}
-use Rattle.ak_promise.specs.Promise.{bound, asked, after_ask, answer_to, freed, freed_after, is_last, after_release, released_by}
+use Rattle.ak_promise.specs.Promise.{asked, after_ask, answer_to, freed, freed_after, is_last, after_release, released_by}
 use Rattle.ak_settled.specs.SettledView.{SettledView}
 use Rattle.ak_settled.specs.Settled.{version_of, standings_of, needed}
 use Rattle.ak_settled.proofs.SettledLaws as settled
@@ -98,41 +100,47 @@ known_fits g is names = (
     by_value q None at there = absurd (true≢false (sym there))
     by_value q (Some n) at there = subst (λ k. 1 ≤ k) (sym (ap (λ o. unwrap_or o 0) at)) (stored_count g.version q n is.version at).0
 
+-- ---- sets
+none_in : AreUniques no_one
+none_in who is = absurd (true≢false (sym is ∙ has-no_one who))
+
+one_in : (s : UniqueSet) (one : UniqueModel) → IsUnique one → AreUniques s → AreUniques (with_one s one)
+one_in s one is all who there = by_test (eq_by_cmp unique_cmp who one) refl (sym (has-with_one s one who) ∙ there)
+  where
+    by_test : (b : Bool) → eq_by_cmp unique_cmp who one ≡ b → (b || has s who) ≡ true → IsUnique who
+    by_test true same h = subst IsUnique (sym (same_key who one same)) is
+    by_test false apart h = all who h
+
 -- ---- what is kept of the singleton
 module _ (s : SingletonModel) (k : KeepsBallots s) where
-  -- another promise with a ballot in its ranges
-  promised : (b : BallotModel) → IsBallot b → (o : Option BallotModel) → ((c : BallotModel) → o ≡ Some c → IsBallot c) → (ph : Phase) (granted : UniqueSet) (floor : Counts)
-      → KeepsBallots (record { promise = bound b s.promise; phase = ph; live = o; granted = granted; floor = floor })
-  promised b is o live ph granted floor = record { last = λ c at. subst IsBallot (same_Some b c at) is; live = live; floor = k.floor }
-
-  freed_kept : (v : Counts) → IsCounted v → (ph : Phase) (granted : UniqueSet) (floor : Counts) → KeepsBallots (record { promise = freed v s.promise; phase = ph; live = None; granted = granted; floor = floor })
-  freed_kept v counted ph granted floor = by_last s.promise.last refl
+  freed_kept : (v : Counts) → IsCounted v → (ph : Phase) (floor : Counts) → KeepsBallots (record { promise = freed v s.promise; phase = ph; live = None; granted = no_one; floor = floor })
+  freed_kept v counted ph floor = by_last s.promise.last refl
     where
       no_live : (c : BallotModel) → None ≡ Some c → IsBallot c
       no_live c none = absurd (true≢false (sym (ap is_some none)))
 
-      by_last : (o : Option BallotModel) → s.promise.last ≡ o → KeepsBallots (record { promise = freed_after o v s.promise; phase = ph; live = None; granted = granted; floor = floor })
-      by_last None at = record { last = k.last; live = no_live; floor = k.floor }
-      by_last (Some b) at = record { last = k.last; live = no_live; floor = counted_merged s.promise.floor v k.floor counted }
+      by_last : (o : Option BallotModel) → s.promise.last ≡ o → KeepsBallots (record { promise = freed_after o v s.promise; phase = ph; live = None; granted = no_one; floor = floor })
+      by_last None at = record { last = k.last; live = no_live; floor = k.floor; granted = none_in }
+      by_last (Some b) at = record { last = k.last; live = no_live; floor = counted_merged s.promise.floor v k.floor counted; granted = none_in }
 
   pub released_kept : (b : BallotModel) (v : Counts) → IsCounted v → KeepsBallots (record s { promise = released_by s.promise b v })
   released_kept b v counted = by_test (is_last s.promise b)
     where
       by_test : (r : Bool) → KeepsBallots (record s { promise = after_release r v s.promise })
-      by_test true = record { last = k.last; live = k.live; floor = counted_merged s.promise.floor v k.floor counted }
-      by_test false = record { last = k.last; live = k.live; floor = k.floor }
+      by_test true = record { last = k.last; live = k.live; floor = counted_merged s.promise.floor v k.floor counted; granted = k.granted }
+      by_test false = record { last = k.last; live = k.live; floor = k.floor; granted = k.granted }
 
   pub asked_kept : (b : BallotModel) → IsBallot b → (finished : Bool) → KeepsBallots (record s { promise = asked s.promise b finished })
   asked_kept b is finished = by_answer (answer_to s.promise b finished)
     where
       by_answer : (r : Answer) → KeepsBallots (record s { promise = after_ask r b s.promise })
-      by_answer given.Granted = record { last = λ c at. subst IsBallot (same_Some b c at) is; live = k.live; floor = k.floor }
-      by_answer given.Old = record { last = k.last; live = k.live; floor = k.floor }
-      by_answer given.Busy = record { last = k.last; live = k.live; floor = k.floor }
+      by_answer given.Granted = record { last = λ c at. subst IsBallot (same_Some b c at) is; live = k.live; floor = k.floor; granted = k.granted }
+      by_answer given.Old = record { last = k.last; live = k.live; floor = k.floor; granted = k.granted }
+      by_answer given.Busy = record { last = k.last; live = k.live; floor = k.floor; granted = k.granted }
 
-  pub granted_kept : (r : Bool) (from : UniqueModel) (floor : Counts) → KeepsBallots (after_granted r from floor s)
-  granted_kept true from floor = record { last = k.last; live = k.live; floor = k.floor }
-  granted_kept false from floor = k
+  pub granted_kept : (r : Bool) (from : UniqueModel) → IsUnique from → (floor : Counts) → KeepsBallots (after_granted r from floor s)
+  granted_kept true from is floor = record { last = k.last; live = k.live; floor = k.floor; granted = one_in s.granted from is k.granted }
+  granted_kept false from is floor = k
 
   -- the node's next ballot
   own_is : (me : UniqueModel) → IsUnique me → IfSome s.promise.last (λ b. b.term < BOUND) → IsBallot (own_ballot me s.promise)
@@ -156,9 +164,9 @@ module _ (s : SingletonModel) (k : KeepsBallots s) where
       by_rule rules.Rests at = k
       by_rule rules.Opens at =
           let own = own_is me is (opens_below me v status margin s at) in
-          record { last = λ c same. subst IsBallot (same_Some (own_ballot me s.promise) c same) own; live = λ c same. subst IsBallot (same_Some (own_ballot me s.promise) c same) own; floor = k.floor }
+          record { last = λ c same. subst IsBallot (same_Some (own_ballot me s.promise) c same) own; live = λ c same. subst IsBallot (same_Some (own_ballot me s.promise) c same) own; floor = k.floor; granted = one_in no_one me is none_in }
       by_rule rules.HandsOver at = k
-      by_rule rules.Closes at = freed_kept (version_of v) counted phase.Younger no_one finmap.empty
+      by_rule rules.Closes at = freed_kept (version_of v) counted phase.Younger finmap.empty
       by_rule rules.Asks at = k
 
   pub old_kept : (b last : BallotModel) → IsBallot b → KeepsBallots (after_old (is_outdone b last s) b last s)
@@ -168,20 +176,20 @@ module _ (s : SingletonModel) (k : KeepsBallots s) where
       by_test true at =
           let below = ((outdone_is b last s).0 at).3 in
           let next : IsBallot (record { term = last.term + 1; unique = b.unique }) = record { unique = is.unique; term = omega arith; term_fits = omega arith } in
-          record { last = λ c same. subst IsBallot (same_Some (record { term = last.term + 1; unique = b.unique }) c same) next; live = λ c same. subst IsBallot (same_Some (record { term = last.term + 1; unique = b.unique }) c same) next; floor = k.floor }
+          record { last = λ c same. subst IsBallot (same_Some (record { term = last.term + 1; unique = b.unique }) c same) next; live = λ c same. subst IsBallot (same_Some (record { term = last.term + 1; unique = b.unique }) c same) next; floor = k.floor; granted = one_in no_one b.unique is.unique none_in }
       by_test false at = k
 
   pub ended_kept : (v : SettledView) → IsCounted (version_of v) → KeepsBallots (ended v s)
   ended_kept v counted = by_phase s.phase
     where
       by_phase : (ph : Phase) → KeepsBallots (ended_from ph v s)
-      by_phase phase.Younger = record { last = k.last; live = k.live; floor = k.floor }
-      by_phase phase.Asking = freed_kept (version_of v) counted phase.Ended no_one finmap.empty
-      by_phase phase.Active = freed_kept (version_of v) counted phase.Ended no_one finmap.empty
+      by_phase phase.Younger = record { last = k.last; live = k.live; floor = k.floor; granted = k.granted }
+      by_phase phase.Asking = freed_kept (version_of v) counted phase.Ended finmap.empty
+      by_phase phase.Active = freed_kept (version_of v) counted phase.Ended finmap.empty
       by_phase phase.Ended = k
 
   pub active_kept : (b : Bool) → KeepsBallots (after_activation b s)
-  active_kept true = record { last = k.last; live = k.live; floor = k.floor }
+  active_kept true = record { last = k.last; live = k.live; floor = k.floor; granted = k.granted }
   active_kept false = k
 
 -- ---- what is settled

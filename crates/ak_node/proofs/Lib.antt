@@ -12,6 +12,14 @@ pub mod PhaseSteps
 pub mod SendLemmas
 pub mod SendsValid
 pub mod SilentMembers
+pub mod StepAlive
 pub mod StepChanges
-pub mod StepMoves
 pub mod StepEnds
+pub mod StepGrants
+pub mod StepHosts
+pub mod StepMoves
+pub mod StepQuiet
+pub mod StepRuns
+pub mod StepStarts
+pub mod StepTables
+pub mod StepTold

@@ -29,6 +29,8 @@ use Rattle.ak_membership.specs.Knowledge.{Given, nothing_given, Learns, WaitsOn,
 use Rattle.ak_membership.proofs.MembershipLemmas.{learnt_itself, waits_counting}
 use Rattle.ak_membership.proofs.Walk.{found_learns, leave_learns, down_learns, tick_learns, join_learns, gossip_learns}
 use Rattle.ak_promise.specs.Promise.{is_some_ballot}
+use Rattle.ak_sharding.specs.Hosts as hosts
+use Rattle.ak_sharding.specs.Coordinates as coordinates
 use Rattle.ak_wire.specs.declared.envelope.Message.{Message}
 use Rattle.ak_wire.specs.declared.envelope.Message.TheVariants as message
 use Rattle.ak_wire.specs.declared.action.Action.TheVariants as action
@@ -36,7 +38,7 @@ use Rattle.ak_wire.specs.Wire.{updates_of}
 use Rattle.ak_node.specs.declared.node.State.{State}
 use Rattle.ak_node.specs.declared.node.NodeEvent.{NodeEvent}
 use Rattle.ak_node.specs.declared.node.NodeEvent.TheVariants as event
-use Rattle.ak_node.specs.Node.{Outcome, known, me_of, is_member, is_gone, nothing, and_then, does, does_for, unless_refused, leave, down, asks_at, exits, gossips_to, goes_on, ticked, on_message, rule, asks_as, status_of, ends_phase, is_asked, takes_grant, has_handed_over, answers_ask, gossips, closes, concludes, is_dead, running_step, step}
+use Rattle.ak_node.specs.Node.{Outcome, known, me_of, is_member, is_gone, nothing, and_then, does, does_for, unless_refused, leave, down, asks_at, exits, gossips_to, goes_on, ticked, on_message, rule, asks_as, status_of, ends_phase, is_asked, takes_grant, has_handed_over, answers_ask, shards_do, rest, may_leave, leaves, closes, concludes, is_dead, running_step, step}
 use Rattle.ak_node.specs.NodeContracts.{IsNode, Serves, ServesWhileItRuns}
 use Rattle.ak_node.specs.Change.{given_by, NotesNow, Notes}
 use Rattle.ak_node.proofs.StepChanges.{rule_changes, running_changes, step_is, step_changes, ran_before}
@@ -104,16 +106,21 @@ module _ (n : State) where
   gossips_settled None m same = same
   gossips_settled (Some to) m same = same
 
+  asks_as_settled : (status : Option Status) (m : State) → SameSettled n m → SameSettled n (asks_as status m).0
+  asks_as_settled None m same = same
+  asks_as_settled (Some status) m same = same
+
+  rest_settled : (word : ℕ) (m : State) → SameSettled n m → SameSettled n (rest word m).0
+  rest_settled word m same =
+      let x = (and_then (shards_do hosts.asks_homes) (and_then (shards_do coordinates.coordinates) (asks_as (status_of m) m))).0 in
+      gossips_settled (ticks.gossip_peer word x.membership) x (asks_as_settled (status_of m) m same)
+
   goes_settled : (word : ℕ) (m : State) → SameSettled n m → SameSettled n (goes_on word m).0
   goes_settled word m same =
-      let x = (asks_as (status_of m) m).0 in
       same_if (is_gone m) (nothing m) _ same
-      (same_if (is_member_with is_exiting (known m).view.standings (me_of m)) (and_then exits (ends_phase m)) (and_then (gossips word) (asks_as (status_of m) m)) same
-      (gossips_settled (ticks.gossip_peer word x.membership) x (asks_as_settled (status_of m))))
-    where
-      asks_as_settled : (status : Option Status) → SameSettled n (asks_as status m).0
-      asks_as_settled None = same
-      asks_as_settled (Some status) = same
+      (same_if (is_member_with is_exiting (known m).view.standings (me_of m)) (and_then (leaves word) (ends_phase m)) (rest word m)
+      (let x = (ends_phase m).0 in same_if (may_leave x) (exits x) (rest word x) same (rest_settled word x same))
+      (rest_settled word m same))
 
   leave_settled : (who : UniqueModel) → SameSettled n (leave who n).0
   leave_settled who = unless_settled nothing_given (does n) (membership.leave who n.membership) (λ o. refl) (leave_learns nothing_given n.membership who)
@@ -139,7 +146,7 @@ module _ (n : State) where
       by_member true = inl refl
       by_member false = inl refl
   told_settled from (message.Ask b) = same_if (is_asked from b n) (answers_ask from b n) (nothing n) (inl refl) (inl refl)
-  told_settled from (message.Granted b floor reports) = same_if (takes_grant from n) _ (nothing n) (inl refl) (inl refl)
+  told_settled from (message.Granted b floor reports) = same_if (takes_grant from reports n) _ (nothing n) (inl refl) (inl refl)
   told_settled from (message.Busy b held) = same_if (is_member n && is_some_ballot n.singleton.live b) _ (nothing n) (inl refl) (inl refl)
   told_settled from (message.Old b last) = same_if (is_member n) _ (nothing n) (inl refl) (inl refl)
   told_settled from (message.HandOverToMe b) = same_if (is_member n && has_handed_over b n) _ (nothing n) (inl refl) (inl refl)
@@ -147,7 +154,16 @@ module _ (n : State) where
   told_settled from (message.Release b floor) = same_if (is_member n) _ (nothing n) (inl refl) (inl refl)
   told_settled from (message.Leave who) = leave_settled who
   told_settled from (message.Down who) = down_settled who
-  told_settled from other = inl refl
+  told_settled from (message.GetHome b shard) = same_if (is_member n) _ (nothing n) (inl refl) (inl refl)
+  told_settled from (message.Home b shard owner) = same_if (is_member n) _ (nothing n) (inl refl) (inl refl)
+  told_settled from (message.HostShard b shard number) = same_if (is_member n) _ (nothing n) (inl refl) (inl refl)
+  told_settled from (message.ShardStarted b shard number) = same_if (is_member n) _ (nothing n) (inl refl) (inl refl)
+  told_settled from (message.BeginHandOff b shard number) = same_if (is_member n) _ (nothing n) (inl refl) (inl refl)
+  told_settled from (message.BeginHandOffAck b shard number) = same_if (is_member n) _ (nothing n) (inl refl) (inl refl)
+  told_settled from (message.HandOff b shard number) = same_if (is_member n) _ (nothing n) (inl refl) (inl refl)
+  told_settled from (message.ShardStopped b shard number) = same_if (is_member n) _ (nothing n) (inl refl) (inl refl)
+  told_settled from (message.Forward entity payload) = same_if (is_member n) _ (nothing n) (inl refl) (inl refl)
+  told_settled from (message.Offer entity payload) = inl refl
 
   pub rule_settled : (e : NodeEvent) → SameSettled n (rule e n).0
   rule_settled event.Found = (found_learns (given_by event.Found) n.membership refl).waits_on
@@ -160,6 +176,7 @@ module _ (n : State) where
   rule_settled (event.Packet p) = told_settled p.from p.message
   rule_settled (event.Leave who) = leave_settled who
   rule_settled (event.Down who) = down_settled who
+  rule_settled (event.Offer entity payload) = inl refl
   rule_settled event.Stop = inl refl
 
 -- the closing notes what is known then, or nothing

@@ -21,6 +21,13 @@ use Rattle.ak_promise.specs.declared.promise.Answer.TheVariants as given
 use Rattle.ak_promise.specs.Ballot.{BallotModel}
 use Rattle.ak_promise.specs.Promise.{is_some_ballot, released_by}
 use Rattle.ak_settled.specs.Settled.{version_of}
+use Rattle.ak_sharding.specs.Sharding as sharding
+use Rattle.ak_sharding.specs.Sharding.{ShardingModel, Around}
+use Rattle.ak_sharding.specs.Hosts as hosts
+use Rattle.ak_sharding.specs.Coordinates as coordinates
+use Rattle.ak_sharding.specs.Packets as packets
+use Rattle.ak_sharding.specs.Work.{IsWork, AreWork}
+use Rattle.ak_sharding.proofs.RuleWork.{offer_work, asks_homes_work, coordinates_work, message_work}
 use Rattle.ak_singleton.specs.declared.phase.Phase.{Phase}
 use Rattle.ak_singleton.specs.declared.phase.Phase.TheVariants.{Younger, Asking, Active, Ended}
 use Rattle.ak_singleton.specs.declared.phase.TickRule.{TickRule}
@@ -37,7 +44,7 @@ use Rattle.ak_node.specs.declared.node.State.{State}
 use Rattle.ak_node.specs.declared.node.NodeEvent.{NodeEvent}
 use Rattle.ak_node.specs.declared.node.NodeEvent.TheVariants as event
 use Rattle.ak_node.specs.Node as node
-use Rattle.ak_node.specs.Node.{Outcome, known, me_of, settled_of, margin_of, is_member, is_gone, nothing, refused, number_of, and_then, to_process, to_each, to_address, answer, update_by, does, does_for, unless_refused, join, leave, down, stop, asks_at, counted_members, exits, gossips_to, gossips, keeping, promising, told_of, told_its_own, told_to_each, releases, needed_others, rule_on, does_rule, status_of, asks_as, told_end, let_go, ends_phase, told_active, becomes_active, activates, answered, is_asked, answers_ask, takes_grant, has_handed_over, goes_on, ends, beats, tick, on_message, rule, if_so, due, closes, concludes, is_dead, running_step, step}
+use Rattle.ak_node.specs.Node.{around, sharing, shards_do, offer, on_shards, takes, rest, may_leave, leaves, forgets, Outcome, known, me_of, settled_of, margin_of, is_member, is_gone, nothing, refused, number_of, and_then, to_process, to_each, to_address, answer, update_by, does, does_for, unless_refused, join, leave, down, stop, asks_at, counted_members, exits, gossips_to, gossips, keeping, promising, told_of, told_its_own, told_to_each, releases, needed_others, rule_on, does_rule, status_of, asks_as, told_end, let_go, ends_phase, told_active, becomes_active, activates, answered, is_asked, answers_ask, takes_grant, has_handed_over, goes_on, ends, beats, tick, on_message, rule, if_so, due, closes, concludes, is_dead, running_step, step}
 use Rattle.ak_node.proofs.StepChanges.{step_is}
 
 -- ---- actions that tell nothing of the singleton, nor that the node stops
@@ -106,6 +113,17 @@ plain_ruled r n =
     plain_both (told_its_own s.hand_over_to after ++ releases s.release after) _
     (plain_both (told_its_own s.hand_over_to after) (releases s.release after) (plain_own s.hand_over_to after) (plain_to_each after.singleton.promise.last _ s.release after))
     (plain_to_each after.singleton.live message.Ask s.ask after)
+
+-- work on shards
+plain_work : (me : UniqueModel) (actions : List Action) → AreWork me actions → Plain actions
+plain_work me [] w = plain_none
+plain_work me (a ∷ actions) w = plain_first a actions (by_kind a w.0) (plain_work me actions w.1)
+  where
+    by_kind : (x : Action) → IsWork me x → is_plain x ≡ true
+    by_kind (action.Active term) is = absurd is
+    by_kind (action.Ended term) is = absurd is
+    by_kind action.Stopped is = absurd is
+    by_kind other is = refl
 
 -- ---- a part of a step before the closing
 pub record Phases (n : State) (o : Outcome) : Type 0 where
@@ -254,22 +272,36 @@ module _ (n : State) (fits : Fits n.singleton) where
         not_anew = λ is. absurd (ended_not (sym over_now ∙ is));
       }
 
-  goes_phases : (word : ℕ) → Phases n (goes_on word n)
-  goes_phases word =
-      phases_if (is_gone n) (same [] plain_none)
-      (phases_if (is_member_with is_exiting (known n).view.standings (me_of n))
-      (phases_then n exits (ends_phase n) end_phases (exit_then (ends_phase n).0 end_phases.fits))
-      (phases_then n (gossips word) (asks_as (status_of n) n) (asks_phases (status_of n)) (gossip_then word (asks_as (status_of n) n).0 (asks_phases (status_of n)).fits)))
-    where
-      exit_then : (m : State) → Fits m.singleton → Phases m (exits m)
-      exit_then m f = kept_phases m (exits m).0 (exits m).1 refl f (plain_each m (counted_members m) message.ExitingConfirmed)
+  -- the shards
+  shards_phases : (work : Around → ShardingModel → sharding.Outcome) → AreWork (me_of n) (work (around n) n.sharding).1 → Phases n (shards_do work n)
+  shards_phases work w = kept_phases n (shards_do work n).0 (shards_do work n).1 refl fits (plain_work (me_of n) (work (around n) n.sharding).1 w)
 
-      gossip_then : (word : ℕ) (m : State) → Fits m.singleton → Phases m (gossips word m)
-      gossip_then word m f = by_peer (ticks.gossip_peer word m.membership)
-        where
-          by_peer : (to : Option UniqueModel) → Phases m (gossips_to to m)
-          by_peer None = kept_phases m m [] refl f plain_none
-          by_peer (Some to) = kept_phases m m (to_process m to (message.Gossip (known m)) ∷ []) refl f (plain_first _ [] refl plain_none)
+  on_shards_phases : (from : UniqueModel) (what : Message) → Phases n (on_shards from what n)
+  on_shards_phases from what = phases_if (is_member n) (shards_phases (λ a s. packets.on_shard_message a from what s) (message_work (around n) from what n.sharding)) (same [] plain_none)
+
+  offer_phases : (entity : List ℕ) (payload : ℕ) → Phases n (offer entity payload n)
+  offer_phases entity payload = shards_phases (λ a s. hosts.on_offer a entity payload s) (offer_work (around n) entity payload n.sharding)
+
+-- the rest of a tick
+rest_phases : (n : State) (fits : Fits n.singleton) (word : ℕ) → Phases n (rest word n)
+rest_phases n fits word =
+    let a = (asks_as (status_of n) n).0 in
+    let b = (shards_do coordinates.coordinates a).0 in
+    let c = (shards_do hosts.asks_homes b).0 in
+    let asked = asks_phases n fits (status_of n) in
+    let coordinated = phases_then n (shards_do coordinates.coordinates) (asks_as (status_of n) n) asked (shards_phases a asked.fits coordinates.coordinates (coordinates_work (around a) a.sharding)) in
+    phases_then n (gossips word) (and_then (shards_do hosts.asks_homes) (and_then (shards_do coordinates.coordinates) (asks_as (status_of n) n)))
+    (phases_then n (shards_do hosts.asks_homes) (and_then (shards_do coordinates.coordinates) (asks_as (status_of n) n)) coordinated (shards_phases b asked.fits hosts.asks_homes (asks_homes_work (around b) b.sharding)))
+    (gossip_phases c asked.fits (ticks.gossip_peer word c.membership))
+
+goes_phases : (n : State) (fits : Fits n.singleton) (word : ℕ) → Phases n (goes_on word n)
+goes_phases n fits word =
+    let x = (ends_phase n).0 in
+    let over = end_phases n fits in
+    phases_if n fits (is_gone n) (same n fits [] plain_none)
+    (phases_if n fits (is_member_with is_exiting (known n).view.standings (me_of n))
+    (phases_then n (leaves word) (ends_phase n) over (phases_if x over.fits (may_leave x) (exit_phases x over.fits) (rest_phases x over.fits word)))
+    (rest_phases n fits word))
 
 ticked_phases : (n : State) (fits : Fits n.singleton) (word : ℕ) (o : membership.Outcome) → Phases n (and_then (goes_on word) (node.ticked n o))
 ticked_phases n fits word o =
@@ -297,18 +329,27 @@ told_phases n fits from message.ExitingConfirmed = phases_if n fits (is_member n
 told_phases n fits from (message.Ask b) = phases_if n fits (is_asked from b n) (kept_phases n (answers_ask from b n).0 (answers_ask from b n).1 refl fits (plain_answered _ from b n)) (same n fits [] plain_none)
 told_phases n fits from (message.Granted b floor reports) =
     let r = is_first_grant from b n.singleton in
-    phases_if n fits (takes_grant from n) (kept_phases n (keeping (after_granted r from floor n.singleton) n) [] (granted_same r from floor n.singleton) (granted_fits n.singleton fits r from floor) plain_none) (same n fits [] plain_none)
+    phases_if n fits (takes_grant from reports n) (kept_phases n (takes from b floor reports n) [] (granted_same r from floor n.singleton) (granted_fits n.singleton fits r from floor) plain_none) (same n fits [] plain_none)
 told_phases n fits from (message.Busy b held) = phases_if n fits (is_member n && is_some_ballot n.singleton.live b) (same n fits (told_its_own (Some held) n) (plain_own (Some held) n)) (same n fits [] plain_none)
 told_phases n fits from (message.Old b last) =
     let r = is_outdone b last n.singleton in
-    phases_if n fits (is_member n) (kept_phases n (keeping (after_old r b last n.singleton) n) [] (old_same r b last n.singleton) (old_fits n.singleton fits b last) plain_none) (same n fits [] plain_none)
+    phases_if n fits (is_member n) (kept_phases n (keeping (after_old r b last n.singleton) (sharing (coordinates.begins_if r (me_of n) n.sharding) n)) [] (old_same r b last n.singleton) (old_fits n.singleton fits b last) plain_none) (same n fits [] plain_none)
 told_phases n fits from (message.HandOverToMe b) = phases_if n fits (is_member n && has_handed_over b n) (same n fits (to_process n from (message.HandOverDone b (version_of (settled_of n))) ∷ []) (plain_first _ [] refl plain_none)) (same n fits [] plain_none)
 told_phases n fits from (message.HandOverDone b floor) =
     phases_if n fits (is_member n) (kept_phases n (promising (released_by n.singleton.promise b floor) n) (to_each n (in_order (needed_others n)) (message.Release b floor)) refl fits (plain_each n (in_order (needed_others n)) (message.Release b floor))) (same n fits [] plain_none)
 told_phases n fits from (message.Release b floor) = phases_if n fits (is_member n) (kept_phases n (promising (released_by n.singleton.promise b floor) n) [] refl fits plain_none) (same n fits [] plain_none)
 told_phases n fits from (message.Leave who) = unless_phases n fits (does n) (membership.leave who n.membership) (done_phases n fits)
 told_phases n fits from (message.Down who) = unless_phases n fits (does n) (membership.down who n.membership) (done_phases n fits)
-told_phases n fits from other = same n fits [] plain_none
+told_phases n fits from (message.GetHome b shard) = on_shards_phases n fits from (message.GetHome b shard)
+told_phases n fits from (message.Home b shard owner) = on_shards_phases n fits from (message.Home b shard owner)
+told_phases n fits from (message.HostShard b shard number) = on_shards_phases n fits from (message.HostShard b shard number)
+told_phases n fits from (message.ShardStarted b shard number) = on_shards_phases n fits from (message.ShardStarted b shard number)
+told_phases n fits from (message.BeginHandOff b shard number) = on_shards_phases n fits from (message.BeginHandOff b shard number)
+told_phases n fits from (message.BeginHandOffAck b shard number) = on_shards_phases n fits from (message.BeginHandOffAck b shard number)
+told_phases n fits from (message.HandOff b shard number) = on_shards_phases n fits from (message.HandOff b shard number)
+told_phases n fits from (message.ShardStopped b shard number) = on_shards_phases n fits from (message.ShardStopped b shard number)
+told_phases n fits from (message.Forward entity payload) = on_shards_phases n fits from (message.Forward entity payload)
+told_phases n fits from (message.Offer entity payload) = offer_phases n fits entity payload
 
 rule_phases : (e : NodeEvent) (n : State) → Fits n.singleton → Phases n (rule e n)
 rule_phases event.Found n fits = done_phases n fits (membership.found n.membership)
@@ -317,6 +358,7 @@ rule_phases (event.Tick word) n fits = phases_if n fits (is_member n) (ticked_ph
 rule_phases (event.Packet p) n fits = told_phases n fits p.from p.message
 rule_phases (event.Leave who) n fits = unless_phases n fits (does n) (membership.leave who n.membership) (done_phases n fits)
 rule_phases (event.Down who) n fits = unless_phases n fits (does n) (membership.down who n.membership) (done_phases n fits)
+rule_phases (event.Offer entity payload) n fits = offer_phases n fits entity payload
 rule_phases event.Stop n fits = kept_phases n (stop n).0 [] refl fits plain_none
 
 -- ---- a step
@@ -365,16 +407,16 @@ module _ (n : State) (o : Outcome) (p : Phases n o) where
   turns = (not gone) && may_activate (me_of m) (settled_of (closes m).0) (margin_of m) m.singleton
 
   -- an action of the whole step
-  whole : (x : Action) → Contains (and_then concludes o).1 x → Contains o.1 x ⊎ ((is_plain x ≡ true) ⊎ ((gone ≡ true) × (x ≡ action.Stopped))) ⊎ Contains (becomes_active turns (closes m).0).1 x
+  whole : (x : Action) → Contains (and_then concludes o).1 x → Contains o.1 x ⊎ ((is_plain x ≡ true) ⊎ ((gone ≡ true) × (x ≡ action.Stopped))) ⊎ Contains (becomes_active turns (forgets (closes m).0)).1 x
   whole x there = elim (contains_either o.1 (concludes m).1 x there) [
     | inl one ↦ inl one
-    | inr rest ↦ elim (contains_either (closes m).1 (becomes_active turns (closes m).0).1 x rest) [
+    | inr rest ↦ elim (contains_either (closes m).1 (becomes_active turns (forgets (closes m).0)).1 x rest) [
       | inl two ↦ inr (inl (due_told (is_viewed m.membership) gone (notes (not m.runs) m.membership) x two))
       | inr three ↦ inr (inr three)
     ]
   ]
 
-  not_ended : (term : ℕ) → (t : Bool) → Contains (becomes_active t (closes m).0).1 (action.Ended term) → ⊥
+  not_ended : (term : ℕ) → (t : Bool) → Contains (becomes_active t (forgets (closes m).0)).1 (action.Ended term) → ⊥
   not_ended term true there = by_live m.singleton.live there
     where
       by_live : (k : Option BallotModel) → Contains (told_active k) (action.Ended term) → ⊥
@@ -382,7 +424,7 @@ module _ (n : State) (o : Outcome) (p : Phases n o) where
       by_live (Some b) here = elim (first_or_rest (action.Active b.term) (action.Ended term) [] here) [ inl is ↦ absurd (cc) | inr none ↦ contains_nothing _ none ]
   not_ended term false there = contains_nothing _ there
 
-  not_stopped : (t : Bool) → Contains (becomes_active t (closes m).0).1 action.Stopped → ⊥
+  not_stopped : (t : Bool) → Contains (becomes_active t (forgets (closes m).0)).1 action.Stopped → ⊥
   not_stopped true there = by_live m.singleton.live there
     where
       by_live : (k : Option BallotModel) → Contains (told_active k) action.Stopped → ⊥
@@ -399,11 +441,11 @@ module _ (n : State) (o : Outcome) (p : Phases n o) where
         fits = subst (λ b. Fits (after_activation b m.singleton)) (sym off) p.fits;
         active_told = λ term there. absurd (elim (whole (action.Active term) there) [
           | inl one ↦ p.none_active term one
-          | inr rest ↦ elim rest [ inl due_is ↦ elim due_is [ inl plain ↦ true≢false (sym plain) | inr stop_is ↦ by_stopped term stop_is.1 ] | inr three ↦ contains_nothing _ (subst (λ b. Contains (becomes_active b (closes m).0).1 (action.Active term)) off three) ]
+          | inr rest ↦ elim rest [ inl due_is ↦ elim due_is [ inl plain ↦ true≢false (sym plain) | inr stop_is ↦ by_stopped term stop_is.1 ] | inr three ↦ contains_nothing _ (subst (λ b. Contains (becomes_active b (forgets (closes m).0)).1 (action.Active term)) off three) ]
         ]);
         end_told = λ told on. true≢false (sym on.0 ∙ rests);
         anew = λ on. absurd (true≢false (sym on.0 ∙ rests));
-        still = λ active. inr (inr (contains_right o.1 (concludes m).1 action.Stopped (contains_left (closes m).1 (becomes_active turns (closes m).0).1 action.Stopped (stop_told (is_viewed m.membership) gone (notes (not m.runs) m.membership) is))));
+        still = λ active. inr (inr (contains_right o.1 (concludes m).1 action.Stopped (contains_left (closes m).1 (becomes_active turns (forgets (closes m).0)).1 action.Stopped (stop_told (is_viewed m.membership) gone (notes (not m.runs) m.membership) is))));
       }
     where
       by_stopped : (term : ℕ) → action.Active term ≡ action.Stopped → ⊥
@@ -429,7 +471,7 @@ module _ (n : State) (o : Outcome) (p : Phases n o) where
             | inr rest ↦ elim rest [ inl due_is ↦ elim due_is [ inl plain ↦ true≢false (sym plain) | inr stop_is ↦ true≢false (sym stop_is.0 ∙ is) ] | inr three ↦ not_stopped turns three ]
           ]
         ];
-        anew = λ _. let t = live_told m.singleton.live refl asked.asking in inr (t.0, contains_right o.1 (concludes m).1 _ (contains_right (closes m).1 (becomes_active turns (closes m).0).1 _ (subst (λ b. Contains (becomes_active b (closes m).0).1 (action.Active t.0)) (sym on) t.1)));
+        anew = λ _. let t = live_told m.singleton.live refl asked.asking in inr (t.0, contains_right o.1 (concludes m).1 _ (contains_right (closes m).1 (becomes_active turns (forgets (closes m).0)).1 _ (subst (λ b. Contains (becomes_active b (forgets (closes m).0)).1 (action.Active t.0)) (sym on) t.1)));
         still = λ active. inl (runs, now);
       }
     where
@@ -450,7 +492,7 @@ module _ (n : State) (o : Outcome) (p : Phases n o) where
         fits = subst (λ b. Fits (after_activation b m.singleton)) (sym off) p.fits;
         active_told = λ term there. absurd (elim (whole (action.Active term) there) [
           | inl one ↦ p.none_active term one
-          | inr rest ↦ elim rest [ inl due_is ↦ elim due_is [ inl plain ↦ true≢false (sym plain) | inr stop_is ↦ true≢false (sym stop_is.0 ∙ is) ] | inr three ↦ contains_nothing _ (subst (λ b. Contains (becomes_active b (closes m).0).1 (action.Active term)) off three) ]
+          | inr rest ↦ elim rest [ inl due_is ↦ elim due_is [ inl plain ↦ true≢false (sym plain) | inr stop_is ↦ true≢false (sym stop_is.0 ∙ is) ] | inr three ↦ contains_nothing _ (subst (λ b. Contains (becomes_active b (forgets (closes m).0)).1 (action.Active term)) off three) ]
         ]);
         end_told = λ told on. elim told [
           | inl end_is ↦ elim (whole (action.Ended end_is.0) end_is.1) [

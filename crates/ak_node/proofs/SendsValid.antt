@@ -1,5 +1,5 @@
 -- What a node sends is valid: it goes to processes that the node knows or hears from, or to the address that it joins through.
-use Rattle.std.proofs.Common.{◌≡◌, ℕ, Bool, true, false, inl, inr, if◌then◌else◌, List, [], ◌∷◌, ◌++◌, Option, Some, None, is_some, not, ◌+◌, ◌≤◌, ◌&&◌, Result, Ok, Err, IsTrue, Contains, refl, sym, ap, ◌∙◌, subst, true≢false, arith}
+use Rattle.std.proofs.Common.{◌≡◌, ℕ, Bool, true, false, inl, inr, if◌then◌else◌, List, [], ◌∷◌, ◌++◌, Option, Some, None, is_some, not, ◌+◌, ◌≤◌, ◌<◌, ◌^◌, ◌&&◌, Result, Ok, Err, IsTrue, Contains, refl, sym, ap, ◌∙◌, subst, true≢false, arith}
 use Rattle.std.proofs.lemmas.Option.{same_Some}
 use Rattle.std.proofs.lemmas.Bool.{leb-true}
 use Rattle.std.specs.FinMap as finmap
@@ -47,7 +47,7 @@ use Rattle.ak_singleton.specs.declared.phase.Phase.TheVariants as phase
 use Rattle.ak_singleton.specs.declared.phase.Steps.{Steps}
 use Rattle.ak_singleton.specs.declared.phase.TickRule.{TickRule}
 use Rattle.ak_singleton.specs.declared.phase.TickRule.TheVariants as rules
-use Rattle.ak_singleton.specs.Singleton.{only, steps_of, active_term, is_first_grant, after_granted, is_outdone, after_old, may_activate}
+use Rattle.ak_singleton.specs.Singleton.{only, steps_of, active_term, may_activate}
 use Rattle.ak_wire.specs.declared.envelope.Envelope.{Envelope}
 use Rattle.ak_wire.specs.declared.envelope.Message.{Message}
 use Rattle.ak_wire.specs.declared.envelope.Message.TheVariants as message
@@ -60,9 +60,21 @@ use Rattle.ak_node.specs.declared.node.State.{State}
 use Rattle.ak_node.specs.declared.node.NodeEvent.{NodeEvent}
 use Rattle.ak_node.specs.declared.node.NodeEvent.TheVariants as event
 use Rattle.ak_node.specs.Node as node
-use Rattle.ak_node.specs.Node.{Outcome, known, me_of, settled_of, margin_of, reports_of, status_of, floor_of, most_in_version, fits_packet, is_grantable, keeping, promising, told_of, told_its_own, told_to_each, releases, needed_others, rule_on, does_rule, asks_as, told_end, let_go, ends_phase, told_active, becomes_active, activates, is_asked, answers_ask, takes_grant, has_handed_over, gossips, concludes, is_member, is_gone, nothing, and_then, to_process, to_each, update_by, answer, does, does_for, unless_refused, number_of, asks_at, counted_members, exits, gossips_to, goes_on, ends, beats, ticked, tick, on_message, rule, closes, is_dead, running_step, step}
+use Rattle.ak_node.specs.Node.{Outcome, known, me_of, settled_of, margin_of, reports_of, status_of, floor_of, most_in_version, fits_packet, is_grantable, keeping, promising, told_of, told_its_own, told_to_each, releases, needed_others, rule_on, does_rule, asks_as, told_end, let_go, ends_phase, told_active, becomes_active, activates, is_asked, answers_ask, takes_grant, has_handed_over, gossips, concludes, is_member, is_gone, nothing, and_then, to_process, to_each, update_by, answer, does, does_for, unless_refused, number_of, asks_at, counted_members, exits, gossips_to, around, shards_do, offer, on_shards, takes, rest, may_leave, leaves, forgets, goes_on, ends, beats, ticked, tick, on_message, rule, closes, is_dead, running_step, step}
 use Rattle.ak_node.specs.NodeContracts.{IsNode}
-use Rattle.ak_node.specs.Sends.{AreValid, KnowsProcesses, IsTarget, IsProcess, KeepsBallots, KeepsSettled, IsSaid}
+use Rattle.ak_node.specs.Sends.{AreValid, KnowsProcesses, IsTarget, IsProcess, KeepsBallots, KeepsSettled, KeepsShards, IsSaid}
+use Rattle.ak_field.specs.Ranges.{IsEntity}
+use Rattle.ak_sharding.specs.Coordinates as coordinates
+use Rattle.ak_sharding.specs.Hosts as hosts
+use Rattle.ak_sharding.specs.Packets as packets
+use Rattle.ak_sharding.specs.Sharding as sharding
+use Rattle.ak_sharding.specs.Sharding.{ShardingModel, Around}
+use Rattle.ak_sharding.specs.Ranges.{AllOf, IsSentWell, GoesWell}
+use Rattle.ak_sharding.proofs.RangesKept.{offer_in}
+use Rattle.ak_sharding.proofs.TableRanges.{coordinates_in}
+use Rattle.ak_sharding.proofs.ShardRanges.{message_in, asks_homes_in}
+use Rattle.ak_sharding.proofs.ReportRanges.{reports_spelled}
+use Rattle.ak_node.proofs.BallotsSteps.{around_in, status_kept, end_kept}
 use Rattle.ak_node.proofs.BallotsKept.{counted_merged, counted_short, rule_kept, settled_alike, needed_process, nobody_there}
 use Rattle.ak_node.proofs.CountedPairs.{counted_have}
 use Rattle.ak_node.proofs.StepChanges.{ended_sent, due_sent, goes_quiet, step_changes, step_is}
@@ -82,7 +94,18 @@ GoesTo (message.Old b last) to uid = IsUnique (record { address = to; uid = uid 
 GoesTo (message.HandOverToMe b) to uid = IsUnique (record { address = to; uid = uid }) × IsBody (message.HandOverToMe b)
 GoesTo (message.HandOverDone b floor) to uid = IsUnique (record { address = to; uid = uid }) × IsBody (message.HandOverDone b floor)
 GoesTo (message.Release b floor) to uid = IsUnique (record { address = to; uid = uid }) × IsBody (message.Release b floor)
-GoesTo other to uid = ⊥
+GoesTo (message.GetHome b shard) to uid = IsUnique (record { address = to; uid = uid }) × IsBody (message.GetHome b shard)
+GoesTo (message.Home b shard owner) to uid = IsUnique (record { address = to; uid = uid }) × IsBody (message.Home b shard owner)
+GoesTo (message.HostShard b shard number) to uid = IsUnique (record { address = to; uid = uid }) × IsBody (message.HostShard b shard number)
+GoesTo (message.ShardStarted b shard number) to uid = IsUnique (record { address = to; uid = uid }) × IsBody (message.ShardStarted b shard number)
+GoesTo (message.BeginHandOff b shard number) to uid = IsUnique (record { address = to; uid = uid }) × IsBody (message.BeginHandOff b shard number)
+GoesTo (message.BeginHandOffAck b shard number) to uid = IsUnique (record { address = to; uid = uid }) × IsBody (message.BeginHandOffAck b shard number)
+GoesTo (message.HandOff b shard number) to uid = IsUnique (record { address = to; uid = uid }) × IsBody (message.HandOff b shard number)
+GoesTo (message.ShardStopped b shard number) to uid = IsUnique (record { address = to; uid = uid }) × IsBody (message.ShardStopped b shard number)
+GoesTo (message.Forward entity payload) to uid = IsUnique (record { address = to; uid = uid }) × IsBody (message.Forward entity payload)
+GoesTo (message.Leave who) to uid = (uid ≡ 0) × (IsAddress to × IsBody (message.Leave who))
+GoesTo (message.Down who) to uid = (uid ≡ 0) × (IsAddress to × IsBody (message.Down who))
+GoesTo (message.Offer entity payload) to uid = (uid ≡ 0) × (IsAddress to × IsBody (message.Offer entity payload))
 
 abbrev Goes : Envelope → Type 0
 Goes p = GoesTo p.message p.to p.uid
@@ -104,7 +127,31 @@ valid_by (message.Old b last) from to uid who goes carries = record { from = who
 valid_by (message.HandOverToMe b) from to uid who goes carries = record { from = who; to = goes.0.address; uid = (goes.0.uid, goes.0.uid_fits); body = goes.1 }
 valid_by (message.HandOverDone b floor) from to uid who goes carries = record { from = who; to = goes.0.address; uid = (goes.0.uid, goes.0.uid_fits); body = goes.1 }
 valid_by (message.Release b floor) from to uid who goes carries = record { from = who; to = goes.0.address; uid = (goes.0.uid, goes.0.uid_fits); body = goes.1 }
-valid_by other from to uid who goes carries = absurd goes
+valid_by (message.GetHome b shard) from to uid sender goes carries = record { from = sender; to = goes.0.address; uid = (goes.0.uid, goes.0.uid_fits); body = goes.1 }
+valid_by (message.Home b shard owner) from to uid sender goes carries = record { from = sender; to = goes.0.address; uid = (goes.0.uid, goes.0.uid_fits); body = goes.1 }
+valid_by (message.HostShard b shard number) from to uid sender goes carries = record { from = sender; to = goes.0.address; uid = (goes.0.uid, goes.0.uid_fits); body = goes.1 }
+valid_by (message.ShardStarted b shard number) from to uid sender goes carries = record { from = sender; to = goes.0.address; uid = (goes.0.uid, goes.0.uid_fits); body = goes.1 }
+valid_by (message.BeginHandOff b shard number) from to uid sender goes carries = record { from = sender; to = goes.0.address; uid = (goes.0.uid, goes.0.uid_fits); body = goes.1 }
+valid_by (message.BeginHandOffAck b shard number) from to uid sender goes carries = record { from = sender; to = goes.0.address; uid = (goes.0.uid, goes.0.uid_fits); body = goes.1 }
+valid_by (message.HandOff b shard number) from to uid sender goes carries = record { from = sender; to = goes.0.address; uid = (goes.0.uid, goes.0.uid_fits); body = goes.1 }
+valid_by (message.ShardStopped b shard number) from to uid sender goes carries = record { from = sender; to = goes.0.address; uid = (goes.0.uid, goes.0.uid_fits); body = goes.1 }
+valid_by (message.Forward entity payload) from to uid sender goes carries = record { from = sender; to = goes.0.address; uid = (goes.0.uid, goes.0.uid_fits); body = goes.1 }
+valid_by (message.Leave who) from to uid sender goes carries = record { from = sender; to = goes.1.0; uid = goes.0; body = goes.1.1 }
+valid_by (message.Down who) from to uid sender goes carries = record { from = sender; to = goes.1.0; uid = goes.0; body = goes.1.1 }
+valid_by (message.Offer entity payload) from to uid sender goes carries = record { from = sender; to = goes.1.0; uid = goes.0; body = goes.1.1 }
+
+-- a packet with a spelling goes where it may
+valid_goes : (m : Message) (from : UniqueModel) (to : AddressModel) (uid : ℕ) → IsValid (record { from = from; to = to; uid = uid; message = m }) → GoesTo m to uid
+valid_goes message.Join from to uid v = (v.uid, v.to)
+valid_goes (message.Welcome g) from to uid v = record { address = v.to; uid = v.uid.0; uid_fits = v.uid.1 }
+valid_goes (message.Gossip g) from to uid v = record { address = v.to; uid = v.uid.0; uid_fits = v.uid.1 }
+valid_goes message.Heartbeat from to uid v = record { address = v.to; uid = v.uid.0; uid_fits = v.uid.1 }
+valid_goes message.HeartbeatReply from to uid v = record { address = v.to; uid = v.uid.0; uid_fits = v.uid.1 }
+valid_goes message.ExitingConfirmed from to uid v = record { address = v.to; uid = v.uid.0; uid_fits = v.uid.1 }
+valid_goes (message.Leave who) from to uid v = (v.uid, (v.to, v.body))
+valid_goes (message.Down who) from to uid v = (v.uid, (v.to, v.body))
+valid_goes (message.Offer entity payload) from to uid v = (v.uid, (v.to, v.body))
+valid_goes other from to uid v = (record { address = v.to; uid = v.uid.0; uid_fits = v.uid.1 }, v.body)
 
 -- ---- lists of actions
 none_go : (actions : List Action) → sent actions ≡ [] → AllGo actions
@@ -115,6 +162,15 @@ both_go a b first second p there = elim (contains_either (sent a) (sent b) p (su
   | inl before ↦ first p before
   | inr after ↦ second p after
 ]
+
+-- what is sent of shards
+sent_well : (actions : List Action) → AllOf IsSentWell actions → AllGo actions
+sent_well [] w p there = absurd (contains_nothing p there)
+sent_well (action.Send q ∷ actions) w p there = elim (first_or_rest q p (sent actions) there) [
+  | inl same ↦ subst Goes (sym same) (valid_goes q.message q.from q.to q.uid w.0)
+  | inr later ↦ sent_well actions w.1 p later
+]
+sent_well (other ∷ actions) w p there = sent_well actions w.1 p there
 
 one_goes : (q : Envelope) → Goes q → AllGo (action.Send q ∷ [])
 one_goes q goes p there = elim (first_or_rest q p [] there) [
@@ -232,7 +288,7 @@ to_each_go (Some b) what to n goes names = all_go n (in_order to) (what b) (λ u
 releases_go : (to : UniqueSet) (n : State) → KeepsBallots n.singleton → KeepsSettled n → ((u : UniqueModel) → Contains (in_order to) u → IsUnique u) → AllGo (releases to n)
 releases_go to n kb ks names = to_each_go n.singleton.promise.last (λ b. message.Release b (version_of (settled_of n))) to n (λ b u at who. (who, (kb.last b at, counted_short (version_of (settled_of n)) ks.version ks.few))) names
 
-module _ (n : State) (me : IsUnique (me_of n)) (kb : KeepsBallots n.singleton) (ks : KeepsSettled n) where
+module _ (n : State) (me : IsUnique (me_of n)) (kb : KeepsBallots n.singleton) (ks : KeepsSettled n) (kh : KeepsShards n) where
   abbrev steps_by : TickRule → Steps
   steps_by r = steps_of r (me_of n) (settled_of n) (margin_of n) n.singleton
 
@@ -281,20 +337,6 @@ module _ (n : State) (me : IsUnique (me_of n)) (kb : KeepsBallots n.singleton) (
       by_phase phase.Active = releases_go (needed_others n) n kb ks (needed_process n ks (only (me_of n)))
       by_phase phase.Ended = none_go [] refl
 
-  goes_on_go : (word : ℕ) → KnowsProcesses n → AllGo (goes_on word n).1
-  goes_on_go word names =
-      go_if (is_gone n) (nothing n) _ (λ gone. none_go [] refl) (λ stays.
-      go_if (is_member_with is_exiting (known n).view.standings (me_of n)) (and_then exits (ends_phase n)) (and_then (gossips word) (asks_as (status_of n) n))
-      (λ exiting. let m = (ends_phase n).0 in both_go (ends_phase n).1 (exits m).1 ends_go (all_go m (counted_members m) message.ExitingConfirmed (λ u who. who) (λ u there. names u (counted_known m u there))))
-      (λ other. both_go (asks_as (status_of n) n).1 (gossips word (asks_as (status_of n) n).0).1 (asks_as_go (status_of n)) (by_status (status_of n))))
-    where
-      gossips_after : (m : State) → ((who : UniqueModel) → IsTrue (is_known (known m).view.standings who) → IsUnique who) → AllGo (gossips word m).1
-      gossips_after m all = gossips_go (gossip_peer word m.membership) m (λ who is. all who (known_of (known m).view.standings who (peer_known word m.membership who is)))
-
-      by_status : (status : Option Status) → AllGo (gossips word (asks_as status n).0).1
-      by_status None = gossips_after n names
-      by_status (Some status) = gossips_after (asks_as (Some status) n).0 names
-
   -- answers to messages about ballots
   at_most : (v : Counts) → fits_packet v ≡ true → finmap.len v ≤ most_in_version
   at_most v is = leb-true (finmap.len v) most_in_version is
@@ -302,11 +344,44 @@ module _ (n : State) (me : IsUnique (me_of n)) (kb : KeepsBallots n.singleton) (
   answered_go : (a : Answer) (from : UniqueModel) (b : BallotModel) → IsUnique from → IsBallot b → is_grantable n ≡ true → AllGo (node.answered a from b n)
   answered_go given.Granted from b who is fits =
       one_goes (record { from = me_of n; to = from.address; uid = from.uid; message = message.Granted b (floor_of n) (reports_of n) })
-      (who, (is, (counted_short (floor_of n) (counted_merged n.singleton.promise.floor (version_of (settled_of n)) kb.floor ks.version) (at_most (floor_of n) fits), record { few = omega arith; each = tt })))
+      (who, (is, (counted_short (floor_of n) (counted_merged n.singleton.promise.floor (version_of (settled_of n)) kb.floor ks.version) (at_most (floor_of n) fits), reports_spelled n.sharding.region kh.region)))
   answered_go given.Old from b who is fits = of_go n.singleton.promise.last (λ last. message.Old b last) from n (λ last at. (who, (is, kb.last last at)))
   answered_go given.Busy from b who is fits = of_go n.singleton.promise.last (λ last. message.Busy b last) from n (λ last at. (who, (is, kb.last last at)))
 
-module _ (n : State) (names : KnowsProcesses n) (is : IsProcess n) (node : IsNode n) (kb : KeepsBallots n.singleton) (ks : KeepsSettled n) where
+work_goes : (work : Around → ShardingModel → sharding.Outcome) (n : State) → GoesWell (work (around n) n.sharding) → AllGo (shards_do work n).1
+work_goes work n g = sent_well (work (around n) n.sharding).1 g.1
+
+rest_goes : (n : State) (me : IsUnique (me_of n)) (kb : KeepsBallots n.singleton) (ks : KeepsSettled n) (kh : KeepsShards n) (word : ℕ) → KnowsProcesses n → AllGo (rest word n).1
+rest_goes n me kb ks kh word names = by_status (status_of n) (status_kept n me (kb, kh) ks.version (status_of n)) (asks_as_go n me kb ks kh (status_of n))
+  where
+    from_there : (a : State) (told : List Action) → IsUnique (me_of a) → KnowsProcesses a → KeepsBallots a.singleton → KeepsShards a → AllGo told → AllGo (and_then (gossips word) (and_then (shards_do hosts.asks_homes) (and_then (shards_do coordinates.coordinates) (a, told)))).1
+    from_there a told is all ab ah go =
+        let placed = coordinates_in (around a) (around_in a is ab) a.sharding ah in
+        let b = (shards_do coordinates.coordinates a).0 in
+        let homes = asks_homes_in (around b) (around_in b is ab) b.sharding placed.0 in
+        let c = (shards_do hosts.asks_homes b).0 in
+        both_go ((told ++ (shards_do coordinates.coordinates a).1) ++ (shards_do hosts.asks_homes b).1) (gossips word c).1
+        (both_go (told ++ (shards_do coordinates.coordinates a).1) (shards_do hosts.asks_homes b).1
+        (both_go told (shards_do coordinates.coordinates a).1 go (work_goes coordinates.coordinates a placed))
+        (work_goes hosts.asks_homes b homes))
+        (gossips_go (gossip_peer word c.membership) c (λ who chosen. all who (known_of (known c).view.standings who (peer_known word c.membership who chosen))))
+
+    by_status : (status : Option Status) → KeepsBallots (asks_as status n).0.singleton × KeepsShards (asks_as status n).0 → AllGo (asks_as status n).1 → AllGo (and_then (gossips word) (and_then (shards_do hosts.asks_homes) (and_then (shards_do coordinates.coordinates) (asks_as status n)))).1
+    by_status None kept go = from_there n [] me names kept.0 kept.1 go
+    by_status (Some status) kept go = from_there (asks_as (Some status) n).0 (asks_as (Some status) n).1 me names kept.0 kept.1 go
+
+goes_on_go : (n : State) (me : IsUnique (me_of n)) (kb : KeepsBallots n.singleton) (ks : KeepsSettled n) (kh : KeepsShards n) (word : ℕ) → KnowsProcesses n → AllGo (goes_on word n).1
+goes_on_go n me kb ks kh word names =
+    let m = (ends_phase n).0 in
+    let ended = end_kept n me (kb, kh) ks.version in
+    go_if (is_gone n) (nothing n) _ (λ gone. none_go [] refl) (λ stays.
+    go_if (is_member_with is_exiting (known n).view.standings (me_of n)) (and_then (leaves word) (ends_phase n)) (rest word n)
+    (λ exiting. both_go (ends_phase n).1 (leaves word m).1 (ends_go n me kb ks kh)
+    (go_if (may_leave m) (exits m) (rest word m) (λ is. all_go m (counted_members m) message.ExitingConfirmed (λ u who. who) (λ u there. names u (counted_known m u there)))
+    (λ is. rest_goes m me ended.0 (settled_alike n m refl refl ks) ended.1 word names)))
+    (λ other. rest_goes n me kb ks kh word names))
+
+module _ (n : State) (names : KnowsProcesses n) (is : IsProcess n) (node : IsNode n) (kb : KeepsBallots n.singleton) (ks : KeepsSettled n) (kh : KeepsShards n) where
   beats_go : is_member n ≡ true → AllGo (beats (record n { membership = (ticks.tick n.membership).0 }))
   beats_go member =
       let after : State = record n { membership = (ticks.tick n.membership).0 } in
@@ -327,7 +402,7 @@ module _ (n : State) (names : KnowsProcesses n) (is : IsProcess n) (node : IsNod
           (both_go (ends after ++ beats after) (update_by o.1.number o.1.effects)
           (both_go (ends after) (beats after) (none_go (ends after) (ended_sent after.membership.settled.just_ended)) (beats_go member))
           (none_go (update_by o.1.number o.1.effects) (untold o.1.number o.1.effects)))
-          (goes_on_go after (subst IsUnique (sym (tick_learns nothing_given n.membership).same_me) is.me) kb (settled_alike n after (waits_version (margin_of n) n.membership.settled after.membership.settled (tick_learns nothing_given n.membership).waits_on) (waits_standings (margin_of n) n.membership.settled after.membership.settled (tick_learns nothing_given n.membership).waits_on) ks) word (subst (λ (g : GossipState). (who : UniqueModel) → IsTrue (is_known g.view.standings who) → IsUnique who) (goes_quiet word after).same later))
+          (goes_on_go after (subst IsUnique (sym (tick_learns nothing_given n.membership).same_me) is.me) kb (settled_alike n after (waits_version (margin_of n) n.membership.settled after.membership.settled (tick_learns nothing_given n.membership).waits_on) (waits_standings (margin_of n) n.membership.settled after.membership.settled (tick_learns nothing_given n.membership).waits_on) ks) kh word (subst (λ (g : GossipState). (who : UniqueModel) → IsTrue (is_known g.view.standings who) → IsUnique who) (goes_quiet word after).same later))
 
       by_member : (b : Bool) → is_member n ≡ b
           → KnowsProcesses (if b then and_then (goes_on word) (ticked n (ticks.tick n.membership)) else asks_at n.membership.target n).0
@@ -336,39 +411,55 @@ module _ (n : State) (names : KnowsProcesses n) (is : IsProcess n) (node : IsNod
       by_member false member later = asks_go n.membership.target n is.target
 
 -- ---- packets and local events
-told_goes : (n : State) (me : IsUnique (me_of n)) (kb : KeepsBallots n.singleton) (ks : KeepsSettled n) (from : UniqueModel) (m : Message) → IsUnique from → IsBody m → AllGo (on_message from m n).1
-told_goes n me kb ks from message.Join who said = unless_refused_goes (does_for from n) n (membership.on_join from n.membership) (answered from n who)
-told_goes n me kb ks from (message.Welcome g) who said = unless_refused_goes (does_for from n) n (membership.on_gossip g n.membership) (answered from n who)
-told_goes n me kb ks from (message.Gossip g) who said = unless_refused_goes (does_for from n) n (membership.on_gossip g n.membership) (answered from n who)
-told_goes n me kb ks from message.Heartbeat who said = go_if (is_member n) (n, to_process n from message.HeartbeatReply ∷ []) (nothing n) (λ member. one_goes (record { from = me_of n; to = from.address; uid = from.uid; message = message.HeartbeatReply }) who) (λ none. none_go [] refl)
-told_goes n me kb ks from message.HeartbeatReply who said = go_if (is_member n) _ (nothing n) (λ member. none_go [] refl) (λ none. none_go [] refl)
-told_goes n me kb ks from message.ExitingConfirmed who said = go_if (is_member n) _ (nothing n) (λ member. none_go [] refl) (λ none. none_go [] refl)
-told_goes n me kb ks from (message.Ask b) who said = go_if (is_asked from b n) (answers_ask from b n) (nothing n) (λ is. answered_go n me kb ks _ from b who said (and_second (is_member n && is_eq (unique_cmp b.unique from)) (is_grantable n) is)) (λ is. none_go [] refl)
-told_goes n me kb ks from (message.Granted b floor reports) who said = go_if (takes_grant from n) (nothing (keeping (after_granted (is_first_grant from b n.singleton) from floor n.singleton) n)) (nothing n) (λ is. none_go [] refl) (λ is. none_go [] refl)
-told_goes n me kb ks from (message.Busy b held) who said = go_if (is_member n && is_some_ballot n.singleton.live b) (n, told_its_own (Some held) n) (nothing n) (λ is. own_go (Some held) n (λ c at. subst IsBallot (same_Some held c at) said.1)) (λ is. none_go [] refl)
-told_goes n me kb ks from (message.Old b last) who said = go_if (is_member n) (nothing (keeping (after_old (is_outdone b last n.singleton) b last n.singleton) n)) (nothing n) (λ is. none_go [] refl) (λ is. none_go [] refl)
-told_goes n me kb ks from (message.HandOverToMe b) who said =
+packet_goes : (n : State) (me : IsUnique (me_of n)) (kb : KeepsBallots n.singleton) (kh : KeepsShards n) (from : UniqueModel) (m : Message) → IsUnique from → IsBody m → AllGo (on_shards from m n).1
+packet_goes n me kb kh from m who body = go_if (is_member n) (shards_do (λ a s. packets.on_shard_message a from m s) n) (nothing n) (λ is. work_goes (λ a s. packets.on_shard_message a from m s) n (message_in (around n) (around_in n me kb) n.sharding kh from who m body)) (λ is. none_go [] refl)
+
+offer_goes : (n : State) (me : IsUnique (me_of n)) (kb : KeepsBallots n.singleton) (kh : KeepsShards n) (entity : List ℕ) (payload : ℕ) → IsEntity entity → payload < 2 ^ 64 → AllGo (offer entity payload n).1
+offer_goes n me kb kh entity payload e p = work_goes (λ a s. hosts.on_offer a entity payload s) n (offer_in (around n) (around_in n me kb) n.sharding kh entity payload e p)
+
+told_goes : (n : State) (me : IsUnique (me_of n)) (kb : KeepsBallots n.singleton) (ks : KeepsSettled n) (kh : KeepsShards n) (from : UniqueModel) (m : Message) → IsUnique from → IsBody m → AllGo (on_message from m n).1
+told_goes n me kb ks kh from message.Join who said = unless_refused_goes (does_for from n) n (membership.on_join from n.membership) (answered from n who)
+told_goes n me kb ks kh from (message.Welcome g) who said = unless_refused_goes (does_for from n) n (membership.on_gossip g n.membership) (answered from n who)
+told_goes n me kb ks kh from (message.Gossip g) who said = unless_refused_goes (does_for from n) n (membership.on_gossip g n.membership) (answered from n who)
+told_goes n me kb ks kh from message.Heartbeat who said = go_if (is_member n) (n, to_process n from message.HeartbeatReply ∷ []) (nothing n) (λ member. one_goes (record { from = me_of n; to = from.address; uid = from.uid; message = message.HeartbeatReply }) who) (λ none. none_go [] refl)
+told_goes n me kb ks kh from message.HeartbeatReply who said = go_if (is_member n) _ (nothing n) (λ member. none_go [] refl) (λ none. none_go [] refl)
+told_goes n me kb ks kh from message.ExitingConfirmed who said = go_if (is_member n) _ (nothing n) (λ member. none_go [] refl) (λ none. none_go [] refl)
+told_goes n me kb ks kh from (message.Ask b) who said = go_if (is_asked from b n) (answers_ask from b n) (nothing n) (λ is. answered_go n me kb ks kh _ from b who said (and_second (is_member n && is_eq (unique_cmp b.unique from)) (is_grantable n) is)) (λ is. none_go [] refl)
+told_goes n me kb ks kh from (message.Granted b floor reports) who said = go_if (takes_grant from reports n) (nothing (takes from b floor reports n)) (nothing n) (λ is. none_go [] refl) (λ is. none_go [] refl)
+told_goes n me kb ks kh from (message.Busy b held) who said = go_if (is_member n && is_some_ballot n.singleton.live b) (n, told_its_own (Some held) n) (nothing n) (λ is. own_go (Some held) n (λ c at. subst IsBallot (same_Some held c at) said.1)) (λ is. none_go [] refl)
+told_goes n me kb ks kh from (message.Old b last) who said = go_if (is_member n) _ (nothing n) (λ is. none_go [] refl) (λ is. none_go [] refl)
+told_goes n me kb ks kh from (message.HandOverToMe b) who said =
     go_if (is_member n && has_handed_over b n) (n, to_process n from (message.HandOverDone b (version_of (settled_of n))) ∷ []) (nothing n)
     (λ is. one_goes (record { from = me_of n; to = from.address; uid = from.uid; message = message.HandOverDone b (version_of (settled_of n)) }) (who, (said, counted_short (version_of (settled_of n)) ks.version ks.few))) (λ is. none_go [] refl)
-told_goes n me kb ks from (message.HandOverDone b floor) who said =
+told_goes n me kb ks kh from (message.HandOverDone b floor) who said =
     go_if (is_member n) (promising (released_by n.singleton.promise b floor) n, to_each n (in_order (needed_others n)) (message.Release b floor)) (nothing n)
     (λ is. all_go n (in_order (needed_others n)) (message.Release b floor) (λ u unique. (unique, said)) (needed_process n ks (only (me_of n)))) (λ is. none_go [] refl)
-told_goes n me kb ks from (message.Release b floor) who said = go_if (is_member n) (nothing (promising (released_by n.singleton.promise b floor) n)) (nothing n) (λ is. none_go [] refl) (λ is. none_go [] refl)
-told_goes n me kb ks from (message.Leave subject) who said = unless_refused_goes (does n) n (membership.leave subject n.membership) (update_goes n)
-told_goes n me kb ks from (message.Down subject) who said = unless_refused_goes (does n) n (membership.down subject n.membership) (update_goes n)
-told_goes n me kb ks from other who said = none_go [] refl
+told_goes n me kb ks kh from (message.Release b floor) who said = go_if (is_member n) (nothing (promising (released_by n.singleton.promise b floor) n)) (nothing n) (λ is. none_go [] refl) (λ is. none_go [] refl)
+told_goes n me kb ks kh from (message.Leave subject) who said = unless_refused_goes (does n) n (membership.leave subject n.membership) (update_goes n)
+told_goes n me kb ks kh from (message.Down subject) who said = unless_refused_goes (does n) n (membership.down subject n.membership) (update_goes n)
+told_goes n me kb ks kh from (message.GetHome b shard) who said = packet_goes n me kb kh from (message.GetHome b shard) who said
+told_goes n me kb ks kh from (message.Home b shard owner) who said = packet_goes n me kb kh from (message.Home b shard owner) who said
+told_goes n me kb ks kh from (message.HostShard b shard number) who said = packet_goes n me kb kh from (message.HostShard b shard number) who said
+told_goes n me kb ks kh from (message.ShardStarted b shard number) who said = packet_goes n me kb kh from (message.ShardStarted b shard number) who said
+told_goes n me kb ks kh from (message.BeginHandOff b shard number) who said = packet_goes n me kb kh from (message.BeginHandOff b shard number) who said
+told_goes n me kb ks kh from (message.BeginHandOffAck b shard number) who said = packet_goes n me kb kh from (message.BeginHandOffAck b shard number) who said
+told_goes n me kb ks kh from (message.HandOff b shard number) who said = packet_goes n me kb kh from (message.HandOff b shard number) who said
+told_goes n me kb ks kh from (message.ShardStopped b shard number) who said = packet_goes n me kb kh from (message.ShardStopped b shard number) who said
+told_goes n me kb ks kh from (message.Forward entity payload) who said = packet_goes n me kb kh from (message.Forward entity payload) who said
+told_goes n me kb ks kh from (message.Offer entity payload) who said = offer_goes n me kb kh entity payload said.0 said.1
 
-rule_goes : (e : NodeEvent) (n : State) → IsSaid e → KnowsProcesses n → IsProcess n → IsNode n → KeepsBallots n.singleton → KeepsSettled n → KnowsProcesses (rule e n).0 → AllGo (rule e n).1
-rule_goes event.Found n said names is node kb ks later = update_goes n (membership.found n.membership)
-rule_goes (event.Join target) n said names is node kb ks later = go_if (is_member n) (nothing n) _ (λ member. none_go [] refl) (λ none. one_goes (record { from = me_of n; to = target; uid = 0; message = message.Join }) (refl, said))
-rule_goes (event.Tick word) n said names is node kb ks later = tick_goes n names is node kb ks word later
-rule_goes (event.Packet p) n said names is node kb ks later = told_goes n is.me kb ks p.from p.message said.from said.body
-rule_goes (event.Leave who) n said names is node kb ks later = unless_refused_goes (does n) n (membership.leave who n.membership) (update_goes n)
-rule_goes (event.Down who) n said names is node kb ks later = unless_refused_goes (does n) n (membership.down who n.membership) (update_goes n)
-rule_goes event.Stop n said names is node kb ks later = none_go [] refl
+rule_goes : (e : NodeEvent) (n : State) → IsSaid e → KnowsProcesses n → IsProcess n → IsNode n → KeepsBallots n.singleton → KeepsSettled n → KeepsShards n → KnowsProcesses (rule e n).0 → AllGo (rule e n).1
+rule_goes event.Found n said names is node kb ks kh later = update_goes n (membership.found n.membership)
+rule_goes (event.Join target) n said names is node kb ks kh later = go_if (is_member n) (nothing n) _ (λ member. none_go [] refl) (λ none. one_goes (record { from = me_of n; to = target; uid = 0; message = message.Join }) (refl, said))
+rule_goes (event.Tick word) n said names is node kb ks kh later = tick_goes n names is node kb ks kh word later
+rule_goes (event.Packet p) n said names is node kb ks kh later = told_goes n is.me kb ks kh p.from p.message said.from said.body
+rule_goes (event.Leave who) n said names is node kb ks kh later = unless_refused_goes (does n) n (membership.leave who n.membership) (update_goes n)
+rule_goes (event.Down who) n said names is node kb ks kh later = unless_refused_goes (does n) n (membership.down who n.membership) (update_goes n)
+rule_goes (event.Offer entity payload) n said names is node kb ks kh later = offer_goes n is.me kb kh entity payload said.0 said.1
+rule_goes event.Stop n said names is node kb ks kh later = none_go [] refl
 
-running_goes : (e : NodeEvent) (n : State) → IsSaid e → KnowsProcesses n → IsProcess n → IsNode n → KeepsBallots n.singleton → KeepsSettled n → KnowsProcesses (running_step e n).0 → AllGo (running_step e n).1
-running_goes e n said names is node kb ks later = by_dead (is_dead (me_of n) e) later
+running_goes : (e : NodeEvent) (n : State) → IsSaid e → KnowsProcesses n → IsProcess n → IsNode n → KeepsBallots n.singleton → KeepsSettled n → KeepsShards n → KnowsProcesses (running_step e n).0 → AllGo (running_step e n).1
+running_goes e n said names is node kb ks kh later = by_dead (is_dead (me_of n) e) later
   where
     closing_sent : (after : State) → sent (closes after).1 ≡ []
     closing_sent after = due_sent (is_viewed after.membership) (stops (not after.runs) after.membership) (notes (not after.runs) after.membership)
@@ -385,8 +476,8 @@ running_goes e n said names is node kb ks later = by_dead (is_dead (me_of n) e) 
     by_dead true later = none_go (action.Dead ∷ []) refl
     by_dead false later =
         let after = (rule e n).0 in
-        let c = (closes after).0 in
-        both_go (rule e n).1 (concludes after).1 (rule_goes e n said names is node kb ks later)
+        let c = forgets (closes after).0 in
+        both_go (rule e n).1 (concludes after).1 (rule_goes e n said names is node kb ks kh later)
         (both_go (closes after).1 (activates c).1 (none_go (closes after).1 (closing_sent after))
         (none_go (activates c).1 (active_sent (c.runs && may_activate (me_of c) (settled_of c) (margin_of c) c.singleton) c)))
 
@@ -394,13 +485,13 @@ running_goes e n said names is node kb ks later = by_dead (is_dead (me_of n) e) 
 more : (n : State) → IsNode n → IsNode (record n { steps = n.steps + 1 })
 more n node = record { ticked = let ticked = node.ticked in omega arith; shown = node.shown; watching = node.watching; counting = node.counting; stays = node.stays }
 
-pub sends_valid : (e : NodeEvent) (n : State) → IsSaid e → KnowsProcesses n → IsProcess n → IsNode n → KeepsBallots n.singleton → KeepsSettled n → KnowsProcesses (step e n).0 → IsGossip (known (step e n).0) → AreValid (step e n).1
-sends_valid e n said names is node kb ks later gossip = by_runs n.runs refl
+pub sends_valid : (e : NodeEvent) (n : State) → IsSaid e → KnowsProcesses n → IsProcess n → IsNode n → KeepsBallots n.singleton → KeepsSettled n → KeepsShards n → KnowsProcesses (step e n).0 → IsGossip (known (step e n).0) → AreValid (step e n).1
+sends_valid e n said names is node kb ks kh later gossip = by_runs n.runs refl
   where
     runs_valid : n.runs ≡ true → AreValid (step e n).1
     runs_valid runs p there =
         let c = step_changes e n runs in
-        let goes = running_goes e (record n { steps = n.steps + 1 }) said names (record { me = is.me; target = is.target }) (more n node) kb (settled_alike n (record n { steps = n.steps + 1 }) refl refl ks) (subst (λ (o : Outcome). KnowsProcesses o.0) (step_is e n runs) later) p (subst (λ (o : Outcome). Contains (sent o.1) p) (step_is e n runs) there) in
+        let goes = running_goes e (record n { steps = n.steps + 1 }) said names (record { me = is.me; target = is.target }) (more n node) kb (settled_alike n (record n { steps = n.steps + 1 }) refl refl ks) kh (subst (λ (o : Outcome). KnowsProcesses o.0) (step_is e n runs) later) p (subst (λ (o : Outcome). Contains (sent o.1) p) (step_is e n runs) there) in
         valid_by p.message p.from p.to p.uid (subst IsUnique (sym (c.from p there)) is.me) goes
         (λ g carries. subst IsSendable (sym (c.carried p g there carries)) (record { gossip = gossip; uniques = later }))
 
@@ -412,10 +503,10 @@ sends_valid e n said names is node kb ks later gossip = by_runs n.runs refl
 pub names_of : (s : State) (g : GossipState) → g ≡ known s → IsSendable g → KnowsProcesses s
 names_of s g is sendable = (subst IsSendable is sendable).uniques
 
-pub step_sends : (e : NodeEvent) (n s : State) (actions : List Action) (g : GossipState) → IsSaid e → KnowsProcesses n → IsProcess n → IsNode n → KeepsBallots n.singleton → KeepsSettled n → s ≡ (step e n).0 → actions ≡ (step e n).1 → g ≡ known s → IsSendable g → AreValid actions
-step_sends e n s actions g said names is node kb ks state done same sendable =
+pub step_sends : (e : NodeEvent) (n s : State) (actions : List Action) (g : GossipState) → IsSaid e → KnowsProcesses n → IsProcess n → IsNode n → KeepsBallots n.singleton → KeepsSettled n → KeepsShards n → s ≡ (step e n).0 → actions ≡ (step e n).1 → g ≡ known s → IsSendable g → AreValid actions
+step_sends e n s actions g said names is node kb ks kh state done same sendable =
     let known_then : IsSendable (known (step e n).0) = subst IsSendable (same ∙ ap known state) sendable in
-    subst AreValid (sym done) (sends_valid e n said names is node kb ks known_then.uniques known_then.gossip)
+    subst AreValid (sym done) (sends_valid e n said names is node kb ks kh known_then.uniques known_then.gossip)
 
 -- whoever knows nothing knows no process
 pub no_names : (g : GossipState) → g ≡ nothing_known → (who : UniqueModel) → IsTrue (is_known g.view.standings who) → IsUnique who

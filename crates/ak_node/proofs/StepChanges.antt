@@ -21,10 +21,18 @@ use Rattle.ak_promise.specs.declared.promise.Answer.{Answer}
 use Rattle.ak_promise.specs.declared.promise.Answer.TheVariants as given
 use Rattle.ak_promise.specs.Ballot.{BallotModel}
 use Rattle.ak_promise.specs.Promise.{is_some_ballot}
+use Rattle.ak_shard_id.specs.declared.report.Report.{Report}
+use Rattle.ak_sharding.specs.Sharding as sharding
+use Rattle.ak_sharding.specs.Sharding.{ShardingModel, Around}
+use Rattle.ak_sharding.specs.Hosts as hosts
+use Rattle.ak_sharding.specs.Coordinates as coordinates
+use Rattle.ak_sharding.specs.Packets as packets
+use Rattle.ak_sharding.specs.Work.{AreWork}
+use Rattle.ak_sharding.proofs.RuleWork.{work_updates, work_sent, offer_work, asks_homes_work, coordinates_work, message_work}
 use Rattle.ak_singleton.specs.declared.phase.Phase.{Phase}
 use Rattle.ak_singleton.specs.declared.phase.Phase.TheVariants as phase
 use Rattle.ak_singleton.specs.declared.phase.TickRule.{TickRule}
-use Rattle.ak_singleton.specs.Singleton.{SingletonModel, steps_of, active_term, after_activation}
+use Rattle.ak_singleton.specs.Singleton.{SingletonModel, steps_of, active_term, is_outdone, after_old, after_activation}
 use Rattle.ak_wire.specs.declared.envelope.Envelope.{Envelope}
 use Rattle.ak_wire.specs.declared.envelope.Message.{Message}
 use Rattle.ak_wire.specs.declared.envelope.Message.TheVariants as message
@@ -35,7 +43,7 @@ use Rattle.ak_wire.proofs.Sending.{sent-append, updates-append}
 use Rattle.ak_node.specs.declared.node.State.{State}
 use Rattle.ak_node.specs.declared.node.NodeEvent.{NodeEvent}
 use Rattle.ak_node.specs.declared.node.NodeEvent.TheVariants as event
-use Rattle.ak_node.specs.Node.{known, me_of, status_of, is_member, is_gone, nothing, to_address, does, does_for, join, leave, down, stop, asks_at, counted_members, exits, gossips_to, gossips, keeping, told_of, told_its_own, told_to_each, releases, needed_others, rule_on, does_rule, asks_as, told_end, let_go, ends_phase, told_active, becomes_active, activates, floor_of, reports_of, answered, is_asked, answers_ask, on_ask, takes_grant, on_granted, on_busy, on_old, has_handed_over, on_hand_over, on_release, on_done, goes_on, ends, beats, ticked, update_by, tick, on_gossip, on_confirmed, on_message, rule, if_so, closes, concludes, is_dead, running_step, step}
+use Rattle.ak_node.specs.Node.{Outcome, known, me_of, status_of, is_member, is_gone, nothing, and_then, to_address, does, does_for, join, leave, down, stop, asks_at, counted_members, exits, gossips_to, gossips, keeping, told_of, told_its_own, told_to_each, releases, needed_others, rule_on, does_rule, asks_as, told_end, let_go, ends_phase, told_active, becomes_active, activates, floor_of, reports_of, answered, is_asked, answers_ask, on_ask, takes_grant, on_granted, on_busy, on_old, has_handed_over, on_hand_over, on_release, on_done, goes_on, around, sharing, shards_do, offer, on_shards, takes, rest, may_leave, leaves, forgets, ends, beats, ticked, update_by, tick, on_gossip, on_confirmed, on_message, rule, if_so, closes, concludes, is_dead, running_step, step}
 use Rattle.ak_membership.specs.Tick as ticks
 use Rattle.ak_membership.specs.Tick.{gossip_peer}
 use Rattle.ak_node.specs.Change.{Changes, Quiet, IsConfirmed, given_by, asker_in}
@@ -65,6 +73,32 @@ gossips_quiet (Some to) n = one_sent n n (record { from = me_of n; to = to.addre
 keeps_alike : (n : State) (s : SingletonModel) → IsAlike n (keeping s n)
 keeps_alike n s = record { same = refl; me = refl; settings = refl; steps = refl; ran = λ r. r; ticks = refl; confirmed = refl; founder = refl }
 
+kept_alike : (n : State) (s : SingletonModel) (t : ShardingModel) → IsAlike n (keeping s (sharing t n))
+kept_alike n s t = record { same = refl; me = refl; settings = refl; steps = refl; ran = λ r. r; ticks = refl; confirmed = refl; founder = refl }
+
+-- ---- the shards
+-- work on shards tells no more than packets of the process
+pub work_tells : (me : UniqueModel) (actions : List Action) → AreWork me actions → Tells me actions
+work_tells me actions w = record {
+  made = work_updates me actions w;
+  from = λ p there. (work_sent me actions w p there).0;
+  bare = λ p there. (work_sent me actions w p there).1;
+  stays = λ p there. (work_sent me actions w p there).2;
+}
+
+pub shards_quiet : (work : Around → ShardingModel → sharding.Outcome) (n : State) → AreWork (me_of n) (work (around n) n.sharding).1 → Quiet n (shards_do work n)
+shards_quiet work n w = tells_quiet n _ (work (around n) n.sharding).1 (record { same = refl; me = refl; settings = refl; steps = refl; ran = λ r. r; ticks = refl; confirmed = refl; founder = refl }) (work_tells (me_of n) (work (around n) n.sharding).1 w)
+
+offer_quiet : (entity : List ℕ) (payload : ℕ) (n : State) → Quiet n (offer entity payload n)
+offer_quiet entity payload n = shards_quiet (λ a s. hosts.on_offer a entity payload s) n (offer_work (around n) entity payload n.sharding)
+
+on_shards_quiet : (from : UniqueModel) (what : Message) (n : State) → Quiet n (on_shards from what n)
+on_shards_quiet from what n = quiet_if n (is_member n) (λ is. shards_quiet (λ a s. packets.on_shard_message a from what s) n (message_work (around n) from what n.sharding)) (λ is. still n)
+
+-- a part after which only the shards change
+forgets_quiet : (n : State) (o : Outcome) → Quiet n o → Quiet n (forgets o.0, o.1)
+forgets_quiet n o q = record { same = q.same; made = q.made; same_me = q.same_me; same_settings = q.same_settings; same_steps = q.same_steps; from = q.from; carried = q.carried; says = q.says; ran = q.ran; same_ticks = q.same_ticks; confirmed = q.confirmed; founder = q.founder }
+
 pub of_tells : (o : Option BallotModel) (what : BallotModel → Message) → ((b : BallotModel) → gossip_of (what b) ≡ None) → ((b : BallotModel) → says_it_stops (what b) ≡ false) → (to : UniqueModel) (n : State) → Tells (me_of n) (told_of o what to n)
 of_tells None what bare stays to n = tells_nothing (me_of n) [] refl refl
 of_tells (Some b) what bare stays to n = tells_one n to (what b) (bare b) (stays b)
@@ -84,7 +118,7 @@ rule_quiet : (r : TickRule) (n : State) → Quiet n (does_rule r n)
 rule_quiet r n =
     let after : State = (does_rule r n).0 in
     let steps = steps_of r (me_of n) n.membership.settled.view n.membership.settings.margin n.singleton in
-    tells_quiet n after (does_rule r n).1 (keeps_alike n after.singleton)
+    tells_quiet n after (does_rule r n).1 (kept_alike n after.singleton after.sharding)
     (tells_both (me_of n) (told_its_own steps.hand_over_to after ++ releases steps.release after) _
     (tells_both (me_of n) (told_its_own steps.hand_over_to after) (releases steps.release after) (own_tells steps.hand_over_to after) (releases_tell steps.release after))
     (to_each_tells after.singleton.live message.Ask (λ b. refl) (λ b. refl) steps.ask after))
@@ -105,15 +139,29 @@ let_go_tells phase.Ended n = tells_nothing (me_of n) [] refl refl
 
 ends_quiet : (n : State) → Quiet n (ends_phase n)
 ends_quiet n =
-    tells_quiet n (ends_phase n).0 (ends_phase n).1 (keeps_alike n (ends_phase n).0.singleton)
+    tells_quiet n (ends_phase n).0 (ends_phase n).1 (kept_alike n (ends_phase n).0.singleton (ends_phase n).0.sharding)
     (tells_both (me_of n) (told_end (active_term n.singleton.phase n.singleton.live)) (let_go n.singleton.phase n) (end_tells (me_of n) (active_term n.singleton.phase n.singleton.live)) (let_go_tells n.singleton.phase n))
+
+rest_quiet : (word : ℕ) (n : State) → Quiet n (rest word n)
+rest_quiet word n =
+    let a = (asks_as (status_of n) n).0 in
+    let b = (shards_do coordinates.coordinates a).0 in
+    let c = (shards_do hosts.asks_homes b).0 in
+    quiet_then n (gossips word) (and_then (shards_do hosts.asks_homes) (and_then (shards_do coordinates.coordinates) (asks_as (status_of n) n)))
+    (quiet_then n (shards_do hosts.asks_homes) (and_then (shards_do coordinates.coordinates) (asks_as (status_of n) n))
+    (quiet_then n (shards_do coordinates.coordinates) (asks_as (status_of n) n) (asks_as_quiet (status_of n) n) (shards_quiet coordinates.coordinates a (coordinates_work (around a) a.sharding)))
+    (shards_quiet hosts.asks_homes b (asks_homes_work (around b) b.sharding)))
+    (gossips_quiet (gossip_peer word c.membership) c)
+
+leaves_quiet : (word : ℕ) (n : State) → Quiet n (leaves word n)
+leaves_quiet word n = quiet_if n (may_leave n) (λ is. exits_quiet n) (λ is. rest_quiet word n)
 
 pub goes_quiet : (word : ℕ) (n : State) → Quiet n (goes_on word n)
 goes_quiet word n =
     quiet_if n (is_gone n) (λ is. still n) (λ is.
     quiet_if n (is_member_with is_exiting (known n).view.standings (me_of n))
-    (λ is. quiet_then n exits (ends_phase n) (ends_quiet n) (exits_quiet (ends_phase n).0))
-    (λ is. quiet_then n (gossips word) (asks_as (status_of n) n) (asks_as_quiet (status_of n) n) (let m = (asks_as (status_of n) n).0 in gossips_quiet (gossip_peer word m.membership) m)))
+    (λ is. quiet_then n (leaves word) (ends_phase n) (ends_quiet n) (leaves_quiet word (ends_phase n).0))
+    (λ is. rest_quiet word n))
 
 active_tells : (me : UniqueModel) (o : Option BallotModel) → Tells me (told_active o)
 active_tells me None = tells_nothing me [] refl refl
@@ -135,14 +183,18 @@ kept_quiet s actions n t = tells_quiet n (keeping s n) actions (keeps_alike n s)
 ask_quiet : (from : UniqueModel) (b : BallotModel) (n : State) → Quiet n (on_ask from b n)
 ask_quiet from b n = quiet_if n (is_asked from b n) (λ is. kept_quiet (answers_ask from b n).0.singleton _ n (answer_tells _ from b n)) (λ is. still n)
 
-granted_quiet : (from : UniqueModel) (b : BallotModel) (floor : Counts) (n : State) → Quiet n (on_granted from b floor n)
-granted_quiet from b floor n = quiet_if n (takes_grant from n) (λ is. kept_quiet _ [] n (tells_nothing (me_of n) [] refl refl)) (λ is. still n)
+granted_quiet : (from : UniqueModel) (b : BallotModel) (floor : Counts) (told : List Report) (n : State) → Quiet n (on_granted from b floor told n)
+granted_quiet from b floor told n =
+    quiet_if n (takes_grant from told n) (λ is. tells_quiet n (takes from b floor told n) [] (kept_alike n (takes from b floor told n).singleton (takes from b floor told n).sharding) (tells_nothing (me_of n) [] refl refl)) (λ is. still n)
 
 busy_quiet : (b held : BallotModel) (n : State) → Quiet n (on_busy b held n)
 busy_quiet b held n = quiet_if n (is_member n && is_some_ballot n.singleton.live b) (λ is. tells_quiet n n _ (itself n) (own_tells (Some held) n)) (λ is. still n)
 
 old_quiet : (b last : BallotModel) (n : State) → Quiet n (on_old b last n)
-old_quiet b last n = quiet_if n (is_member n) (λ is. kept_quiet _ [] n (tells_nothing (me_of n) [] refl refl)) (λ is. still n)
+old_quiet b last n =
+    quiet_if n (is_member n)
+    (λ is. tells_quiet n _ [] (kept_alike n (after_old (is_outdone b last n.singleton) b last n.singleton) (coordinates.begins_if (is_outdone b last n.singleton) (me_of n) n.sharding)) (tells_nothing (me_of n) [] refl refl))
+    (λ is. still n)
 
 hand_over_quiet : (from : UniqueModel) (b : BallotModel) (n : State) → Quiet n (on_hand_over from b n)
 hand_over_quiet from b n = quiet_if n (is_member n && has_handed_over b n) (λ is. tells_quiet n n _ (itself n) (tells_one n from (message.HandOverDone b _) refl refl)) (λ is. still n)
@@ -253,7 +305,7 @@ module _ (e : NodeEvent) (n : State) where
       (λ _. quietly e n (nothing n) (still n))
   being_told p is message.ExitingConfirmed what = confirming p is (ap says_it_stops what)
   being_told p is (message.Ask b) what = quietly e n _ (ask_quiet p.from b n)
-  being_told p is (message.Granted b floor reports) what = quietly e n _ (granted_quiet p.from b floor n)
+  being_told p is (message.Granted b floor reports) what = quietly e n _ (granted_quiet p.from b floor reports n)
   being_told p is (message.Busy b held) what = quietly e n _ (busy_quiet b held n)
   being_told p is (message.Old b last) what = quietly e n _ (old_quiet b last n)
   being_told p is (message.HandOverToMe b) what = quietly e n _ (hand_over_quiet p.from b n)
@@ -261,7 +313,16 @@ module _ (e : NodeEvent) (n : State) where
   being_told p is (message.Release b floor) what = quietly e n _ (release_quiet b floor n)
   being_told p is (message.Leave who) what = leaving who
   being_told p is (message.Down who) what = downing who
-  being_told p is other what = quietly e n (nothing n) (still n)
+  being_told p is (message.GetHome b shard) what = quietly e n _ (on_shards_quiet p.from (message.GetHome b shard) n)
+  being_told p is (message.Home b shard owner) what = quietly e n _ (on_shards_quiet p.from (message.Home b shard owner) n)
+  being_told p is (message.HostShard b shard number) what = quietly e n _ (on_shards_quiet p.from (message.HostShard b shard number) n)
+  being_told p is (message.ShardStarted b shard number) what = quietly e n _ (on_shards_quiet p.from (message.ShardStarted b shard number) n)
+  being_told p is (message.BeginHandOff b shard number) what = quietly e n _ (on_shards_quiet p.from (message.BeginHandOff b shard number) n)
+  being_told p is (message.BeginHandOffAck b shard number) what = quietly e n _ (on_shards_quiet p.from (message.BeginHandOffAck b shard number) n)
+  being_told p is (message.HandOff b shard number) what = quietly e n _ (on_shards_quiet p.from (message.HandOff b shard number) n)
+  being_told p is (message.ShardStopped b shard number) what = quietly e n _ (on_shards_quiet p.from (message.ShardStopped b shard number) n)
+  being_told p is (message.Forward entity payload) what = quietly e n _ (on_shards_quiet p.from (message.Forward entity payload) n)
+  being_told p is (message.Offer entity payload) what = quietly e n _ (offer_quiet entity payload n)
 
 pub rule_changes : (e : NodeEvent) (n : State) → Changes e n (rule e n)
 rule_changes event.Found n = does_changes event.Found n (membership.found n.membership) (found_learns (given_by event.Found) n.membership refl)
@@ -270,6 +331,7 @@ rule_changes (event.Tick word) n = ticking (event.Tick word) n word
 rule_changes (event.Packet p) n = being_told (event.Packet p) n p refl p.message refl
 rule_changes (event.Leave who) n = leaving (event.Leave who) n who
 rule_changes (event.Down who) n = downing (event.Down who) n who
+rule_changes (event.Offer entity payload) n = quietly (event.Offer entity payload) n _ (offer_quiet entity payload n)
 rule_changes event.Stop n = quietly event.Stop n (stop n) (silent n (stop n).0 [] (record { same = refl; me = refl; settings = refl; steps = refl; ran = λ r. absurd (true≢false (sym r)); ticks = refl; confirmed = refl; founder = refl }) refl refl)
 
 -- ---- the closing
@@ -308,7 +370,8 @@ closes_quiet n = silent n (closes n).0 (closes n).1
 pub running_changes : (e : NodeEvent) (n : State) → Changes e n (running_step e n)
 running_changes e n =
     changes_if e n (is_dead (me_of n) e) (λ is. quietly e n (n, action.Dead ∷ []) (silent n n (action.Dead ∷ []) (itself n) refl refl))
-    (λ is. changes_then e n concludes (rule e n) (rule_changes e n) (quiet_then (rule e n).0 activates (closes (rule e n).0) (closes_quiet (rule e n).0) (becomes_quiet _ (closes (rule e n).0).0)))
+    (λ is. changes_then e n concludes (rule e n) (rule_changes e n)
+    (quiet_then (rule e n).0 activates (forgets (closes (rule e n).0).0, (closes (rule e n).0).1) (forgets_quiet (rule e n).0 (closes (rule e n).0) (closes_quiet (rule e n).0)) (becomes_quiet _ (forgets (closes (rule e n).0).0))))
 
 -- the step of a node that runs, as that of the node with one step more
 pub step_is : (e : NodeEvent) (n : State) → IsTrue n.runs → step e n ≡ running_step e (record n { steps = n.steps + 1 })

@@ -19,7 +19,7 @@ use Rattle.ak_member.specs.Standing as standing
 use Rattle.ak_member.specs.Standing.{is_exiting, is_up, is_down}
 use Rattle.ak_line.specs.BallotOrder.{IsLater}
 use Rattle.ak_line.specs.Moves as moves
-use Rattle.ak_line.specs.Moves.{Node, Said, Move}
+use Rattle.ak_line.specs.Moves.{IsLive, Node, Said, Move}
 use Rattle.ak_line.specs.Local.{changed, AllLocal, changed_all}
 use Rattle.ak_line.proofs.LocalLists.{changed_append, speaks_first, speaks_then, local_append}
 use Rattle.ak_line.proofs.LocalRuns.{finds, found, local_finds, after_finds}
@@ -40,7 +40,15 @@ use Rattle.ak_schedule.specs.Settings.{SettingsModel, is_listed}
 use Rattle.ak_settled.specs.SettledView.{SettledView, SettledModel}
 use Rattle.ak_settled.specs.Settled.{version_of, is_finished, after_tick, after_note, ticked, ending}
 use Rattle.ak_promise.specs.Promise.{is_some_ballot, released_by}
-use Rattle.ak_singleton.specs.Singleton.{SingletonModel, is_first_grant, after_granted, is_outdone, after_old, may_activate}
+use Rattle.ak_singleton.specs.Singleton.{SingletonModel, is_outdone, after_old, ended_from, ended, may_activate}
+use Rattle.ak_shard_id.specs.declared.report.Report.{Report}
+use Rattle.ak_line.specs.Told.{EachOnce}
+use Rattle.ak_sharding.specs.Sharding.{ShardingModel}
+use Rattle.ak_sharding.specs.Hosts as hosts
+use Rattle.ak_sharding.specs.Coordinates as coordinates
+use Rattle.ak_sharding.specs.Packets as packets
+use Rattle.ak_sharding.specs.Sharing.{IsSharing}
+use Rattle.ak_sharding.proofs.HostMoves.{forgets_kept}
 use Rattle.ak_singleton.specs.declared.phase.Phase.{Phase}
 use Rattle.ak_singleton.specs.declared.phase.Phase.TheVariants as phase
 use Rattle.ak_singleton.proofs.AsMoves.{HasPhase, IsLike}
@@ -56,11 +64,11 @@ use Rattle.ak_node.specs.declared.node.State.{State}
 use Rattle.ak_node.specs.declared.node.NodeEvent.{NodeEvent}
 use Rattle.ak_node.specs.declared.node.NodeEvent.TheVariants as event
 use Rattle.ak_node.specs.Node as node
-use Rattle.ak_node.specs.Node.{Outcome, known, me_of, settled_of, margin_of, is_member, is_gone, nothing, refused, number_of, and_then, to_process, to_each, to_address, answer, update_by, does, does_for, unless_refused, join, leave, down, stop, asks_at, counted_members, exits, gossips_to, gossips, status_of, asks_as, ends_phase, becomes_active, activates, told_active, keeping, promising, told_its_own, needed_others, is_asked, answers_ask, takes_grant, has_handed_over, goes_on, ends, beats, tick, on_message, rule, if_so, due, closes, concludes, is_dead, running_step, step}
-use Rattle.ak_node.specs.Said.{marks_in, said_to, said_in}
+use Rattle.ak_node.specs.Node.{around, sharing, shards_do, takes, rest, may_leave, forgets, Outcome, known, me_of, settled_of, margin_of, is_member, is_gone, nothing, refused, number_of, and_then, to_process, to_each, to_address, answer, update_by, does, does_for, unless_refused, join, leave, down, stop, asks_at, counted_members, exits, gossips_to, gossips, status_of, asks_as, ends_phase, becomes_active, activates, told_active, keeping, promising, told_its_own, needed_others, is_asked, answers_ask, takes_grant, has_handed_over, goes_on, ends, beats, tick, on_message, rule, if_so, due, closes, concludes, is_dead, running_step, step}
+use Rattle.ak_node.specs.Said.{said_to, said_in}
 use Rattle.ak_node.proofs.StepChanges.{ended_sent, due_sent}
 use Rattle.ak_node.proofs.MarginEnds.{Leaves, leaves_if, update_leaves, update_any_leaves, updates_leave}
-use Rattle.ak_node.proofs.StepMoves.{Unsaid, unsaid_none, unsaid_both, unsaid_each, unsaid_answer, finished_in, finished_there, there_finished, l, IsShown, IsPart, IsAfter, IsOwn, part_alike, SaysNoMore, Does, does_then, does_if, unmoved, asks_does, ends_does, active_does, ask_does, granted_does, busy_does, old_does, hand_over_does, done_does, release_does}
+use Rattle.ak_node.proofs.StepMoves.{on_shards_does, offer_does, coordinates_do, asks_homes_do, bound_asked, Unsaid, unsaid_none, unsaid_both, unsaid_each, unsaid_answer, finished_in, finished_there, there_finished, l, IsShown, IsPart, IsAfter, IsOwn, part_alike, SaysNoMore, Does, does_then, does_if, unmoved, asks_does, ends_does, active_does, ask_does, granted_does, busy_does, old_does, hand_over_does, done_does, release_does}
 
 -- ---- each rule of the membership but the tick leaves the settled view, and the settings
 abbrev LeavesOk : MembershipState → Result membership.Outcome MemberFault → Type 0
@@ -174,22 +182,29 @@ stays_told n from message.ExitingConfirmed = stays_if n (is_member n) (nothing (
     by_member true = refl
     by_member false = refl
 stays_told n from (message.Ask b) = stays_if n (is_asked from b n) (answers_ask from b n) (nothing n) refl refl
-stays_told n from (message.Granted b floor reports) = stays_if n (takes_grant from n) (nothing (keeping (after_granted (is_first_grant from b n.singleton) from floor n.singleton) n)) (nothing n) refl refl
+stays_told n from (message.Granted b floor reports) = stays_if n (takes_grant from reports n) (nothing (takes from b floor reports n)) (nothing n) refl refl
 stays_told n from (message.Busy b held) = stays_if n (is_member n && is_some_ballot n.singleton.live b) (n, told_its_own (Some held) n) (nothing n) refl refl
-stays_told n from (message.Old b last) = stays_if n (is_member n) (nothing (keeping (after_old (is_outdone b last n.singleton) b last n.singleton) n)) (nothing n) refl refl
+stays_told n from (message.Old b last) = stays_if n (is_member n) (nothing (keeping (after_old (is_outdone b last n.singleton) b last n.singleton) (sharing (coordinates.begins_if (is_outdone b last n.singleton) (me_of n) n.sharding) n))) (nothing n) refl refl
 stays_told n from (message.HandOverToMe b) = stays_if n (is_member n && has_handed_over b n) (n, to_process n from (message.HandOverDone b (version_of (settled_of n))) ∷ []) (nothing n) refl refl
 stays_told n from (message.HandOverDone b floor) = stays_if n (is_member n) (promising (released_by n.singleton.promise b floor) n, to_each n (in_order (needed_others n)) (message.Release b floor)) (nothing n) refl refl
 stays_told n from (message.Release b floor) = stays_if n (is_member n) (nothing (promising (released_by n.singleton.promise b floor) n)) (nothing n) refl refl
 stays_told n from (message.Leave who) = stays_unless n (does n) (membership.leave who n.membership) (λ o. refl) (leave_leaves n.membership who)
 stays_told n from (message.Down who) = stays_unless n (does n) (membership.down who n.membership) (λ o. refl) (down_leaves n.membership who)
-stays_told n from other = refl
+stays_told n from (message.GetHome b shard) = stays_if n (is_member n) (shards_do (λ a t. packets.on_shard_message a from (message.GetHome b shard) t) n) (nothing n) refl refl
+stays_told n from (message.Home b shard owner) = stays_if n (is_member n) (shards_do (λ a t. packets.on_shard_message a from (message.Home b shard owner) t) n) (nothing n) refl refl
+stays_told n from (message.HostShard b shard number) = stays_if n (is_member n) (shards_do (λ a t. packets.on_shard_message a from (message.HostShard b shard number) t) n) (nothing n) refl refl
+stays_told n from (message.ShardStarted b shard number) = stays_if n (is_member n) (shards_do (λ a t. packets.on_shard_message a from (message.ShardStarted b shard number) t) n) (nothing n) refl refl
+stays_told n from (message.BeginHandOff b shard number) = stays_if n (is_member n) (shards_do (λ a t. packets.on_shard_message a from (message.BeginHandOff b shard number) t) n) (nothing n) refl refl
+stays_told n from (message.BeginHandOffAck b shard number) = stays_if n (is_member n) (shards_do (λ a t. packets.on_shard_message a from (message.BeginHandOffAck b shard number) t) n) (nothing n) refl refl
+stays_told n from (message.HandOff b shard number) = stays_if n (is_member n) (shards_do (λ a t. packets.on_shard_message a from (message.HandOff b shard number) t) n) (nothing n) refl refl
+stays_told n from (message.ShardStopped b shard number) = stays_if n (is_member n) (shards_do (λ a t. packets.on_shard_message a from (message.ShardStopped b shard number) t) n) (nothing n) refl refl
+stays_told n from (message.Forward entity payload) = stays_if n (is_member n) (shards_do (λ a t. packets.on_shard_message a from (message.Forward entity payload) t) n) (nothing n) refl refl
+stays_told n from (message.Offer entity payload) = refl
 
-goes_stays : (word : ℕ) (n : State) → Stays n (goes_on word n).0
-goes_stays word n =
-    let x = (asks_as (status_of n) n).0 in
-    stays_if n (is_gone n) (nothing n) _ refl
-    (stays_if n (is_member_with is_exiting (known n).view.standings (me_of n)) (and_then exits (ends_phase n)) (and_then (gossips word) (asks_as (status_of n) n)) refl
-    (by_peer x (ticks.gossip_peer word x.membership) ∙ by_status (status_of n)))
+rest_stays : (word : ℕ) (n : State) → Stays n (rest word n).0
+rest_stays word n =
+    let x = (and_then (shards_do hosts.asks_homes) (and_then (shards_do coordinates.coordinates) (asks_as (status_of n) n))).0 in
+    by_peer x (ticks.gossip_peer word x.membership) ∙ by_status (status_of n)
   where
     by_peer : (x : State) (to : Option UniqueModel) → (gossips_to to x).0.membership.settled ≡ x.membership.settled
     by_peer x None = refl
@@ -198,6 +213,14 @@ goes_stays word n =
     by_status : (status : Option Status) → (asks_as status n).0.membership.settled ≡ n.membership.settled
     by_status None = refl
     by_status (Some status) = refl
+
+goes_stays : (word : ℕ) (n : State) → Stays n (goes_on word n).0
+goes_stays word n =
+    let x = (ends_phase n).0 in
+    stays_if n (is_gone n) (nothing n) _ refl
+    (stays_if n (is_member_with is_exiting (known n).view.standings (me_of n)) (and_then (node.leaves word) (ends_phase n)) (rest word n)
+    (stays_if n (may_leave x) (exits x) (rest word x) refl (rest_stays word x))
+    (rest_stays word n))
 
 pub rule_waits : (e : NodeEvent) (n : State) → Waits e n (rule e n).0
 rule_waits event.Found n = inl (found_leaves n.membership).settled
@@ -218,6 +241,7 @@ rule_waits (event.Tick word) n = by_member (is_member n) refl
 rule_waits (event.Packet p) n = inl (stays_told n p.from p.message)
 rule_waits (event.Leave who) n = inl (stays_unless n (does n) (membership.leave who n.membership) (λ o. refl) (leave_leaves n.membership who))
 rule_waits (event.Down who) n = inl (stays_unless n (does n) (membership.down who n.membership) (λ o. refl) (down_leaves n.membership who))
+rule_waits (event.Offer entity payload) n = inl refl
 rule_waits event.Stop n = inl refl
 
 -- ---- what is not of this says nothing of it
@@ -275,10 +299,14 @@ module _ (on : Counts → Type 0) (aged removed : Counts → UniqueModel → Typ
   phase_same s phase.Active a b same is = (is.0, same ∙ is.1, is.2)
   phase_same s phase.Ended a b same is = same ∙ is
 
+  -- the shards, where marks and table stay
+  shares_on : (s t : ShardingModel) (a b : Node Counts) → t ≡ s → b.marks ≡ a.marks → b.table ≡ a.table → IsSharing s a → IsSharing t b
+  shares_on s t a b same marks table p = subst (λ x. IsSharing x b) (sym same) (record { marks = marks ∙ p.marks; slots = p.slots; table = λ x at. let h = p.table x at in (table ∙ h.0, h.1) })
+
   -- after that the node keeps the same, by the settled view
-  found_part : (n m : State) (a : Node Counts) → IsPart n a → m.singleton ≡ n.singleton → a.settled ≡ version_of (settled_of m)
+  found_part : (n m : State) (a : Node Counts) → IsPart n a → m.singleton ≡ n.singleton → m.sharding ≡ n.sharding → a.settled ≡ version_of (settled_of m)
       → IsPart m (record a { finished = Found (me_of n) (finished_in (margin_of m) (settled_of m)) a.finished })
-  found_part n m a part single version = record {
+  found_part n m a part single shares version = record {
     like =
         subst (λ s. IsLike (margin_of m) (settled_of m) s (record a { finished = Found (me_of n) (finished_in (margin_of m) (settled_of m)) a.finished })) (sym single) (record {
           runs = part.like.runs;
@@ -290,12 +318,12 @@ module _ (on : Counts → Type 0) (aged removed : Counts → UniqueModel → Typ
           phase = phase_same n.singleton n.singleton.phase a (record a { finished = Found (me_of n) (finished_in (margin_of m) (settled_of m)) a.finished }) refl part.like.phase;
         });
     fits = subst (λ s. Fits s) (sym single) part.fits;
-    marks = part.marks;
+    sharing = shares_on n.sharding m.sharding a (record a { finished = Found (me_of n) (finished_in (margin_of m) (settled_of m)) a.finished }) shares refl refl part.sharing;
   }
 
   -- what a packet says, by its message
-  said : (p : Envelope) → ((x : Said Counts) → Contains (said_in p) x → heard p.from x) → (m : Message) → p.message ≡ m → (x : Said Counts) → Contains (said_to (record { address = p.to; uid = p.uid }) m) x → heard p.from x
-  said p was_heard m is x there = was_heard x (subst (λ k. Contains (said_to (record { address = p.to; uid = p.uid }) k) x) (sym is) there)
+  said : (me : UniqueModel) (p : Envelope) → ((x : Said Counts) → Contains (said_to me p.message) x → heard p.from x) → (m : Message) → p.message ≡ m → (x : Said Counts) → Contains (said_to me m) x → heard p.from x
+  said me p was_heard m is x there = was_heard x (subst (λ k. Contains (said_to me k) x) (sym is) there)
 
   -- ---- rules of the membership
   abbrev DoesHere : State → Node Counts → Outcome → Type 0
@@ -305,13 +333,13 @@ module _ (on : Counts → Type 0) (aged removed : Counts → UniqueModel → Typ
     membered : (given : Given) (o : membership.Outcome) → Learns given n.membership o → Leaves n.membership o → DoesHere n a (does n o)
     membered given o learns left =
         unmoved on aged removed heard stopped n (does n o).0 a (does n o).1
-        (part_alike n (does n o).0 a part (ap (λ (x : SettingsModel). x.margin) left.settings) (ap (λ (x : SettledModel). x.view) left.settled) refl)
+        (part_alike n (does n o).0 a part (ap (λ (x : SettingsModel). x.margin) left.settings) (ap (λ (x : SettledModel). x.view) left.settled) refl refl)
         learns.same_me (unsaid_update o.1.number o.1.effects)
 
     membered_for : (given : Given) (from : UniqueModel) (o : membership.Outcome) → Learns given n.membership o → Leaves n.membership o → DoesHere n a (does_for from n o)
     membered_for given from o learns left =
         unmoved on aged removed heard stopped n (does n o).0 a (does_for from n o).1
-        (part_alike n (does n o).0 a part (ap (λ (x : SettingsModel). x.margin) left.settings) (ap (λ (x : SettledModel). x.view) left.settled) refl)
+        (part_alike n (does n o).0 a part (ap (λ (x : SettingsModel). x.margin) left.settings) (ap (λ (x : SettledModel). x.view) left.settled) refl refl)
         learns.same_me (unsaid_both (does n o).1 _ (unsaid_update o.1.number o.1.effects) (unsaid_answer o.1.reply from (does n o).0))
 
     unless_does : (next : membership.Outcome → Outcome) (r : Result membership.Outcome MemberFault) (given : Given) → ((o : membership.Outcome) → Learns given n.membership o → Leaves n.membership o → DoesHere n a (next o))
@@ -327,7 +355,7 @@ module _ (on : Counts → Type 0) (aged removed : Counts → UniqueModel → Typ
       where
         by_member : (b : Bool) → DoesHere n a (record n { membership = if b then n.membership else record n.membership { target = Some target } }, to_address n target message.Join ∷ [])
         by_member true = still (to_address n target message.Join ∷ []) (unsaid_join n target)
-        by_member false = unmoved on aged removed heard stopped n (record n { membership = record n.membership { target = Some target } }) a _ (part_alike n (record n { membership = record n.membership { target = Some target } }) a part refl refl refl) refl (unsaid_join n target)
+        by_member false = unmoved on aged removed heard stopped n (record n { membership = record n.membership { target = Some target } }) a _ (part_alike n (record n { membership = record n.membership { target = Some target } }) a part refl refl refl refl) refl (unsaid_join n target)
 
     asks_again : (target : Option AddressModel) → DoesHere n a (asks_at target n)
     asks_again None = still [] (unsaid_none [] refl)
@@ -359,16 +387,50 @@ module _ (on : Counts → Type 0) (aged removed : Counts → UniqueModel → Typ
     gossips_does (Some to) = still _ (unsaid_each n (to ∷ []) (message.Gossip (known n)) (λ u. refl))
 
     exits_does : DoesHere n a (exits n)
-    exits_does = unmoved on aged removed heard stopped n (exits n).0 a (exits n).1 (part_alike n (exits n).0 a part refl refl refl) refl (unsaid_each n (counted_members n) message.ExitingConfirmed (λ u. refl))
+    exits_does = unmoved on aged removed heard stopped n (exits n).0 a (exits n).1 (part_alike n (exits n).0 a part refl refl refl refl) refl (unsaid_each n (counted_members n) message.ExitingConfirmed (λ u. refl))
+
+  rest_by : (word : ℕ) (n : State) (a : Node Counts) → IsPart n a → IsShown on aged removed (margin_of n) (settled_of n) → IsOwn on aged removed (me_of n) a → (status : Option Status)
+      → DoesHere n a (and_then (gossips word) (and_then (shards_do hosts.asks_homes) (and_then (shards_do coordinates.coordinates) (asks_as status n))))
+  rest_by word n a part shown own None =
+      let d = asks_does on aged removed heard stopped n a part shown None own in
+      let e = does_then on aged removed heard stopped n a (shards_do coordinates.coordinates) (asks_as None n) d (coordinates_do on aged removed heard stopped n _ d.part shown (bound_asked on aged removed heard stopped n a part shown None own)) in
+      let m = (shards_do coordinates.coordinates n).0 in
+      let f = does_then on aged removed heard stopped n a (shards_do hosts.asks_homes) (and_then (shards_do coordinates.coordinates) (asks_as None n)) e (asks_homes_do on aged removed heard stopped m _ e.part shown) in
+      let k = (shards_do hosts.asks_homes m).0 in
+      does_then on aged removed heard stopped n a (gossips word) (and_then (shards_do hosts.asks_homes) (and_then (shards_do coordinates.coordinates) (asks_as None n))) f (gossips_does k _ f.part (ticks.gossip_peer word k.membership))
+  rest_by word n a part shown own (Some status) =
+      let d = asks_does on aged removed heard stopped n a part shown (Some status) own in
+      let j = (asks_as (Some status) n).0 in
+      let e = does_then on aged removed heard stopped n a (shards_do coordinates.coordinates) (asks_as (Some status) n) d (coordinates_do on aged removed heard stopped j _ d.part shown (bound_asked on aged removed heard stopped n a part shown (Some status) own)) in
+      let m = (shards_do coordinates.coordinates j).0 in
+      let f = does_then on aged removed heard stopped n a (shards_do hosts.asks_homes) (and_then (shards_do coordinates.coordinates) (asks_as (Some status) n)) e (asks_homes_do on aged removed heard stopped m _ e.part shown) in
+      let k = (shards_do hosts.asks_homes m).0 in
+      does_then on aged removed heard stopped n a (gossips word) (and_then (shards_do hosts.asks_homes) (and_then (shards_do coordinates.coordinates) (asks_as (Some status) n))) f (gossips_does k _ f.part (ticks.gossip_peer word k.membership))
+
+  rest_does : (word : ℕ) (n : State) (a : Node Counts) → IsPart n a → IsShown on aged removed (margin_of n) (settled_of n) → IsOwn on aged removed (me_of n) a → DoesHere n a (rest word n)
+  rest_does word n a part shown own = rest_by word n a part shown own (status_of n)
+
+  -- after the end of its phase no ballot of the node is live
+  ended_phase : (settled : SettledView) (s : SingletonModel) (ph : Phase) → s.phase ≡ ph → (ended_from ph settled s).phase ≡ phase.Ended
+  ended_phase settled s phase.Younger at = refl
+  ended_phase settled s phase.Asking at = refl
+  ended_phase settled s phase.Active at = refl
+  ended_phase settled s phase.Ended at = at
+
+  ended_own : (n : State) (b : Node Counts) → IsPart (ends_phase n).0 b → IsOwn on aged removed (me_of n) b
+  ended_own n b part t live =
+      let is : b.phase ≡ moves.Ended = subst (λ ph. HasPhase (ended (settled_of n) n.singleton) ph b) (ended_phase (settled_of n) n.singleton n.singleton.phase refl) part.like.phase in
+      absurd (subst (λ ph. IsLive (l on aged removed) IsLater ph t) is live)
 
   goes_does : (word : ℕ) (n : State) (a : Node Counts) → IsPart n a → IsShown on aged removed (margin_of n) (settled_of n) → IsOwn on aged removed (me_of n) a → DoesHere n a (goes_on word n)
   goes_does word n a part shown own =
       does_if on aged removed heard stopped n a (is_gone n) (λ is. still n a part [] (unsaid_none [] refl)) (λ is.
       does_if on aged removed heard stopped n a (is_member_with is_exiting (known n).view.standings (me_of n))
-      (λ is. let d = ends_does on aged removed heard stopped n a part shown own in does_then on aged removed heard stopped n a exits (ends_phase n) d (exits_does (ends_phase n).0 _ d.part))
-      (λ is. let d = asks_does on aged removed heard stopped n a part shown (status_of n) own in
-      let m = (asks_as (status_of n) n).0 in
-      does_then on aged removed heard stopped n a (gossips word) (asks_as (status_of n) n) d (gossips_does m _ d.part (ticks.gossip_peer word m.membership))))
+      (λ is. let d = ends_does on aged removed heard stopped n a part shown own in
+      let m = (ends_phase n).0 in
+      does_then on aged removed heard stopped n a (node.leaves word) (ends_phase n) d
+      (does_if on aged removed heard stopped m _ (may_leave m) (λ may. exits_does m _ d.part) (λ may. rest_does word m _ d.part shown (ended_own n _ d.part))))
+      (λ is. rest_does word n a part shown own))
 
   -- ---- a tick
   module _ (n : State) (a : Node Counts) (part : IsPart n a) (own : IsOwn on aged removed (me_of n) a) where
@@ -384,7 +446,7 @@ module _ (on : Counts → Type 0) (aged removed : Counts → UniqueModel → Typ
         let qs = finished_in (margin_of m) (settled_of m) in
         let me_is : me_of m ≡ me_of n = (tick_learns nothing_given n.membership).same_me in
         let after_is = after_finds (l on aged removed) IsLater heard stopped (me_of n) a qs in
-        let part_m : IsPart m (record a { finished = Found (me_of n) qs a.finished }) = found_part n m a part refl version in
+        let part_m : IsPart m (record a { finished = Found (me_of n) qs a.finished }) = found_part n m a part refl refl version in
         let first : DoesHere n a (node.ticked n t) = record {
           list = Finds (me_of n) qs;
           local = finds_local (me_of n) a (margin_of m) (settled_of m) sure_m part.like.runs version qs (λ q there. there_finished (margin_of m) (settled_of m) q there);
@@ -402,30 +464,45 @@ module _ (on : Counts → Type 0) (aged removed : Counts → UniqueModel → Typ
 
     -- ---- a rule. What comes in a packet was heard from its sender; at a tick of a member the settled view has waited for a tick more.
     module _ (shown : IsShown on aged removed (margin_of n) (settled_of n)) where
-      pub told_does : (p : Envelope) → ((x : Said Counts) → Contains (said_in p) x → heard p.from x) → (m : Message) → p.message ≡ m → DoesHere n a (on_message p.from m n)
+      -- what a packet says to this process was heard, and it reports each shard once at most
+      abbrev pub WasToldOnce : Envelope → Type 0
+      WasToldOnce p =
+          ((x : Said Counts) → Contains (said_to (me_of n) p.message) x → heard p.from x)
+          × ((b : BallotModel) (floor : Counts) (told : List Report) → p.message ≡ message.Granted b floor told → EachOnce told)
+
+      pub told_does : (p : Envelope) → WasToldOnce p → (m : Message) → p.message ≡ m → DoesHere n a (on_message p.from m n)
       told_does p was_heard message.Join is = is_asked_to n a part p.from
       told_does p was_heard (message.Welcome g) is = hears n a part p.from g
       told_does p was_heard (message.Gossip g) is = hears n a part p.from g
       told_does p was_heard message.Heartbeat is = does_if on aged removed heard stopped n a (is_member n) (λ _. still n a part _ (unsaid_each n (p.from ∷ []) message.HeartbeatReply (λ u. refl))) (λ _. still n a part [] (unsaid_none [] refl))
       told_does p was_heard message.HeartbeatReply is =
           does_if on aged removed heard stopped n a (is_member n)
-          (λ _. let m : State = record n { membership = membership.on_heard p.from n.membership } in unmoved on aged removed heard stopped n m a [] (part_alike n m a part refl refl refl) refl (unsaid_none [] refl))
+          (λ _. let m : State = record n { membership = membership.on_heard p.from n.membership } in unmoved on aged removed heard stopped n m a [] (part_alike n m a part refl refl refl refl) refl (unsaid_none [] refl))
           (λ _. still n a part [] (unsaid_none [] refl))
       told_does p was_heard message.ExitingConfirmed is = does_if on aged removed heard stopped n a (is_member n) (λ _. by_member (standing.is_member (known n).view.standings p.from)) (λ _. still n a part [] (unsaid_none [] refl))
         where
           by_member : (b : Bool) → DoesHere n a (nothing (record n { membership = if b then record n.membership { confirmed = with_one n.membership.confirmed p.from } else n.membership }))
-          by_member true = let m : State = record n { membership = record n.membership { confirmed = with_one n.membership.confirmed p.from } } in unmoved on aged removed heard stopped n m a [] (part_alike n m a part refl refl refl) refl (unsaid_none [] refl)
+          by_member true = let m : State = record n { membership = record n.membership { confirmed = with_one n.membership.confirmed p.from } } in unmoved on aged removed heard stopped n m a [] (part_alike n m a part refl refl refl refl) refl (unsaid_none [] refl)
           by_member false = still n a part [] (unsaid_none [] refl)
-      told_does p was_heard (message.Ask b) is = ask_does on aged removed heard stopped n a part shown p.from b (said p was_heard (message.Ask b) is _ (contains_first _ []))
-      told_does p was_heard (message.Granted b floor reports) is = granted_does on aged removed heard stopped n a part shown p.from b floor (marks_in reports) (said p was_heard (message.Granted b floor reports) is _ (contains_first _ []))
-      told_does p was_heard (message.Busy b held) is = busy_does on aged removed heard stopped n a part shown b held p.from (said p was_heard (message.Busy b held) is _ (contains_rest (moves.Names b) (moves.Names held) (moves.Names held ∷ []) (contains_first (moves.Names held) [])))
+      told_does p was_heard (message.Ask b) is = ask_does on aged removed heard stopped n a part shown p.from b (said (me_of n) p was_heard.0 (message.Ask b) is _ (contains_first _ []))
+      told_does p was_heard (message.Granted b floor reports) is = granted_does on aged removed heard stopped n a part shown p.from b floor reports (was_heard.1 b floor reports is) (said (me_of n) p was_heard.0 (message.Granted b floor reports) is _ (contains_first _ []))
+      told_does p was_heard (message.Busy b held) is = busy_does on aged removed heard stopped n a part shown b held p.from (said (me_of n) p was_heard.0 (message.Busy b held) is _ (contains_rest (moves.Names b) (moves.Names held) (moves.Names held ∷ []) (contains_first (moves.Names held) [])))
       told_does p was_heard (message.Old b last) is = old_does on aged removed heard stopped n a part shown own b last
-      told_does p was_heard (message.HandOverToMe b) is = hand_over_does on aged removed heard stopped n a part shown p.from b (said p was_heard (message.HandOverToMe b) is _ (contains_first _ []))
-      told_does p was_heard (message.HandOverDone b floor) is = done_does on aged removed heard stopped n a part shown b floor p.from (said p was_heard (message.HandOverDone b floor) is _ (contains_first _ []))
-      told_does p was_heard (message.Release b floor) is = release_does on aged removed heard stopped n a part shown b floor p.from (said p was_heard (message.Release b floor) is _ (contains_first _ []))
+      told_does p was_heard (message.HandOverToMe b) is = hand_over_does on aged removed heard stopped n a part shown p.from b (said (me_of n) p was_heard.0 (message.HandOverToMe b) is _ (contains_first _ []))
+      told_does p was_heard (message.HandOverDone b floor) is = done_does on aged removed heard stopped n a part shown b floor p.from (said (me_of n) p was_heard.0 (message.HandOverDone b floor) is _ (contains_first _ []))
+      told_does p was_heard (message.Release b floor) is = release_does on aged removed heard stopped n a part shown b floor p.from (said (me_of n) p was_heard.0 (message.Release b floor) is _ (contains_first _ []))
       told_does p was_heard (message.Leave who) is = leaves n a part who
       told_does p was_heard (message.Down who) is = downs n a part who
-      told_does p was_heard other is = still n a part [] (unsaid_none [] refl)
+      told_does p was_heard (message.GetHome b shard) is = on_shards_does on aged removed heard stopped n a part shown own p.from (message.GetHome b shard) (said (me_of n) p was_heard.0 (message.GetHome b shard) is)
+      told_does p was_heard (message.Home b shard owner) is = on_shards_does on aged removed heard stopped n a part shown own p.from (message.Home b shard owner) (said (me_of n) p was_heard.0 (message.Home b shard owner) is)
+      told_does p was_heard (message.HostShard b shard number) is = on_shards_does on aged removed heard stopped n a part shown own p.from (message.HostShard b shard number) (said (me_of n) p was_heard.0 (message.HostShard b shard number) is)
+      told_does p was_heard (message.ShardStarted b shard number) is = on_shards_does on aged removed heard stopped n a part shown own p.from (message.ShardStarted b shard number) (said (me_of n) p was_heard.0 (message.ShardStarted b shard number) is)
+      told_does p was_heard (message.BeginHandOff b shard number) is = on_shards_does on aged removed heard stopped n a part shown own p.from (message.BeginHandOff b shard number) (said (me_of n) p was_heard.0 (message.BeginHandOff b shard number) is)
+      told_does p was_heard (message.BeginHandOffAck b shard number) is = on_shards_does on aged removed heard stopped n a part shown own p.from (message.BeginHandOffAck b shard number) (said (me_of n) p was_heard.0 (message.BeginHandOffAck b shard number) is)
+      told_does p was_heard (message.HandOff b shard number) is = on_shards_does on aged removed heard stopped n a part shown own p.from (message.HandOff b shard number) (said (me_of n) p was_heard.0 (message.HandOff b shard number) is)
+      told_does p was_heard (message.ShardStopped b shard number) is = on_shards_does on aged removed heard stopped n a part shown own p.from (message.ShardStopped b shard number) (said (me_of n) p was_heard.0 (message.ShardStopped b shard number) is)
+      told_does p was_heard (message.Forward entity payload) is = on_shards_does on aged removed heard stopped n a part shown own p.from (message.Forward entity payload) (said (me_of n) p was_heard.0 (message.Forward entity payload) is)
+      told_does p was_heard (message.Offer entity payload) is = offer_does on aged removed heard stopped n a part shown entity payload
 
       -- what is known of the settled view after a tick's wait, at a tick of a member
       abbrev pub WaitsSurely : NodeEvent → Type 0
@@ -433,7 +510,7 @@ module _ (on : Counts → Type 0) (aged removed : Counts → UniqueModel → Typ
       WaitsSurely other = Unit {0}
 
       abbrev pub WasHeard : NodeEvent → Type 0
-      WasHeard (event.Packet p) = (x : Said Counts) → Contains (said_in p) x → heard p.from x
+      WasHeard (event.Packet p) = WasToldOnce p
       WasHeard other = Unit {0}
 
       pub rule_does : (e : NodeEvent) → WaitsSurely e → WasHeard e → DoesHere n a (rule e n)
@@ -446,7 +523,8 @@ module _ (on : Counts → Type 0) (aged removed : Counts → UniqueModel → Typ
       rule_does (event.Packet p) sure was_heard = told_does p was_heard p.message refl
       rule_does (event.Leave who) sure was_heard = leaves n a part who
       rule_does (event.Down who) sure was_heard = downs n a part who
-      rule_does event.Stop sure was_heard = let m : State = (stop n).0 in unmoved on aged removed heard stopped n m a [] (part_alike n m a part refl refl refl) refl (unsaid_none [] refl)
+      rule_does (event.Offer entity payload) sure was_heard = offer_does on aged removed heard stopped n a part shown entity payload
+      rule_does event.Stop sure was_heard = let m : State = (stop n).0 in unmoved on aged removed heard stopped n m a [] (part_alike n m a part refl refl refl refl) refl (unsaid_none [] refl)
 
   -- ---- the closing
   pub record Ends (n : State) (a : Node Counts) (o : Outcome) : Type 0 where
@@ -487,6 +565,14 @@ module _ (on : Counts → Type 0) (aged removed : Counts → UniqueModel → Typ
   unsaid_due : (c : Closing) → Unsaid (due c)
   unsaid_due c = unsaid_none (due c) (due_sent c.viewed c.stopped c.settled)
 
+  -- the closing forgets homes
+  forgets_part : (c : State) (b : Node Counts) → IsPart c b → IsPart (forgets c) b
+  forgets_part c b part = by_runs c.runs
+    where
+      by_runs : (r : Bool) → IsPart (sharing (if r then (hosts.forgets (around c) c.sharding).0 else c.sharding) c) b
+      by_runs true = record { like = part.like; fits = part.fits; sharing = (forgets_kept on aged removed heard stopped (around c) c.sharding b (record { like = part.like; sharing = part.sharing })).sharing }
+      by_runs false = record { like = part.like; fits = part.fits; sharing = part.sharing }
+
   module _ (m : State) (a : Node Counts) (part : IsPart m a) where
     abbrev noted_view : SettledModel
     noted_view = after_note (known m).version (known m).view.standings m.membership.settled
@@ -512,7 +598,7 @@ module _ (on : Counts → Type 0) (aged removed : Counts → UniqueModel → Typ
             phase = phase_same m.singleton m.singleton.phase a (record b { finished = Found (me_of m) qs b.finished }) refl part.like.phase;
           };
           fits = part.fits;
-          marks = part.marks;
+          sharing = shares_on m.sharding m.sharding a (record b { finished = Found (me_of m) qs b.finished }) refl refl refl part.sharing;
         } in
         record {
           list = moves.Move.Note (me_of m) v ∷ Finds (me_of m) qs;
@@ -524,7 +610,7 @@ module _ (on : Counts → Type 0) (aged removed : Counts → UniqueModel → Typ
           );
           part =
               subst (IsPart c) (sym (after_finds (l on aged removed) IsLater heard stopped (me_of m) b qs))
-              (part_alike x c (record b { finished = Found (me_of m) qs b.finished }) part_b refl (ap (λ (k : SettledModel). k.view) settled_is) refl);
+              (part_alike x c (record b { finished = Found (me_of m) qs b.finished }) part_b refl (ap (λ (k : SettledModel). k.view) settled_is) refl refl);
           says = λ p there y y_says. absurd (contains_nothing y (subst (λ k. Contains k y) (unsaid_due (closing.close (not m.runs) m.membership).1 p there) y_says));
           same_me = refl;
         }
@@ -534,7 +620,7 @@ module _ (on : Counts → Type 0) (aged removed : Counts → UniqueModel → Typ
     rests_does is =
         let c : State = (closes m).0 in
         let settled_is : c.membership.settled ≡ m.membership.settled = ap (λ b. if b then noted_view else m.membership.settled) is in
-        unmoved on aged removed heard stopped m c a (closes m).1 (part_alike m c a part refl (ap (λ (k : SettledModel). k.view) settled_is) refl) refl (unsaid_due (closing.close (not m.runs) m.membership).1)
+        unmoved on aged removed heard stopped m c a (closes m).1 (part_alike m c a part refl (ap (λ (k : SettledModel). k.view) settled_is) refl refl) refl (unsaid_due (closing.close (not m.runs) m.membership).1)
 
     -- the node stops
     stops_ends : stops (not m.runs) m.membership ≡ true → Ends m a (concludes m)
@@ -550,7 +636,7 @@ module _ (on : Counts → Type 0) (aged removed : Counts → UniqueModel → Typ
         }
       where
         unsaid_all : Unsaid (concludes m).1
-        unsaid_all = unsaid_both (closes m).1 (activates (closes m).0).1 (unsaid_due (closing.close (not m.runs) m.membership).1) (unsaid_active ((closes m).0.runs && may_activate (me_of m) (settled_of (closes m).0) (margin_of m) m.singleton) (closes m).0)
+        unsaid_all = unsaid_both (closes m).1 (activates (forgets (closes m).0)).1 (unsaid_due (closing.close (not m.runs) m.membership).1) (unsaid_active ((closes m).0.runs && may_activate (me_of m) (settled_of (closes m).0) (margin_of m) m.singleton) (forgets (closes m).0))
           where
             unsaid_told : (o : Option BallotModel) → Unsaid (told_active o)
             unsaid_told None = unsaid_none [] refl
@@ -566,9 +652,10 @@ module _ (on : Counts → Type 0) (aged removed : Counts → UniqueModel → Typ
       where
         activates_after : (d : DoesHere m a (closes m)) → IsShown on aged removed (margin_of (closes m).0) (settled_of (closes m).0) → DoesHere m a (concludes m)
         activates_after d s =
-            let c : State = (closes m).0 in
-            does_then on aged removed heard stopped m a activates (closes m) d
-            (active_does on aged removed heard stopped c _ d.part s (c.runs && may_activate (me_of c) (settled_of c) (margin_of c) c.singleton) (λ both. and_second c.runs _ both))
+            let c : State = forgets (closes m).0 in
+            let e : DoesHere m a (c, (closes m).1) = record { list = d.list; local = d.local; part = forgets_part (closes m).0 _ d.part; says = d.says; same_me = d.same_me } in
+            does_then on aged removed heard stopped m a activates (c, (closes m).1) e
+            (active_does on aged removed heard stopped c _ e.part s (c.runs && may_activate (me_of c) (settled_of c) (margin_of c) c.singleton) (λ both. and_second c.runs _ both))
 
         by_notes : (b : Bool) → notes (not m.runs) m.membership ≡ b → DoesHere m a (concludes m)
         by_notes true due_is =

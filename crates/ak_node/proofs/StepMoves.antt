@@ -1,6 +1,6 @@
 -- The one walk over what a node does to its part of promises and of the singleton: each rule makes of it what a list of allowed
 -- moves makes of it, and what is sent says no more than the list. All that is proved of a world's promises is proved from this.
-use Rattle.std.proofs.Common.{◌≡◌, ℕ, Bool, true, false, not, ◌&&◌, inl, inr, ◌⊎◌, if◌then◌else◌, List, [], ◌∷◌, ◌++◌, Option, Some, None, is_some, IsSome, IsTrue, Contains, Decides, map, refl, sym, ap, ◌∙◌, subst, true≢false}
+use Rattle.std.proofs.Common.{length, ◌≡◌, ℕ, Bool, true, false, not, ◌&&◌, inl, inr, ◌⊎◌, if◌then◌else◌, List, [], ◌∷◌, ◌++◌, Option, Some, None, is_some, IsSome, IsTrue, Contains, Decides, map, refl, sym, ap, ◌∙◌, subst, true≢false}
 use Rattle.std.proofs.lemmas.Option.{same_Some}
 use Rattle.std.specs.FinMap as finmap
 use Rattle.std.specs.Ordering.{is_eq}
@@ -18,13 +18,10 @@ use Rattle.ak_member.specs.declared.standing.Standing.{Standing}
 use Rattle.ak_member.specs.Standing.{tombstone_of}
 use Rattle.ak_line.specs.Line.{Line}
 use Rattle.ak_line.specs.BallotOrder.{IsLater}
-use Rattle.ak_line.specs.Rules.{learnt}
-use Rattle.ak_line.specs.Shards.{Mark}
 use Rattle.ak_line.specs.Moves as moves
 use Rattle.ak_line.specs.Moves.{Node, Trial, Said, Move, IsLive}
 use Rattle.ak_line.specs.Local.{AllLocal, changed_all, Speaks}
 use Rattle.ak_line.proofs.LocalLists.{changed_append, speaks_first, speaks_then, local_append}
-use Rattle.ak_line.proofs.RuleLaws.{learnt_learns}
 use Rattle.ak_membership.specs.declared.change.Reply.{Reply}
 use Rattle.ak_membership.specs.declared.change.Reply.TheVariants as reply
 use Rattle.ak_promise.specs.declared.promise.Answer.{Answer}
@@ -34,13 +31,27 @@ use Rattle.ak_promise.specs.Promise.{asked, answer_to, is_some_ballot, freed_aft
 use Rattle.ak_settled.specs.SettledView.{SettledView}
 use Rattle.ak_settled.specs.Settled.{version_of, standings_of, is_finished}
 use Rattle.ak_settled.proofs.SettledLaws.{finished_means}
+use Rattle.ak_shard_id.specs.declared.report.Report.{Report}
+use Rattle.ak_line.specs.Told.{EachOnce}
+use Rattle.ak_sharding.specs.Sharding as sharding_rules
+use Rattle.ak_sharding.specs.Sharding.{ShardingModel, Around}
+use Rattle.ak_sharding.specs.Hosts as hosts
+use Rattle.ak_sharding.specs.Coordinates as coordinates
+use Rattle.ak_sharding.specs.Packets as packets
+use Rattle.ak_sharding.specs.Sharing.{IsSharing, HaveRisen, LiveIsLast as LastIsLive}
+use Rattle.ak_sharding.proofs.PartLemmas.{said_sent}
+use Rattle.ak_sharding.proofs.PartLemmas.{IsPart as IsPartHere, Does as ShardsDo}
+use Rattle.ak_sharding.proofs.HostMoves.{routes_does, asks_homes_does}
+use Rattle.ak_sharding.proofs.CoordinateMoves.{coordinates_does}
+use Rattle.ak_sharding.proofs.PacketMoves.{on_shard_message_does}
+use Rattle.ak_sharding.proofs.SingletonMoves.{Done as SingletonDone, reports_said, tested, tick_does, granted_does as grant_does, old_does as outdone_does, end_does}
 use Rattle.ak_singleton.specs.declared.phase.Phase.{Phase}
 use Rattle.ak_singleton.specs.declared.phase.Phase.TheVariants as phase
 use Rattle.ak_singleton.specs.declared.phase.TickRule.{TickRule}
 use Rattle.ak_singleton.specs.declared.phase.TickRule.TheVariants as rules
 use Rattle.ak_singleton.specs.Singleton.{SingletonModel, own_ballot, after_rule, steps_of, active_term, after_granted, is_first_grant, after_old, is_outdone, ended, may_activate, after_activation}
 use Rattle.ak_singleton.specs.SingletonView.{HasLive}
-use Rattle.ak_singleton.proofs.AsMoves.{line, HasPhase, IsLike, IsKnown, Follows, SaysInTick, SaysInAnswer, SaysInEnd, tick_is_moves, ask_is_moves, names_is_moves, hand_over_is_moves, granted_is_moves, old_is_moves, release_is_moves, done_is_moves, end_is_moves, activation_is_moves}
+use Rattle.ak_singleton.proofs.AsMoves.{line, HasPhase, IsLike, IsKnown, Follows, SaysInTick, SaysInAnswer, SaysInEnd, ask_is_moves, names_is_moves, hand_over_is_moves, release_is_moves, done_is_moves, activation_is_moves}
 use Rattle.ak_singleton.proofs.LiveKept.{Fits, rule_fits, granted_fits, old_fits, ended_fits, activation_fits}
 use Rattle.ak_wire.specs.declared.envelope.Envelope.{Envelope}
 use Rattle.ak_wire.specs.declared.envelope.Message.{Message}
@@ -49,8 +60,8 @@ use Rattle.ak_wire.specs.declared.action.Action.{Action}
 use Rattle.ak_wire.specs.Wire.{sent}
 use Rattle.ak_wire.proofs.Sending.{sent-append}
 use Rattle.ak_node.specs.declared.node.State.{State}
-use Rattle.ak_node.specs.Node.{Outcome, known, me_of, settled_of, margin_of, reports_of, is_member, and_then, to_each, answer, keeping, told_of, told_its_own, told_to_each, releases, needed_others, rule_on, does_rule, asks_as, told_end, let_go, ends_phase, told_active, becomes_active, floor_of, answered, is_over_here, answers_ask, is_asked, on_ask, is_buried, takes_grant, on_granted, on_busy, on_old, has_handed_over, on_hand_over, on_release, on_done}
-use Rattle.ak_node.specs.Said.{marks_in, said_to, said_in}
+use Rattle.ak_node.specs.Node.{around, sharing, shards_do, offer, on_shards, Outcome, known, me_of, settled_of, margin_of, reports_of, is_member, and_then, to_each, answer, keeping, told_of, told_its_own, told_to_each, releases, needed_others, rule_on, does_rule, asks_as, told_end, let_go, ends_phase, told_active, becomes_active, floor_of, answered, is_over_here, answers_ask, is_asked, on_ask, is_buried, takes_grant, on_granted, on_busy, on_old, has_handed_over, on_hand_over, on_release, on_done}
+use Rattle.ak_node.specs.Said.{marks_told, said_to, said_in}
 use Rattle.ak_node.proofs.ChangeLemmas.{each_sent}
 
 -- ---- what packets say
@@ -166,17 +177,17 @@ asks_now moves.Ended = false
 pub record IsPart (n : State) (a : Node Counts) : Type 0 where
   pub like : IsLike (margin_of n) (settled_of n) n.singleton a
   pub fits : Fits n.singleton
-  pub marks : a.marks ≡ marks_in (reports_of n)
+  pub sharing : IsSharing n.sharding a
 
 -- the same part, of another state
-pub part_alike : (n m : State) (a : Node Counts) → IsPart n a → margin_of m ≡ margin_of n → settled_of m ≡ settled_of n → m.singleton ≡ n.singleton → IsPart m a
-part_alike n m a part margin settled single = record {
+pub part_alike : (n m : State) (a : Node Counts) → IsPart n a → margin_of m ≡ margin_of n → settled_of m ≡ settled_of n → m.singleton ≡ n.singleton → m.sharding ≡ n.sharding → IsPart m a
+part_alike n m a part margin settled single shares = record {
   like =
       subst (λ s. IsLike (margin_of m) (settled_of m) s a) (sym single)
       (subst (λ v. IsLike (margin_of m) v n.singleton a) (sym settled)
       (subst (λ k. IsLike k (settled_of n) n.singleton a) (sym margin) part.like));
   fits = subst Fits (sym single) part.fits;
-  marks = part.marks;
+  sharing = subst (λ t. IsSharing t a) (sym shares) part.sharing;
 }
 
 -- after a step: a node that runs keeps the same as its moves', and one that does not has stopped there too
@@ -201,6 +212,7 @@ module _ (on : Counts → Type 0) (aged removed : Counts → UniqueModel → Typ
     pub known : IsKnown on aged removed margin settled
     pub over : (q : UniqueModel) → IsTrue (is_finished margin settled q) → is_some settled ≡ true × removed (version_of settled) q
     pub buried : (q : UniqueModel) → removed (version_of settled) q → IsSome (tombstone_of (finmap.get (standings_of settled) q))
+    pub risen : HaveRisen aged settled
 
   -- a live ballot is the last one promised, and the node's own
   abbrev pub IsOwn : UniqueModel → Node Counts → Type 0
@@ -269,24 +281,50 @@ module _ (on : Counts → Type 0) (aged removed : Counts → UniqueModel → Typ
       same_me = me;
     }
 
+    -- marks and table stay
+    same_sharing : {n : State} {a : Node Counts} {s : SingletonModel} {says : List (Said Counts)} → (f : Follows on aged removed heard stopped (me_of n) a (margin_of n) (settled_of n) s says a.table) → IsPart n a → IsSharing n.sharding (changed_all l IsLater a f.list)
+    same_sharing f part = record { marks = f.marks ∙ part.sharing.marks; slots = part.sharing.slots; table = λ x at. let h = part.sharing.table x at in (f.tabled ∙ h.0, h.1) }
+
+    -- a call of the singleton after which the shards are these
+    pub from_done : (n : State) (a : Node Counts) (part : IsPart n a) (known : IsKnown on aged removed (margin_of n) (settled_of n)) (s : SingletonModel) (t : ShardingModel) (says : List (Said Counts)) (actions : List Action)
+        → SingletonDone on aged removed heard stopped (around n) known n.sharding a (record { like = part.like; sharing = part.sharing }) s t says → Fits s
+        → ((p : Envelope) → Contains (sent actions) p → (x : Said Counts) → Contains (said_in p) x → Contains says x) → Does n a (keeping s (sharing t n), actions)
+    from_done n a part known s t says actions d fits told = record {
+      list = d.becomes.list;
+      local = d.becomes.local;
+      part = subst (IsPart (keeping s (sharing t n))) (sym d.becomes.becomes) (record { like = d.part.like; fits = fits; sharing = d.part.sharing });
+      says = λ p there x x_says. d.becomes.spoken x (told p there x x_says);
+      same_me = refl;
+    }
+
+    -- what is done with the shards
+    pub shards_does : (work : Around → ShardingModel → sharding_rules.Outcome) (n : State) (a : Node Counts) (part : IsPart n a) → ShardsDo on aged removed heard stopped (around n) a (work (around n) n.sharding) → Does n a (shards_do work n)
+    shards_does work n a part d = record {
+      list = d.becomes.list;
+      local = d.becomes.local;
+      part = subst (IsPart (shards_do work n).0) (sym d.becomes.becomes) (record { like = d.part.like; fits = part.fits; sharing = d.part.sharing });
+      says = λ p there x x_says. d.becomes.spoken x (said_sent (work (around n) n.sharding).1 p there x x_says);
+      same_me = refl;
+    }
+
     -- a call of the singleton
-    pub followed : (n : State) (a : Node Counts) (s : SingletonModel) (says : List (Said Counts)) (actions : List Action) → IsPart n a → Follows on aged removed heard stopped (me_of n) a (margin_of n) (settled_of n) s says → Fits s
+    pub followed : (n : State) (a : Node Counts) (s : SingletonModel) (says : List (Said Counts)) (actions : List Action) → IsPart n a → Follows on aged removed heard stopped (me_of n) a (margin_of n) (settled_of n) s says a.table → Fits s
         → ((p : Envelope) → Contains (sent actions) p → (x : Said Counts) → Contains (said_in p) x → Contains says x) → Does n a (keeping s n, actions)
     followed n a s says actions part f fits told = record {
       list = f.list;
       local = f.local;
-      part = record { like = f.like; fits = fits; marks = f.marks ∙ part.marks };
+      part = record { like = f.like; fits = fits; sharing = same_sharing f part };
       says = λ p there x x_says. f.spoken x (told p there x x_says);
       same_me = refl;
     }
 
     -- a call that leaves the singleton as it was
-    pub followed_here : (n : State) (a : Node Counts) (says : List (Said Counts)) (actions : List Action) → IsPart n a → Follows on aged removed heard stopped (me_of n) a (margin_of n) (settled_of n) n.singleton says
+    pub followed_here : (n : State) (a : Node Counts) (says : List (Said Counts)) (actions : List Action) → IsPart n a → Follows on aged removed heard stopped (me_of n) a (margin_of n) (settled_of n) n.singleton says a.table
         → ((p : Envelope) → Contains (sent actions) p → (x : Said Counts) → Contains (said_in p) x → Contains says x) → Does n a (n, actions)
     followed_here n a says actions part f told = record {
       list = f.list;
       local = f.local;
-      part = record { like = f.like; fits = part.fits; marks = f.marks ∙ part.marks };
+      part = record { like = f.like; fits = part.fits; sharing = same_sharing f part };
       says = λ p there x x_says. f.spoken x (told p there x x_says);
       same_me = refl;
     }
@@ -297,6 +335,10 @@ module _ (on : Counts → Type 0) (aged removed : Counts → UniqueModel → Typ
 
       abbrev s : SingletonModel
       s = n.singleton
+
+      -- its part as the shards see it
+      here : IsPartHere on aged removed heard stopped (around n) n.sharding a
+      here = record { like = part.like; sharing = part.sharing }
 
       -- ---- a tick
       abbrev InTick : TickRule → List (Said Counts) → Type 0
@@ -355,16 +397,16 @@ module _ (on : Counts → Type 0) (aged removed : Counts → UniqueModel → Typ
       asks_does None own = unmoved n n a [] part refl (unsaid_none [] refl)
       asks_does (Some status) own =
           let bound = live_last n a part own in
-          let t = tick_is_moves on aged removed heard stopped me (margin_of n) (settled_of n) shown.known s a part.like status bound in
-          followed n a (after_rule (rule_on status n) me (settled_of n) s) t.0 (does_rule (rule_on status n) n).1 part t.2 (rule_fits s part.fits (rule_on status n) me (settled_of n))
+          let t = tick_does on aged removed heard stopped (around n) shown.known n.sharding a (record { like = part.like; sharing = part.sharing }) status bound in
+          from_done n a part shown.known (after_rule (rule_on status n) me (settled_of n) s) (coordinates.tabled_by (rule_on status n) me n.sharding) t.0 (does_rule (rule_on status n) n).1 t.2 (rule_fits s part.fits (rule_on status n) me (settled_of n))
           (rule_says status (rule_on status n) t.0 t.1 bound)
 
       -- ---- the end
       pub ends_does : IsOwn me a → Does n a (ends_phase n)
       ends_does own =
           let bound = live_last n a part own in
-          let t = end_is_moves on aged removed heard stopped me (margin_of n) (settled_of n) shown.known s a part.like bound in
-          followed n a (ended (settled_of n) s) t.0 (ends_phase n).1 part t.2 (ended_fits s part.fits (settled_of n))
+          let t = end_does on aged removed heard stopped (around n) shown.known n.sharding a (record { like = part.like; sharing = part.sharing }) bound in
+          from_done n a part shown.known (ended (settled_of n) s) (coordinates.ended_table s.phase n.sharding) t.0 (ends_phase n).1 t.2 (ended_fits s part.fits (settled_of n))
           (λ p there x x_says. elim (contains_either (sent (told_end (active_term s.phase s.live))) (sent (let_go s.phase n)) p (subst (λ k. Contains k p) (sent-append (told_end (active_term s.phase s.live)) (let_go s.phase n)) there)) [
             | inl one ↦ absurd (contains_nothing p (subst (λ k. Contains k p) (unsent_end (active_term s.phase s.live)) one))
             | inr two ↦ by_phase s.phase t.0 t.1 bound p two x x_says
@@ -385,14 +427,14 @@ module _ (on : Counts → Type 0) (aged removed : Counts → UniqueModel → Typ
       pub active_does : (b : Bool) → (b ≡ true → may_activate me (settled_of n) (margin_of n) s ≡ true) → Does n a (becomes_active b n)
       active_does true may =
           followed n a (after_activation true s) [] (told_active s.live) part
-          (subst (λ r. Follows on aged removed heard stopped me a (margin_of n) (settled_of n) (after_activation r s) []) (may refl) (activation_is_moves on aged removed heard stopped me (margin_of n) (settled_of n) shown.known s a part.like))
+          (subst (λ r. Follows on aged removed heard stopped me a (margin_of n) (settled_of n) (after_activation r s) [] a.table) (may refl) (activation_is_moves on aged removed heard stopped me (margin_of n) (settled_of n) shown.known s a part.like))
           (activation_fits s part.fits true me (settled_of n) (margin_of n) may)
           (λ p there. absurd (contains_nothing p (subst (λ k. Contains k p) (unsent_active s.live) there)))
         where
           unsent_active : (o : Option BallotModel) → sent (told_active o) ≡ []
           unsent_active None = refl
           unsent_active (Some b) = refl
-      active_does false may = unmoved n _ a [] (part_alike n (keeping (after_activation false s) n) a part refl refl refl) refl (unsaid_none [] refl)
+      active_does false may = unmoved n _ a [] (part_alike n (keeping (after_activation false s) n) a part refl refl refl refl) refl (unsaid_none [] refl)
 
       -- ---- messages
       -- a ballot is asked for by its process
@@ -402,8 +444,8 @@ module _ (on : Counts → Type 0) (aged removed : Counts → UniqueModel → Typ
       answer_says : (r : Answer) (from : UniqueModel) (b : BallotModel) (says : List (Said Counts)) → SaysInAnswer on aged removed heard stopped me (margin_of n) (settled_of n) shown.known s a part.like r b says
           → (p : Envelope) → Contains (sent (answered r from b n)) p → (x : Said Counts) → Contains (said_in p) x → Contains says x
       answer_says given.Granted from b says t p there x x_says =
-          let is : said_in p ≡ Said.Granted b (floor_of n) (marks_in (reports_of n)) ∷ [] = each_says n (from ∷ []) (message.Granted b (floor_of n) (reports_of n)) (Said.Granted b (floor_of n) (marks_in (reports_of n)) ∷ []) (λ u. refl) p there in
-          subst (λ k. Contains k x) (is ∙ ap (λ m. Said.Granted b (floor_of n) m ∷ []) (sym part.marks) ∙ sym t) x_says
+          let is : said_in p ≡ Said.Granted b (floor_of n) (marks_told (reports_of n)) ∷ [] = each_says n (from ∷ []) (message.Granted b (floor_of n) (reports_of n)) (Said.Granted b (floor_of n) (marks_told (reports_of n)) ∷ []) (λ u. refl) p there in
+          subst (λ k. Contains k x) (is ∙ ap (λ m. Said.Granted b (floor_of n) m ∷ []) (reports_said n.sharding a part.sharing) ∙ sym t) x_says
       answer_says given.Old from b says t p there x x_says = one_said s.promise.last (λ last. Said.Names b ∷ Said.Names last ∷ []) p (of_says s.promise.last (λ last. message.Old b last) (λ last. Said.Names b ∷ Said.Names last ∷ []) (λ last u. refl) from n p there) t.0 t.1 says t.2 x x_says
       answer_says given.Busy from b says t p there x x_says = one_said s.promise.last (λ last. Said.Names b ∷ Said.Names last ∷ []) p (of_says s.promise.last (λ last. message.Busy b last) (λ last. Said.Names b ∷ Said.Names last ∷ []) (λ last u. refl) from n p there) t.0 t.1 says t.2 x x_says
 
@@ -418,19 +460,21 @@ module _ (on : Counts → Type 0) (aged removed : Counts → UniqueModel → Typ
               let t = ask_is_moves on aged removed heard stopped me (margin_of n) (settled_of n) shown.known s a part.like b (subst (λ u. heard u (Said.Ask b)) (sym own) was_heard) in
               followed n a (record s { promise = asked s.promise b over }) t.0 (answered (answer_to s.promise b over) from b n) part t.2 part.fits (answer_says (answer_to s.promise b over) from b t.0 t.1)
 
-      -- a grant is heard of who is no tombstone
-      pub granted_does : (from : UniqueModel) (b : BallotModel) (floor : Counts) (reports : ℕ → Mark) → heard from (Said.Granted b floor reports) → Does n a (on_granted from b floor n)
-      granted_does from b floor reports was_heard =
-          does_if n a (takes_grant from n)
+      -- a grant is heard of who is no tombstone, in which each shard is reported once at most
+      pub granted_does : (from : UniqueModel) (b : BallotModel) (floor : Counts) (told : List Report) → EachOnce told → heard from (Said.Granted b floor (marks_told told)) → Does n a (on_granted from b floor told n)
+      granted_does from b floor told once was_heard =
+          does_if n a (takes_grant from told n)
           (λ is.
-          followed n a (after_granted (is_first_grant from b s) from floor s) [] [] part
-          (granted_is_moves on aged removed heard stopped me (margin_of n) (settled_of n) shown.known s a part.like part.fits from b floor reports (λ i. learnt (asks_now a.phase) from (reports i) (a.table i)) was_heard (stays is)
-          (λ t live i. learnt_learns (a.phase ≡ moves.Asking t) (asks_now a.phase) (asks_decides a.phase t live) from (reports i) (a.table i)))
+          from_done n a part shown.known (after_granted (is_first_grant from b s) from floor s) (coordinates.learns_if (is_first_grant from b s) (around n) from told n.sharding) [] []
+          (grant_does on aged removed heard stopped (around n) shown.known n.sharding a (record { like = part.like; sharing = part.sharing }) part.fits from b floor told once (tested (length n.sharding.region.slots) told (of_shards is)) was_heard (stays is))
           (granted_fits s part.fits (is_first_grant from b s) from floor) (λ p there. absurd (contains_nothing p there)))
           (λ is. unmoved n n a [] part refl (unsaid_none [] refl))
         where
-          stays : takes_grant from n ≡ true → ¬ (removed (version_of (settled_of n)) from)
-          stays is gone = true≢false (sym (sym (ap not (shown.buried from gone)) ∙ and_second (is_member n) (not (is_buried n from)) is))
+          of_shards : takes_grant from told n ≡ true → coordinates.are_of_shards (length n.sharding.region.slots) told ≡ true
+          of_shards is = and_second (not (is_buried n from)) (coordinates.are_of_shards (length n.sharding.region.slots) told) (and_second (is_member n) _ is)
+
+          stays : takes_grant from told n ≡ true → ¬ (removed (version_of (settled_of n)) from)
+          stays is gone = true≢false (sym (sym (ap not (shown.buried from gone)) ∙ and_first (not (is_buried n from)) (coordinates.are_of_shards (length n.sharding.region.slots) told) (and_second (is_member n) _ is)))
 
       -- another holds the promise
       pub busy_does : (b held : BallotModel) (from : UniqueModel) → heard from (Said.Names held) → Does n a (on_busy b held n)
@@ -444,7 +488,7 @@ module _ (on : Counts → Type 0) (aged removed : Counts → UniqueModel → Typ
       pub old_does : IsOwn me a → (b last : BallotModel) → Does n a (on_old b last n)
       old_does own b last =
           does_if n a (is_member n)
-          (λ is. followed n a (after_old (is_outdone b last s) b last s) [] [] part (old_is_moves on aged removed heard stopped me (margin_of n) (settled_of n) shown.known s a part.like b last (live_own n a part own b))
+          (λ is. from_done n a part shown.known (after_old (is_outdone b last s) b last s) (coordinates.begins_if (is_outdone b last s) me n.sharding) [] [] (outdone_does on aged removed heard stopped (around n) shown.known n.sharding a (record { like = part.like; sharing = part.sharing }) b last (live_own n a part own b))
           (old_fits s part.fits b last) (λ p there. absurd (contains_nothing p there)))
           (λ is. unmoved n n a [] part refl (unsaid_none [] refl))
 
@@ -476,3 +520,34 @@ module _ (on : Counts → Type 0) (aged removed : Counts → UniqueModel → Typ
           does_if n a (is_member n)
           (λ is. followed n a (record s { promise = released_by s.promise b floor }) [] [] part (release_is_moves on aged removed heard stopped me (margin_of n) (settled_of n) shown.known s a part.like b floor from was_heard) part.fits (λ p there. absurd (contains_nothing p there)))
           (λ is. unmoved n n a [] part refl (unsaid_none [] refl))
+
+      -- ---- shards
+      bound_here : IsOwn me a → LastIsLive n.singleton
+      bound_here own b live = live_last n a part own b live
+
+      pub on_shards_does : IsOwn me a → (from : UniqueModel) (what : Message) → ((x : Said Counts) → Contains (said_to me what) x → heard from x) → Does n a (on_shards from what n)
+      on_shards_does own from what was_heard =
+          does_if n a (is_member n)
+          (λ is. shards_does (λ b t. packets.on_shard_message b from what t) n a part (on_shard_message_does on aged removed heard stopped (around n) (bound_here own) shown.risen from what n.sharding a was_heard (record { like = part.like; sharing = part.sharing })))
+          (λ is. unmoved n n a [] part refl (unsaid_none [] refl))
+
+      pub offer_does : (entity : List ℕ) (payload : ℕ) → Does n a (offer entity payload n)
+      offer_does entity payload = shards_does (λ b t. hosts.on_offer b entity payload t) n a part (routes_does on aged removed heard stopped (around n) (record { entity = entity; payload = payload }) n.sharding a (record { like = part.like; sharing = part.sharing }))
+
+      pub coordinates_do : LastIsLive n.singleton → Does n a (shards_do coordinates.coordinates n)
+      coordinates_do bound = shards_does coordinates.coordinates n a part (coordinates_does on aged removed heard stopped (around n) bound shown.risen n.sharding a (record { like = part.like; sharing = part.sharing }))
+
+      pub asks_homes_do : Does n a (shards_do hosts.asks_homes n)
+      asks_homes_do = shards_does hosts.asks_homes n a part (asks_homes_does on aged removed heard stopped (around n) n.sharding a (record { like = part.like; sharing = part.sharing }))
+
+      -- a live ballot is the last one after the singleton's part of a tick too
+      bound_ruled : (r : TickRule) → LastIsLive s → LastIsLive (after_rule r me (settled_of n) s)
+      bound_ruled rules.Rests bound b live = bound b live
+      bound_ruled rules.Opens bound b live = live
+      bound_ruled rules.HandsOver bound b live = bound b live
+      bound_ruled rules.Closes bound b live = absurd (true≢false (sym (ap is_some live)))
+      bound_ruled rules.Asks bound b live = bound b live
+
+      pub bound_asked : (status : Option Status) → IsOwn me a → LastIsLive (asks_as status n).0.singleton
+      bound_asked None own = bound_here own
+      bound_asked (Some status) own = bound_ruled (rule_on status n) (bound_here own)

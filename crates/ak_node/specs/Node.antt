@@ -1,7 +1,7 @@
 -- A node of the cluster: its state, and what one event makes of it (Akka's Cluster Specification, "Membership Lifecycle";
 -- the messages and their order are this project's choice). What it knows of the cluster is its membership; what it promised, and
--- how far it is with the singleton, is its singleton.
-use Rattle.std.specs.Prelude.{ℕ, ◌+◌, Bool, true, false, ◌&&◌, ◌||◌, not, nat_le, ◌==◌, List, [], ◌∷◌, ◌++◌, Option, Some, None, is_some, option_map, Result, Ok, Err, map, if◌then◌else◌}
+-- how far it is with the singleton, is its singleton; what it keeps of the shards, is its sharding.
+use Rattle.std.specs.Prelude.{ℕ, ◌+◌, Bool, true, false, ◌&&◌, ◌||◌, not, nat_le, ◌==◌, List, [], ◌∷◌, ◌++◌, length, Option, Some, None, is_some, option_map, Result, Ok, Err, map, if◌then◌else◌}
 use Rattle.std.specs.FinMap as finmap
 use Rattle.std.specs.Ordering.{is_eq}
 use Rattle.ak_address.specs.Changed.{keys_of}
@@ -34,6 +34,12 @@ use Rattle.ak_singleton.specs.declared.phase.Phase.{Phase}
 use Rattle.ak_singleton.specs.declared.phase.Phase as phase
 use Rattle.ak_singleton.specs.declared.phase.TickRule.{TickRule}
 use Rattle.ak_singleton.specs.Singleton as singleton
+use Rattle.ak_region.specs.Region as region
+use Rattle.ak_sharding.specs.Sharding as sharding
+use Rattle.ak_sharding.specs.Sharding.{ShardingModel, Around}
+use Rattle.ak_sharding.specs.Hosts as hosts
+use Rattle.ak_sharding.specs.Coordinates as coordinates
+use Rattle.ak_sharding.specs.Packets as packets
 use Rattle.ak_singleton.specs.Singleton.{SingletonModel, only, needed_but}
 use Rattle.ak_wire.specs.declared.envelope.Message.{Message}
 use Rattle.ak_wire.specs.declared.envelope.Message as message
@@ -46,7 +52,7 @@ use Rattle.ak_node.specs.declared.node.NodeEvent as event
 
 -- a process starts, and knows nothing
 abbrev pub started : UniqueModel → SettingsModel → State
-started me settings = record { membership = membership.started me settings; singleton = singleton.unasked; runs = true; steps = 0 }
+started me settings = record { membership = membership.started me settings; singleton = singleton.unasked; sharding = sharding.new_sharding settings; runs = true; steps = 0 }
 
 -- the process that a node is
 abbrev pub me_of : State → UniqueModel
@@ -161,6 +167,27 @@ asks_at (Some target) n = (n, to_address n target message.TheVariants.Join ∷ [
 abbrev pub counted_members : State → List UniqueModel
 counted_members n = map (λ (pair : UniqueModel × ℕ). pair.0) (counted_pairs (members_of (known n).view.standings))
 
+-- ---- the shards
+-- what the rules of shards read of the node
+abbrev pub around : State → Around
+around n = record { me = me_of n; settings = n.membership.settings; settled = settled_of n; members = (known n).view.standings; singleton = n.singleton }
+
+-- this is kept of the shards from now on
+abbrev pub sharing : ShardingModel → State → State
+sharing s n = record n { sharding = s }
+
+-- the node's part of shards did this
+abbrev pub shards_do : (Around → ShardingModel → sharding.Outcome) → State → Outcome
+shards_do rule n = (sharing (rule (around n) n.sharding).0 n, (rule (around n) n.sharding).1)
+
+-- a payload is offered for an entity, to a member or not
+abbrev pub offer : List ℕ → ℕ → State → Outcome
+offer entity payload n = shards_do (λ a s. hosts.on_offer a entity payload s) n
+
+-- a message of shards, heard by members alone
+abbrev pub on_shards : UniqueModel → Message → State → Outcome
+on_shards from what n = if is_member n then shards_do (λ a s. packets.on_shard_message a from what s) n else nothing n
+
 -- ---- promises and the singleton
 -- this is kept of the singleton from now on
 abbrev pub keeping : SingletonModel → State → State
@@ -198,7 +225,7 @@ rule_on status n = singleton.tick_rule (me_of n) (settled_of n) status (margin_o
 abbrev pub does_rule : TickRule → State → Outcome
 does_rule r n =
     let steps = singleton.steps_of r (me_of n) (settled_of n) (margin_of n) n.singleton in
-    let after : State = keeping (singleton.after_rule r (me_of n) (settled_of n) n.singleton) n in
+    let after : State = keeping (singleton.after_rule r (me_of n) (settled_of n) n.singleton) (sharing (coordinates.tabled_by r (me_of n) n.sharding) n) in
     (after, told_its_own steps.hand_over_to after ++ releases steps.release after ++ told_to_each after.singleton.live message.TheVariants.Ask steps.ask after)
 
 abbrev pub asks_as : Option Status → State → Outcome
@@ -222,7 +249,7 @@ let_go phase.TheVariants.Ended n = []
 
 abbrev pub ends_phase : State → Outcome
 ends_phase n = (
-  keeping (singleton.ended (settled_of n) n.singleton) n,
+  keeping (singleton.ended (settled_of n) n.singleton) (sharing (coordinates.ended_table n.singleton.phase n.sharding) n),
   told_end (singleton.active_term n.singleton.phase n.singleton.live) ++ let_go n.singleton.phase n,
 )
 
@@ -247,9 +274,9 @@ active_in phase.TheVariants.Ended live = None
 abbrev pub active : State → Option BallotModel
 active n = if n.runs then active_in n.singleton.phase n.singleton.live else None
 
--- what the node reports of its shards (none yet: shards are not built)
+-- what the node reports of its shards
 abbrev pub reports_of : State → List Report
-reports_of n = []
+reports_of n = region.reports n.sharding.region
 
 -- the floor that a grant carries, which has to fit into a packet
 abbrev pub floor_of : State → Counts
@@ -287,19 +314,26 @@ on_ask from b n = if is_asked from b n then answers_ask from b n else nothing n
 abbrev pub is_buried : State → UniqueModel → Bool
 is_buried n who = is_some (tombstone_of (finmap.get (standings_of (settled_of n)) who))
 
-abbrev pub takes_grant : UniqueModel → State → Bool
-takes_grant from n = is_member n && not (is_buried n from)
+-- a member takes it, where each report is of one of the shards
+abbrev pub takes_grant : UniqueModel → List Report → State → Bool
+takes_grant from told n = is_member n && (not (is_buried n from) && coordinates.are_of_shards (length n.sharding.region.slots) told)
 
-abbrev pub on_granted : UniqueModel → BallotModel → Counts → State → Outcome
-on_granted from b floor n =
-    if takes_grant from n then nothing (keeping (singleton.after_granted (singleton.is_first_grant from b n.singleton) from floor n.singleton) n) else nothing n
+abbrev pub takes : UniqueModel → BallotModel → Counts → List Report → State → State
+takes from b floor told n =
+    let first = singleton.is_first_grant from b n.singleton in
+    keeping (singleton.after_granted first from floor n.singleton) (sharing (coordinates.learns_if first (around n) from told n.sharding) n)
+
+abbrev pub on_granted : UniqueModel → BallotModel → Counts → List Report → State → Outcome
+on_granted from b floor told n = if takes_grant from told n then nothing (takes from b floor told n) else nothing n
 
 -- the process of the ballot that binds is asked to hand over
 abbrev pub on_busy : BallotModel → BallotModel → State → Outcome
 on_busy b held n = if is_member n && is_some_ballot n.singleton.live b then (n, told_its_own (Some held) n) else nothing n
 
 abbrev pub on_old : BallotModel → BallotModel → State → Outcome
-on_old b last n = if is_member n then nothing (keeping (singleton.after_old (singleton.is_outdone b last n.singleton) b last n.singleton) n) else nothing n
+on_old b last n =
+    let outdone = singleton.is_outdone b last n.singleton in
+    if is_member n then nothing (keeping (singleton.after_old outdone b last n.singleton) (sharing (coordinates.begins_if outdone (me_of n) n.sharding) n)) else nothing n
 
 -- an own ballot that is not live has been handed over
 abbrev pub has_handed_over : BallotModel → State → Bool
@@ -320,6 +354,10 @@ on_done b floor n =
     else nothing n
 
 -- ---- the rest of a tick
+abbrev pub is_empty : {X : Type 0} → List X → Bool
+is_empty [] = true
+is_empty (x ∷ xs) = false
+
 -- a node that exits tells those that count that it stops, and stops
 abbrev pub exits : State → Outcome
 exits n = (record n { runs = false }, to_each n (counted_members n) message.TheVariants.ExitingConfirmed)
@@ -333,13 +371,24 @@ gossips_to (Some to) n = (n, to_process n to (message.TheVariants.Gossip (known 
 abbrev pub gossips : ℕ → State → Outcome
 gossips word n = gossips_to (ticks.gossip_peer word n.membership) n
 
--- what follows the update of a tick: nothing where the node is Down now; one that is Exiting ends its phase, and exits; any other
--- does its part for the singleton, and gossips
+-- its part for the singleton, as the coordinator, and for whom messages wait; and then what is known is told to somebody
+abbrev pub rest : ℕ → State → Outcome
+rest word n = and_then (gossips word) (and_then (shards_do hosts.asks_homes) (and_then (shards_do coordinates.coordinates) (asks_as (status_of n) n)))
+
+-- a node that exits may leave where it hosts no shard, or where nobody counts who could host one
+abbrev pub may_leave : State → Bool
+may_leave n = not (region.hosts_any n.sharding.region) || is_empty (counted_members n)
+
+abbrev pub leaves : ℕ → State → Outcome
+leaves word n = if may_leave n then exits n else rest word n
+
+-- what follows the update of a tick: nothing where the node is Down now; one that is Exiting ends its phase, and leaves where it may; the
+-- others, and one that may not leave yet, do the rest
 abbrev pub goes_on : ℕ → State → Outcome
 goes_on word n =
     if is_gone n then nothing n
-    else (if is_member_with is_exiting (known n).view.standings (me_of n) then and_then exits (ends_phase n)
-    else and_then (gossips word) (asks_as (status_of n) n))
+    else (if is_member_with is_exiting (known n).view.standings (me_of n) then and_then (leaves word) (ends_phase n)
+    else rest word n)
 
 -- the tombstones of the settled view that have waited for as long as the margin now
 abbrev pub ends : State → List Action
@@ -379,7 +428,7 @@ on_heard from n = if is_member n then nothing (record n { membership = membershi
 abbrev pub on_confirmed : UniqueModel → State → Outcome
 on_confirmed from n = if is_member n then nothing (record n { membership = membership.on_confirmed from n.membership }) else nothing n
 
--- a leave and a down by message are those of the local events, from whomever they come; a node ignores every other message
+-- a leave, a down and an offer by message are those of the local events, from whomever they come
 abbrev pub on_message : UniqueModel → Message → State → Outcome
 on_message from message.TheVariants.Join n = on_join from n
 on_message from (message.TheVariants.Welcome g) n = on_gossip from g n
@@ -388,15 +437,24 @@ on_message from message.TheVariants.Heartbeat n = on_heartbeat from n
 on_message from message.TheVariants.HeartbeatReply n = on_heard from n
 on_message from message.TheVariants.ExitingConfirmed n = on_confirmed from n
 on_message from (message.TheVariants.Ask b) n = on_ask from b n
-on_message from (message.TheVariants.Granted b floor reports) n = on_granted from b floor n
+on_message from (message.TheVariants.Granted b floor reports) n = on_granted from b floor reports n
 on_message from (message.TheVariants.Busy b held) n = on_busy b held n
 on_message from (message.TheVariants.Old b last) n = on_old b last n
 on_message from (message.TheVariants.HandOverToMe b) n = on_hand_over from b n
 on_message from (message.TheVariants.HandOverDone b floor) n = on_done b floor n
 on_message from (message.TheVariants.Release b floor) n = on_release b floor n
+on_message from (message.TheVariants.GetHome b shard) n = on_shards from (message.TheVariants.GetHome b shard) n
+on_message from (message.TheVariants.Home b shard owner) n = on_shards from (message.TheVariants.Home b shard owner) n
+on_message from (message.TheVariants.HostShard b shard number) n = on_shards from (message.TheVariants.HostShard b shard number) n
+on_message from (message.TheVariants.ShardStarted b shard number) n = on_shards from (message.TheVariants.ShardStarted b shard number) n
+on_message from (message.TheVariants.BeginHandOff b shard number) n = on_shards from (message.TheVariants.BeginHandOff b shard number) n
+on_message from (message.TheVariants.BeginHandOffAck b shard number) n = on_shards from (message.TheVariants.BeginHandOffAck b shard number) n
+on_message from (message.TheVariants.HandOff b shard number) n = on_shards from (message.TheVariants.HandOff b shard number) n
+on_message from (message.TheVariants.ShardStopped b shard number) n = on_shards from (message.TheVariants.ShardStopped b shard number) n
+on_message from (message.TheVariants.Forward entity payload) n = on_shards from (message.TheVariants.Forward entity payload) n
 on_message from (message.TheVariants.Leave who) n = leave who n
 on_message from (message.TheVariants.Down who) n = down who n
-on_message from other n = nothing n
+on_message from (message.TheVariants.Offer entity payload) n = offer entity payload n
 
 abbrev pub rule : NodeEvent → State → Outcome
 rule event.TheVariants.Found n = found n
@@ -405,6 +463,7 @@ rule (event.TheVariants.Tick word) n = tick word n
 rule (event.TheVariants.Packet e) n = on_message e.from e.message n
 rule (event.TheVariants.Leave who) n = leave who n
 rule (event.TheVariants.Down who) n = down who n
+rule (event.TheVariants.Offer entity payload) n = offer entity payload n
 rule event.TheVariants.Stop n = stop n
 
 -- ---- the closing after a rule: the view, and then that the node stops, or that its view is settled
@@ -420,9 +479,13 @@ closes n =
     let c = closing.close (not n.runs) n.membership in
     (record n { membership = c.0; runs = not c.1.stopped }, due c.1)
 
--- and last, where the node goes on, it may become active
+-- a node that goes on forgets homes that are no members
+abbrev pub forgets : State → State
+forgets n = sharing (if n.runs then (hosts.forgets (around n) n.sharding).0 else n.sharding) n
+
+-- and last, where the node goes on, it forgets homes, and may become active
 abbrev pub concludes : State → Outcome
-concludes n = and_then activates (closes n)
+concludes n = and_then activates (forgets (closes n).0, (closes n).1)
 
 -- a packet is for this process, or for whichever is at its address
 abbrev pub is_for : UniqueModel → Envelope → Bool
@@ -436,6 +499,7 @@ is_dead me (event.TheVariants.Tick word) = false
 is_dead me (event.TheVariants.Packet e) = not (is_for me e)
 is_dead me (event.TheVariants.Leave who) = false
 is_dead me (event.TheVariants.Down who) = false
+is_dead me (event.TheVariants.Offer entity payload) = false
 is_dead me event.TheVariants.Stop = false
 
 -- the step of a running node

@@ -1,8 +1,9 @@
 -- What a node sends has a spelling as bytes, where what came in had one.
-use Rattle.std.specs.Prelude.{◌≡◌, ◌≤◌, IsTrue, List, Option, None, Some, Contains, ⊤}
+use Rattle.std.specs.Prelude.{◌≡◌, ◌≤◌, ◌<◌, ◌^◌, IsTrue, List, Option, None, Some, Contains, ⊤}
 use Rattle.std.specs.FinMap as map
 use Rattle.ak_address.specs.Unique.{AddressModel, UniqueModel, IsAddress, IsUnique}
 use Rattle.ak_clock.specs.Version.{Counts, count, IsVersion}
+use Rattle.ak_field.specs.Ranges.{IsEntity}
 use Rattle.ak_gossip.specs.Gossip.{is_known}
 use Rattle.ak_promise.specs.Ballot.{BallotModel, IsBallot}
 use Rattle.ak_settled.specs.Settled.{version_of, standings_of}
@@ -12,6 +13,7 @@ use Rattle.ak_wire.specs.declared.envelope.Message.{Message}
 use Rattle.ak_wire.specs.declared.envelope.Message.TheVariants as message
 use Rattle.ak_wire.specs.declared.action.Action.{Action}
 use Rattle.ak_wire.specs.Datagram.{IsValid}
+use Rattle.ak_sharding.specs.Ranges.{AreUniques, InRange}
 use Rattle.ak_wire.specs.Wire.{sent}
 use Rattle.ak_node.specs.declared.node.State.{State}
 use Rattle.ak_node.specs.declared.node.NodeEvent.{NodeEvent}
@@ -40,11 +42,12 @@ pub record IsCounted (v : Counts) : Type 0 where
   pub version : IsVersion v
   pub uniques : (who : UniqueModel) → 1 ≤ count v who → IsUnique who
 
--- the ballots that are kept of the singleton are in their ranges, and so is the floor of the promise
+-- the ballots that are kept of the singleton are in their ranges, and so are the floor of the promise and who has granted
 pub record KeepsBallots (s : SingletonModel) : Type 0 where
   pub last : (b : BallotModel) → s.promise.last ≡ Some b → IsBallot b
   pub live : (b : BallotModel) → s.live ≡ Some b → IsBallot b
   pub floor : IsCounted s.promise.floor
+  pub granted : AreUniques s.granted
 
 -- what a node has noted as settled fits into a packet, and names processes in their ranges
 pub record KeepsSettled (n : State) : Type 0 where
@@ -52,13 +55,18 @@ pub record KeepsSettled (n : State) : Type 0 where
   pub few : map.len (version_of (settled_of n)) ≤ most_in_version
   pub processes : (who : UniqueModel) → IsTrue (is_known (standings_of (settled_of n)) who) → IsUnique who
 
+-- what is kept of the shards is in the ranges of packets
+abbrev pub KeepsShards : State → Type 0
+KeepsShards n = InRange n.sharding
+
 -- What comes in is valid: a packet has a spelling as bytes. What else an event names is in its ranges by its types.
 abbrev pub ComesValid : NodeEvent → Type 0
 ComesValid (event.TheVariants.Packet p) = IsValid p
 ComesValid other = ⊤
 
--- an event names an address to join through, or brings a packet that has a spelling
+-- an event names an address to join through, brings a packet that has a spelling, or a payload for an entity
 abbrev pub IsSaid : NodeEvent → Type 0
 IsSaid (event.TheVariants.Join target) = IsAddress target
 IsSaid (event.TheVariants.Packet p) = IsValid p
+IsSaid (event.TheVariants.Offer entity payload) = IsEntity entity × (payload < 2 ^ 64)
 IsSaid other = ⊤

@@ -7,9 +7,11 @@ ghost use Rattle.ak_node.specs.Node as rules;
 ghost use Rattle.ak_node.specs.NodeContracts.{Does, IsSameProcess};
 
 use crate::node::State;
+use crate::shards::around;
 use ak_address::{Unique, Uniques};
 use ak_clock::Version;
 use ak_promise::{Answer, Ballot};
+use ak_shard_id::Report;
 use ak_singleton::{Phase, Steps};
 use ak_wire::{Action, Actions, Message, Reports};
 use std::alloc::{AllocError, Global};
@@ -146,14 +148,12 @@ impl State {
     {
         match self.membership.my_status() {
             Some(status) => {
+                let me = self.membership.me();
+                let settled = self.membership.settled();
                 let margin = self.membership.margin();
-                let steps = self.singleton.on_tick(
-                    alloc,
-                    self.membership.me(),
-                    self.membership.settled(),
-                    status,
-                    margin,
-                )?;
+                let rule = self.singleton.tick_rule(me, settled, status, margin);
+                let steps = self.singleton.on_tick(alloc, me, settled, status, margin)?;
+                self.sharding.follow_tick(alloc, rule, me)?;
                 self.tells_steps(alloc, &steps, actions)
             }
             None => Ok(()),
@@ -188,6 +188,7 @@ impl State {
         if let Some(term) = self.singleton.end(alloc, self.membership.settled())? {
             actions.push(Action::Ended(term))?;
         }
+        self.sharding.end_phase(phase);
         self.lets_go(alloc, phase, actions)
     }
 
@@ -264,7 +265,7 @@ impl State {
         self.membership.settled().members().tombstone(who).is_some()
     }
 
-    // Adds a grant, with a floor.
+    // Adds a grant, with a floor and what the node reports of its shards.
     fn grants(
         &self,
         alloc: Global,
@@ -273,11 +274,11 @@ impl State {
         floor: Version,
         actions: &mut Actions,
     ) -> Result<(), AllocError>
-        ensures { OnOk result (actions.new ≡ actions.old ++ rules.to_process self.now to.now (Message.Granted ballot.now floor []) ∷ []) }
+        ensures { OnOk result (actions.new ≡ actions.old ++ rules.to_process self.now to.now (Message.Granted ballot.now floor (rules.reports_of self.now)) ∷ []) }
     {
         let cover = self.cover(alloc, to)?;
         let ballot = ballot.copy(alloc)?;
-        let reports = Reports::of(Vec::new(alloc));
+        let reports = Reports::of(self.sharding.reports(alloc)?);
         actions.push(cover.around(alloc, Message::Granted(ballot, floor, reports))?)
     }
 
@@ -372,20 +373,29 @@ impl State {
         Ok(Actions::empty(alloc))
     }
 
+    // A member takes a grant of who is no tombstone of the settled view, where each report is of one of the shards.
+    fn takes_grant(&self, from: &Unique, told: &[Report]) -> bool
+        ensures { result ≡ rules.takes_grant from.now told.now self.now }
+    {
+        self.membership.is_member() && !self.is_buried(from) && self.sharding.has_shards(told)
+    }
+
     pub(crate) fn on_granted(
         &mut self,
         alloc: Global,
         from: &Unique,
         ballot: &Ballot,
         floor: &Version,
+        told: &[Report],
     ) -> Result<Actions, AllocError>
-        ensures does { IfOk result (λ actions. Does (rules.on_granted from.now ballot.now floor.now self.old) self.new actions) }
+        ensures does { IfOk result (λ actions. Does (rules.on_granted from.now ballot.now floor.now told.now self.old) self.new actions) }
         ensures same { IsSameProcess self.old self.new }
     {
-        if !self.membership.is_member() || self.is_buried(from) {
-            return Ok(Actions::empty(alloc));
+        if self.takes_grant(from, told) {
+            let first = self.singleton.on_granted(alloc, from, ballot, floor)?;
+            let around = around(&self.membership, &self.singleton);
+            self.sharding.learn_if(alloc, first, &around, from, told)?;
         }
-        self.singleton.on_granted(alloc, from, ballot, floor)?;
         Ok(Actions::empty(alloc))
     }
 
@@ -416,7 +426,9 @@ impl State {
         ensures same { IsSameProcess self.old self.new }
     {
         if self.membership.is_member() {
-            self.singleton.on_old(alloc, ballot, last)?;
+            let outdone = self.singleton.on_old(alloc, ballot, last)?;
+            self.sharding
+                .begin_if(alloc, outdone, self.membership.me())?;
         }
         Ok(Actions::empty(alloc))
     }

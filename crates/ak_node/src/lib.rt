@@ -5,6 +5,7 @@
 mod ballots;
 mod laws;
 mod node;
+mod shards;
 
 pub use ak_wire::{Action, Actions};
 pub use laws::steps_update_once;

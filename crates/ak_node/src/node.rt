@@ -1,19 +1,24 @@
-ghost use Rattle.std.specs.Prelude.{◌≡◌, ◌<◌, ◌≤◌, ◌^◌, ◌++◌, ◌∷◌, [], not, true, false, IfOk, OnOk, OnErr, option_copied};
+ghost use Rattle.std.specs.Prelude.{◌≡◌, ◌<◌, ◌≤◌, ◌^◌, ◌++◌, ◌∷◌, [], not, true, false, IfOk, OnOk, OnErr, option_copied, option_map};
 ghost use Rattle.ak_member.specs.Standing.{is_exiting};
 ghost use Rattle.ak_membership.specs.Membership as rules_of_membership;
 ghost use Rattle.ak_membership.specs.MembershipContracts.{IsWatching};
 ghost use Rattle.ak_membership.specs.Tick as rules_of_ticks;
+ghost use Rattle.std.specs.FinMap as finmap;
+ghost use Rattle.ak_region.specs.Region as regions;
 ghost use Rattle.ak_node.specs.Node as rules;
 ghost use Rattle.ak_address.specs.Unique.{IsAddress, IsUnique};
+ghost use Rattle.ak_field.specs.Ranges.{IsEntity};
 ghost use Rattle.ak_node.specs.Sends.{AreValid, ComesValid, IsProcess, IsSaid};
 ghost use Rattle.ak_node.specs.NodeContracts.{Does, IsSameProcess, IsLeftOver, IsSilent, ServesWhileItRuns};
 
-use ak_address::{Address, Unique};
+use ak_address::{Address, Text, Unique};
+use ak_field::EntityId;
 use ak_gossip::Gossip;
 use ak_membership::{Change, Closing, MemberFault, Membership, Reply};
 use ak_promise::Ballot;
 use ak_schedule::Settings;
 use ak_settled::Settled;
+use ak_sharding::Sharding;
 use ak_singleton::Singleton;
 use ak_wire::{Action, Actions, Cover, Envelope, Message, SharedEnvelope, sendable};
 use std::alloc::{AllocError, Global};
@@ -34,6 +39,8 @@ pub enum NodeEvent {
     Leave(Unique),
     /// It is asked to down a process.
     Down(Unique),
+    /// A payload is offered for the entity of this id.
+    Offer(EntityId, u64),
     /// It stops at once.
     Stop,
 }
@@ -45,6 +52,8 @@ pub struct State {
     pub membership: Membership,
     /// What it promised, and how far it is with the singleton.
     pub singleton: Singleton,
+    /// What it keeps of the shards.
+    pub sharding: Sharding,
     /// It has not stopped.
     pub runs: bool,
     /// How many events it was given while it ran.
@@ -324,8 +333,34 @@ impl State {
         }
     }
 
-    // What follows the update of a tick: a node that exits says so, and stops (Akka's Cluster Specification, "Leaving"); any
-    // other gossips.
+    // Its part for the singleton, as the coordinator, and for whom messages wait; and then it gossips.
+    fn rest(&mut self, alloc: Global, word: u32, actions: &mut Actions) -> Result<(), AllocError>
+        ensures state { OnOk result (self.new ≡ (rules.rest word self.old).0) }
+        ensures actions { OnOk result (actions.new ≡ actions.old ++ (rules.rest word self.old).1) }
+        ensures same { IsSameProcess self.old self.new }
+    {
+        self.asks_as(alloc, actions)?;
+        self.coordinates(alloc, actions)?;
+        self.asks_homes(alloc, actions)?;
+        self.gossips(alloc, word, actions)
+    }
+
+    // A node that exits says so, and stops (Akka's Cluster Specification, "Leaving"), where it may leave already.
+    fn leaves(&mut self, alloc: Global, word: u32, actions: &mut Actions) -> Result<(), AllocError>
+        ensures state { OnOk result (self.new ≡ (rules.leaves word self.old).0) }
+        ensures actions { OnOk result (actions.new ≡ actions.old ++ (rules.leaves word self.old).1) }
+        ensures same { IsSameProcess self.old self.new }
+    {
+        if !self.may_leave() {
+            return self.rest(alloc, word, actions);
+        }
+        self.confirms(alloc, actions)?;
+        self.runs = false;
+        Ok(())
+    }
+
+    // What follows the update of a tick: nothing where the node is Down now; one that is Exiting ends its phase, and leaves
+    // where it may; any other does the rest.
     fn goes_on(&mut self, alloc: Global, word: u32, actions: &mut Actions) -> Result<(), AllocError>
         ensures state { OnOk result (self.new ≡ (rules.goes_on word self.old).0) }
         ensures actions { OnOk result (actions.new ≡ actions.old ++ (rules.goes_on word self.old).1) }
@@ -336,12 +371,9 @@ impl State {
         }
         if self.is_exiting() {
             self.ends_phase(alloc, actions)?;
-            self.confirms(alloc, actions)?;
-            self.runs = false;
-            return Ok(());
+            return self.leaves(alloc, word, actions);
         }
-        self.asks_as(alloc, actions)?;
-        self.gossips(alloc, word, actions)
+        self.rest(alloc, word, actions)
     }
 
     // Adds an action for each tombstone that has waited for as long as the margin now.
@@ -420,18 +452,22 @@ impl State {
             Message::Leave(who) => self.leave(alloc, who),
             Message::Down(who) => self.down(alloc, who),
             Message::Ask(ballot) => self.on_ask(alloc, &envelope.from, ballot),
-            Message::Granted(ballot, floor, _) => self.on_granted(
+            Message::Granted(ballot, floor, told) => self.on_granted(
                 alloc,
                 &envelope.from,
                 ballot,
                 floor,
+                told.as_slice(),
             ),
             Message::Busy(ballot, held) => self.on_busy(alloc, ballot, held),
             Message::Old(ballot, last) => self.on_old(alloc, ballot, last),
             Message::HandOverToMe(ballot) => self.on_hand_over(alloc, &envelope.from, ballot),
             Message::HandOverDone(ballot, floor) => self.on_done(alloc, ballot, floor),
             Message::Release(ballot, floor) => self.on_release(alloc, ballot, floor),
-            _ => Ok(Actions::empty(alloc)),
+            Message::Offer(_, _) => {
+                self.on_shard_message(alloc, &envelope.from, &envelope.message)
+            }
+            _ => self.on_shards(alloc, &envelope.from, &envelope.message),
         }
     }
 
@@ -482,6 +518,7 @@ impl State {
     {
         let mut actions = event.rule(alloc, self)?;
         self.closes(alloc, &mut actions)?;
+        self.forgets();
         self.activates(alloc, &mut actions)?;
         Ok(actions)
     }
@@ -536,6 +573,7 @@ impl Given for NodeEvent {
             NodeEvent::Packet(envelope) => state.on_packet(alloc, envelope),
             NodeEvent::Leave(who) => state.leave(alloc, who),
             NodeEvent::Down(who) => state.down(alloc, who),
+            NodeEvent::Offer(entity, payload) => state.offer(alloc, entity, *payload),
             NodeEvent::Stop => state.stop(alloc),
         }
     }
@@ -546,6 +584,7 @@ impl Given for NodeEvent {
     {
         match self {
             NodeEvent::Join(target) => address(target),
+            NodeEvent::Offer(entity, payload) => offered(entity, *payload),
             _ => {}
         }
     }
@@ -614,6 +653,13 @@ fn address(place: &Address)
     let _port = place.port;
 }
 
+fn offered(entity: &EntityId, payload: u64)
+    ensures { IsEntity entity.now × (payload < 2 ^ 64) }
+{
+    let _name = entity.name();
+    let _payload = payload;
+}
+
 /// A node. Once out of memory it is spent: it is the same process with the same settings and knows nothing, and each later
 /// step answers that it is out of memory. It had no more ticks than steps: an invariant of the type.
 #[derive(Drop)]
@@ -624,18 +670,19 @@ pub struct Node {
 
 impl Model for Node {
     ghost use Rattle.ak_node.specs.NodeContracts.{NodeModel, IsNode, HasForgotten};
-    ghost use Rattle.ak_node.specs.Sends.{KnowsProcesses, KeepsBallots, KeepsSettled};
+    ghost use Rattle.ak_node.specs.Sends.{KnowsProcesses, KeepsBallots, KeepsSettled, KeepsShards};
     ghost use Rattle.std.specs.Coded.{codes};
     ghost use Rattle.ak_membership.specs.contracts.membership.Membership as membership;
     ghost use Rattle.ak_singleton.specs.SingletonView.{coded_singleton};
+    ghost use Rattle.ak_sharding.specs.ShardingView.{coded_sharding};
 
     ghost Value = { NodeModel };
 
-    ghost coded = { Prim.hlevel (codes, membership.the_row.coded, coded_singleton) };
+    ghost coded = { Prim.hlevel (codes, membership.the_row.coded, coded_singleton, coded_sharding) };
 
     ghost view = { λ n. record { state = n.state; spent = n.spent } };
 
-    ghost invariant = { λ n. IsNode n.state × HasForgotten n.spent n.state × KnowsProcesses n.state × KeepsBallots n.state.singleton × KeepsSettled n.state };
+    ghost invariant = { λ n. IsNode n.state × HasForgotten n.spent n.state × KnowsProcesses n.state × KeepsBallots n.state.singleton × KeepsSettled n.state × KeepsShards n.state };
 }
 
 impl Node {
@@ -643,10 +690,14 @@ impl Node {
     pub fn start(alloc: Global, me: Unique, settings: &Settings) -> Result<Node, AllocError>
         ensures { IfOk result (λ node. node ≡ record { state = rules.started me settings.now; spent = false }) }
     {
+        settings.invariant();
         let membership = Membership::start(alloc, me, settings)?;
+        let singleton = Singleton::new(alloc);
+        let sharding = Sharding::new(alloc, settings)?;
         let state = State {
             membership,
-            singleton: Singleton::new(alloc),
+            singleton,
+            sharding,
             runs: true,
             steps: 0,
         };
@@ -700,6 +751,7 @@ impl Node {
             Err(error) => {
                 self.state.membership.forget(alloc);
                 self.state.singleton = Singleton::new(alloc);
+                self.state.sharding.forget(alloc);
                 self.spent = true;
                 Err(error)
             }
@@ -761,5 +813,21 @@ impl Node {
         ensures { option_copied result ≡ rules.active self.now.state }
     {
         self.state.active()
+    }
+
+    /// The number with which it hosts the shard; none where it does not, or where there is no such shard (Akka's Cluster
+    /// Sharding, "How it works"; the numbers are this project's choice). Takes no memory.
+    pub fn hosts(&self, shard: u32) -> Option<u64>
+        ensures { result ≡ (regions.slot_of self.now.state.sharding.region shard).hosted }
+    {
+        self.state.sharding.hosts(shard)
+    }
+
+    /// The payloads that were delivered to the entity since it was started here, the first one first; none exactly where the
+    /// entity is not active here. Takes no memory.
+    pub fn log(&self, entity: &Text) -> Option<&[u64]>
+        ensures { option_copied result ≡ option_map (λ active. active.log) (finmap.get self.now.state.sharding.entities entity.now) }
+    {
+        self.state.sharding.log(entity)
     }
 }

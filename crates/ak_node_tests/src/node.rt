@@ -1,9 +1,11 @@
 ghost use Rattle.std.specs.Prelude.{◌<◌, OnOk};
 
 use ak_address::{Address, Text, Unique, parse_unique};
+use ak_field::{EntityId, is_entity};
 use ak_gossip::{Gossip, Indices, Part, Parts, parts_valid};
 use ak_member::{Effect, Effects, Status};
 use ak_node::{Node, NodeEvent};
+use ak_promise::Ballot;
 use ak_schedule::{Draft, Settings};
 use ak_wire::{Action, Actions, Envelope, Message, valid};
 use std::alloc::{AllocError, Global};
@@ -401,12 +403,6 @@ fn refuses_as_no_member(alloc: Global, node: &mut Node) -> Result<bool, Fail> {
     Ok(left && downed)
 }
 
-// It knows one process, of which it counts one update, and has not stopped.
-fn knows_one(node: &Node) -> bool {
-    let gossip = node.gossip();
-    gossip.uniques() == 1 && gossip.version().len() == 1 && !node.stopped()
-}
-
 // What the node does at a message for an entity, which b forwards.
 fn forwarded(alloc: Global, node: &mut Node) -> Result<Actions, Fail> {
     few_steps(node)?;
@@ -415,10 +411,57 @@ fn forwarded(alloc: Global, node: &mut Node) -> Result<Actions, Fail> {
     receive(alloc, node, &packet(ways, Message::Forward(entity, 5)))
 }
 
-fn ignores_what_has_no_rule(alloc: Global, node: &mut Node) -> Result<bool, Fail> {
+// What the node does at a payload that is offered there for the same entity.
+fn offered(alloc: Global, node: &mut Node) -> Result<Actions, Fail> {
+    few_steps(node)?;
+    let name = Text::from_bytes(alloc, b"e")?;
+    if is_entity(name.bytes()) {
+        let event = NodeEvent::Offer(EntityId::of(name), 5);
+        return Ok(node.step(alloc, event)?);
+    }
+    Err("no entity is called so")?
+}
+
+// What the node does where b, whose ballot it did not promise, tells it to host a shard.
+fn told_to_host(alloc: Global, node: &mut Node) -> Result<Actions, Fail> {
+    few_steps(node)?;
+    let ways = ways(alloc, node, b'b')?;
+    let unique = process(alloc, b'b')?;
+    let ballot = Ballot { term: 1, unique };
+    receive(alloc, node, &packet(ways, Message::HostShard(ballot, 3, 1)))
+}
+
+// The whole of what is done is that the payload waits.
+fn is_buffered(actions: &Actions) -> bool {
+    match actions.as_slice() {
+        [Action::Buffer(entity, payload)] => entity.bytes() == b"e".as_slice() && *payload == 5,
+        _ => false,
+    }
+}
+
+// The whole of what is done is that the payload is lost.
+fn is_dropped(actions: &Actions) -> bool {
+    match actions.as_slice() {
+        [Action::Drop(entity, payload)] => entity.bytes() == b"e".as_slice() && *payload == 5,
+        _ => false,
+    }
+}
+
+// It hosts nothing, is no singleton, and no entity is active there.
+fn has_no_shard(alloc: Global, node: &Node) -> Result<bool, Fail> {
+    let entity = Text::from_bytes(alloc, b"e")?;
+    Ok(node.hosts(3).is_none() && node.active().is_none() && node.log(&entity).is_none())
+}
+
+// Before it is a member it takes what is offered, but hears no packet of the shards. Two messages wait at most.
+fn hears_of_shards_as_a_member(alloc: Global, node: &mut Node) -> Result<bool, Fail> {
+    let unheard = forwarded(alloc, node)?.len() == 0;
+    let waits = is_buffered(&offered(alloc, node)?);
     found(alloc, node)?;
-    let done = forwarded(alloc, node)?.len();
-    Ok(done == 0 && knows_one(node))
+    let waits_too = is_buffered(&forwarded(alloc, node)?);
+    let lost = is_dropped(&forwarded(alloc, node)?);
+    let not_bound = told_to_host(alloc, node)?.len() == 0;
+    Ok(unheard && waits && waits_too && lost && not_bound && has_no_shard(alloc, node)?)
 }
 
 // What a node goes through that has just started.
@@ -434,7 +477,7 @@ enum Story {
     RaisesAsPacketsAsk,
     RefusesAsAFounder,
     RefusesAsNoMember,
-    IgnoresWhatHasNoRule,
+    HearsOfShardsAsAMember,
 }
 
 fn goes_so(alloc: Global, node: &mut Node, story: Story) -> Result<bool, Fail> {
@@ -449,7 +492,7 @@ fn goes_so(alloc: Global, node: &mut Node, story: Story) -> Result<bool, Fail> {
         Story::RaisesAsPacketsAsk => raises_as_packets_ask(alloc, node),
         Story::RefusesAsAFounder => refuses_as_a_founder(alloc, node),
         Story::RefusesAsNoMember => refuses_as_no_member(alloc, node),
-        Story::IgnoresWhatHasNoRule => ignores_what_has_no_rule(alloc, node),
+        Story::HearsOfShardsAsAMember => hears_of_shards_as_a_member(alloc, node),
     }
 }
 
@@ -519,9 +562,9 @@ fn others_refuse_to_leave_and_to_down(rt: HostRuntime) -> Result<(), Fail> {
     Ok(())
 }
 
-// A message whose rule is not built is ignored by a member: no action, and it knows what it knew.
+// Packets of the shards are heard by a member alone, with the ballot that it promised; an offer is taken in any case.
 #[test]
-fn messages_without_a_rule_are_ignored(rt: HostRuntime) -> Result<(), Fail> {
-    assert!(rt; is_so(rt.alloc(), b'a', Story::IgnoresWhatHasNoRule)?);
+fn packets_of_shards_are_heard_by_members(rt: HostRuntime) -> Result<(), Fail> {
+    assert!(rt; is_so(rt.alloc(), b'a', Story::HearsOfShardsAsAMember)?);
     Ok(())
 }

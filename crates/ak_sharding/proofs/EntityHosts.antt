@@ -39,13 +39,17 @@ alive_more shards a b more (action.TheVariants.Gone shard) e h = (more e h.0, h.
 alive_more shards a b more action.TheVariants.Stopped e h = h
 alive_more shards a b more other e h = more e h
 
-after_more : (shards : ℕ) (a b : List ℕ → Type 0) → ((e : List ℕ) → a e → b e) → (xs : List Action) (e : List ℕ) → alive_after shards a xs e → alive_after shards b xs e
+pub after_more : (shards : ℕ) (a b : List ℕ → Type 0) → ((e : List ℕ) → a e → b e) → (xs : List Action) (e : List ℕ) → alive_after shards a xs e → alive_after shards b xs e
 after_more shards a b more [] e h = more e h
 after_more shards a b more (x ∷ xs) e h = after_more shards (alive_then shards a x) (alive_then shards b x) (alive_more shards a b more x) xs e h
 
 after_both : (shards : ℕ) (a : List ℕ → Type 0) (xs ys : List Action) (e : List ℕ) → alive_after shards a (xs ++ ys) e → alive_after shards (alive_after shards a xs) ys e
 after_both shards a [] ys e h = h
 after_both shards a (x ∷ xs) ys e h = after_both shards (alive_then shards a x) xs ys e h
+
+pub both_after : (shards : ℕ) (a : List ℕ → Type 0) (xs ys : List Action) (e : List ℕ) → alive_after shards (alive_after shards a xs) ys e → alive_after shards a (xs ++ ys) e
+both_after shards a [] ys e h = h
+both_after shards a (x ∷ xs) ys e h = both_after shards (alive_then shards a x) xs ys e h
 
 -- actions that start nothing and end nothing
 abbrev pub is_else : Action → Bool
@@ -60,6 +64,12 @@ else_alive (action.TheVariants.Gone shard) t shards a e h = absurd (true≢false
 else_alive action.TheVariants.Stopped t shards a e h = absurd (true≢false (sym t))
 else_alive other t shards a e h = h
 
+alive_else : (x : Action) → is_else x ≡ true → (shards : ℕ) (a : List ℕ → Type 0) (e : List ℕ) → a e → alive_then shards a x e
+alive_else (action.TheVariants.Entity entity) t shards a e h = absurd (true≢false (sym t))
+alive_else (action.TheVariants.Gone shard) t shards a e h = absurd (true≢false (sym t))
+alive_else action.TheVariants.Stopped t shards a e h = absurd (true≢false (sym t))
+alive_else other t shards a e h = h
+
 else_starts : (x : Action) → is_else x ≡ true → starts_of x ≡ None
 else_starts (action.TheVariants.Entity entity) t = absurd (true≢false (sym t))
 else_starts (action.TheVariants.Gone shard) t = refl
@@ -73,6 +83,14 @@ Tells (x ∷ xs) = (is_else x ≡ true) × Tells xs
 tells_alive : (shards : ℕ) (a : List ℕ → Type 0) (xs : List Action) → Tells xs → (e : List ℕ) → alive_after shards a xs e → a e
 tells_alive shards a [] t e h = h
 tells_alive shards a (x ∷ xs) t e h = else_alive x t.0 shards a e (tells_alive shards (alive_then shards a x) xs t.1 e h)
+
+pub alive_tells : (shards : ℕ) (a : List ℕ → Type 0) (xs : List Action) → Tells xs → (e : List ℕ) → a e → alive_after shards a xs e
+alive_tells shards a [] t e h = h
+alive_tells shards a (x ∷ xs) t e h = alive_tells shards (alive_then shards a x) xs t.1 e (alive_else x t.0 shards a e h)
+
+pub tells_both : (xs ys : List Action) → Tells xs → Tells ys → Tells (xs ++ ys)
+tells_both [] ys t u = u
+tells_both (x ∷ xs) ys t u = (t.0, tells_both xs ys t.1 u)
 
 pub tells_starts : (xs : List Action) → Tells xs → (e : List ℕ) → Contains xs (action.TheVariants.Entity e) → ⊥
 tells_starts [] t e there = contains_nothing _ there
@@ -103,6 +121,7 @@ quiet s t actions all many same hosts tells = record {
     hosted = same_hosts s t all many same hosts;
     many = many;
     alive = λ e h. subst (λ m. is_some (finmap.get m e) ≡ true) (sym same) (tells_alive (length s.region.slots) (IsActive s) actions tells e h);
+    told = λ e h. alive_tells (length s.region.slots) (IsActive s) actions tells e (subst (λ m. is_some (finmap.get m e) ≡ true) same h);
     started = λ e there. absurd (tells_starts actions tells e there);
   };
   stays = λ e h. subst (λ m. is_some (finmap.get m e) ≡ true) (sym same) h;
@@ -119,6 +138,10 @@ then_adds next s o a rest =
             let first = after_both (length s.region.slots) (IsActive s) o.1 (next o.0).1 e h in
             let then_is = after_more (length s.region.slots) (alive_after (length s.region.slots) (IsActive s) o.1) (IsActive o.0) a.keeps.alive (next o.0).1 e first in
             b.keeps.alive e (subst (λ k. alive_after k (IsActive o.0) (next o.0).1 e) (sym a.keeps.many) then_is);
+        told = λ e h.
+            let last = subst (λ k. alive_after k (IsActive o.0) (next o.0).1 e) a.keeps.many (b.keeps.told e h) in
+            let then_is = after_more (length s.region.slots) (IsActive o.0) (alive_after (length s.region.slots) (IsActive s) o.1) a.keeps.told (next o.0).1 e last in
+            both_after (length s.region.slots) (IsActive s) o.1 (next o.0).1 e then_is;
         started = λ e there. elim (contains_either o.1 (next o.0).1 _ there) [ inl one ↦ b.stays e (a.keeps.started e one) | inr two ↦ b.keeps.started e two ];
       };
       stays = λ e h. b.stays e (a.stays e h);
@@ -136,6 +159,12 @@ tell_around s o before after tb ta a = record {
         let y = after_more k (alive_after k (IsActive s) before) (IsActive s) (tells_alive k (IsActive s) before tb) (o.1 ++ after) e x in
         let z = after_both k (IsActive s) o.1 after e y in
         a.keeps.alive e (tells_alive k (alive_after k (IsActive s) o.1) after ta e z);
+    told = λ e h.
+        let k = length s.region.slots in
+        let z = alive_tells k (alive_after k (IsActive s) o.1) after ta e (a.keeps.told e h) in
+        let y = both_after k (IsActive s) o.1 after e z in
+        let x = after_more k (IsActive s) (alive_after k (IsActive s) before) (alive_tells k (IsActive s) before tb) (o.1 ++ after) e y in
+        both_after k (IsActive s) before (o.1 ++ after) e x;
     started = λ e there. elim (contains_either before (o.1 ++ after) _ there) [
       | inl one ↦ absurd (tells_starts before tb e one)
       | inr more ↦ elim (contains_either o.1 after _ more) [ inl two ↦ a.keeps.started e two | inr three ↦ absurd (tells_starts after ta e three) ]
@@ -181,19 +210,29 @@ module _ (s : ShardingModel) (all : AreHosted s) (entity : List ℕ) (payload : 
       (λ same. subst (IsActive t) (sym same) (ap is_some is_own))
       (λ apart. ap is_some (other_delivery s.entities (entity_shard s.region entity) payload entity e apart) ∙ h)
 
+  was_then : (e : List ℕ) → IsActive t e → IsActive s e ⊎ (e ≡ entity)
+  was_then e h =
+      one_or_other (IsActive s e ⊎ (e ≡ entity)) e
+      (λ same. inr same)
+      (λ apart. inl (ap is_some (sym (other_delivery s.entities (entity_shard s.region entity) payload entity e apart)) ∙ h))
+
+  was_active : finmap.contains_key s.entities entity ≡ true → (e : List ℕ) → IsActive t e → IsActive s e
+  was_active key e h = elim (was_then e h) [ inl was ↦ was | inr same ↦ subst (IsActive s) (sym same) key ]
+
   delivers_adds : Adds s (delivers entity payload s)
-  delivers_adds = by_key (finmap.contains_key s.entities entity)
+  delivers_adds = by_key (finmap.contains_key s.entities entity) refl
     where
-      by_key : (b : Bool) → Adds s (t, delivery b entity payload)
-      by_key true = record {
-        keeps = record { hosted = hosted_then; many = refl; alive = stays_then; started = λ e there. absurd (tells_starts (action.TheVariants.Deliver entity payload ∷ []) (refl, tt) e there) };
+      by_key : (b : Bool) → finmap.contains_key s.entities entity ≡ b → Adds s (t, delivery b entity payload)
+      by_key true key = record {
+        keeps = record { hosted = hosted_then; many = refl; alive = stays_then; told = was_active key; started = λ e there. absurd (tells_starts (action.TheVariants.Deliver entity payload ∷ []) (refl, tt) e there) };
         stays = stays_then;
       }
-      by_key false = record {
+      by_key false key = record {
         keeps = record {
           hosted = hosted_then;
           many = refl;
           alive = λ e h. elim h [ inl was ↦ stays_then e was | inr same ↦ subst (IsActive t) (sym same) (ap is_some is_own) ];
+          told = was_then;
           started = λ e there. elim (first_or_rest (action.TheVariants.Entity entity) (action.TheVariants.Entity e) (action.TheVariants.Deliver entity payload ∷ []) there) [
             | inl same ↦ subst (IsActive t) (sym (same_Some e entity (ap starts_of same))) (ap is_some is_own)
             | inr later ↦ absurd (tells_starts (action.TheVariants.Deliver entity payload ∷ []) (refl, tt) e later)
@@ -233,6 +272,7 @@ from_more s t o same many a = record {
     hosted = a.keeps.hosted;
     many = a.keeps.many ∙ many;
     alive = λ e h. a.keeps.alive e (subst (λ k. alive_after k (IsActive t) o.1 e) (sym many) (after_more (length s.region.slots) (IsActive s) (IsActive t) was o.1 e h));
+    told = λ e h. after_more (length s.region.slots) (IsActive t) (IsActive s) is_then o.1 e (subst (λ k. alive_after k (IsActive t) o.1 e) many (a.keeps.told e h));
     started = a.keeps.started;
   };
   stays = λ e h. a.stays e (was e h);
@@ -240,6 +280,9 @@ from_more s t o same many a = record {
   where
     was : (e : List ℕ) → IsActive s e → IsActive t e
     was e h = subst (λ m. is_some (finmap.get m e) ≡ true) (sym same) h
+
+    is_then : (e : List ℕ) → IsActive t e → IsActive s e
+    is_then e h = subst (λ m. is_some (finmap.get m e) ≡ true) same h
 
 pub flushes_adds : (me : UniqueModel) (shard : ℕ) (s : ShardingModel) → AreHosted s → Adds s (flushes me shard s)
 flushes_adds me shard s all =
@@ -334,6 +377,7 @@ hands_off_keeps around from b shard number s all = by_given (gives_up number (sl
           );
       many = length-set s.region.slots shard (handed_off number (slot_of s.region shard));
       alive = λ e h. by_active (finmap.get s.entities e) e refl h.0 h.1;
+      told = λ e h. by_rest (finmap.get (without_shard s.entities shard) e) e refl h;
       started = λ e there. absurd (tells_starts (to_process around.me from (wire.TheVariants.ShardStopped b shard number) ∷ []) (tells_send around.me from (wire.TheVariants.ShardStopped b shard number)) e (after_gone e there));
     }
       where
@@ -344,6 +388,12 @@ hands_off_keeps around from b shard number s all = by_given (gives_up number (sl
         by_active : (o : Option ActiveEntity) (e : List ℕ) → finmap.get s.entities e ≡ o → is_some (finmap.get s.entities e) ≡ true → shard_of e (length s.region.slots) ≢ shard → is_some (finmap.get (without_shard s.entities shard) e) ≡ true
         by_active None e none is apart = absurd (true≢false (sym is ∙ ap is_some none))
         by_active (Some active) e at is apart = ap is_some ((stopped_shard s.entities shard e active).1 (at, λ same. apart (sym (all e active at).0 ∙ same)))
+
+        by_rest : (o : Option ActiveEntity) (e : List ℕ) → finmap.get (without_shard s.entities shard) e ≡ o → is_some o ≡ true → (is_some (finmap.get s.entities e) ≡ true) × (shard_of e (length s.region.slots) ≢ shard)
+        by_rest None e none is = absurd (true≢false (sym is))
+        by_rest (Some active) e at is =
+            let k = (stopped_shard s.entities shard e active).0 at in
+            (ap is_some k.0, λ same. k.1 ((all e active k.0).0 ∙ same))
     by_given false stays =
         (quiet s (slotted s shard (handed_off number (slot_of s.region shard))) (to_process around.me from (wire.TheVariants.ShardStopped b shard number) ∷ []) all (length-set s.region.slots shard (handed_off number (slot_of s.region shard))) refl
         (slot_hosts s shard (handed_off number (slot_of s.region shard)) (λ h. ap (λ g. is_some (cond {A = Option ℕ} g None (slot_of s.region shard).hosted)) stays ∙ h))

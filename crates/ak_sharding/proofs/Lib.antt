@@ -5,7 +5,9 @@ pub mod CoordinateMoves
 pub mod PacketMoves
 pub mod EntityHosts
 pub mod EntityPackets
+pub mod AliveByActions
 pub mod NoDouble
+pub mod SingletonMoves
 pub mod FlightLemmas
 pub mod RuleWork
 pub mod NewSharing

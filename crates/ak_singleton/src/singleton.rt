@@ -109,7 +109,7 @@ impl Singleton {
     }
 
     // What a tick does.
-    fn tick_rule(&self, me: &Unique, settled: &Settled, status: Status, margin: u32) -> TickRule
+    pub fn tick_rule(&self, me: &Unique, settled: &Settled, status: Status, margin: u32) -> TickRule
         ensures { result ≡ tick_rule me.now settled.now.view status margin self.now }
     {
         if settled.exists() && status.counts() {

@@ -1,0 +1,179 @@
+-- A node that asks or is active has a table of shards, whatever a step does.
+use Rattle.std.proofs.Common.{◌≡◌, ℕ, ◌+◌, Bool, true, false, ◌&&◌, if◌then◌else◌, List, [], ◌∷◌, Option, Some, None, is_some, Result, Ok, Err, refl, sym, ap, ◌∙◌, subst, true≢false}
+use Rattle.ak_address.specs.Unique.{AddressModel, UniqueModel}
+use Rattle.ak_member.specs.declared.status.Status.{Status}
+use Rattle.ak_member.specs.Standing.{is_exiting}
+use Rattle.ak_membership.specs.declared.change.MemberFault.{MemberFault}
+use Rattle.ak_membership.specs.Membership as membership
+use Rattle.ak_membership.specs.Membership.{is_member_with}
+use Rattle.ak_membership.specs.Tick as ticks
+use Rattle.ak_promise.specs.Promise.{is_some_ballot}
+use Rattle.ak_sharding.specs.Sharding.{ShardingModel, Around}
+use Rattle.ak_sharding.specs.Sharding as sharding
+use Rattle.ak_sharding.specs.Hosts as hosts
+use Rattle.ak_sharding.specs.Coordinates as coordinates
+use Rattle.ak_sharding.specs.Packets as packets
+use Rattle.ak_sharding.proofs.TableKept.{SameTable, coordinates_same, offer_same, message_same}
+use Rattle.ak_clock.specs.Version.{Counts}
+use Rattle.ak_coordinator.specs.Table.{ShardTable}
+use Rattle.ak_promise.specs.Ballot.{BallotModel}
+use Rattle.ak_settled.specs.SettledView.{SettledView}
+use Rattle.ak_shard_id.specs.declared.report.Report.{Report}
+use Rattle.ak_singleton.specs.declared.phase.Phase.{Phase}
+use Rattle.ak_singleton.specs.declared.phase.Phase.TheVariants as phase
+use Rattle.ak_singleton.specs.declared.phase.TickRule.{TickRule}
+use Rattle.ak_singleton.specs.declared.phase.TickRule.TheVariants as tick_rules
+use Rattle.ak_singleton.specs.Singleton.{SingletonModel, is_asking, after_rule, is_first_grant, after_granted, is_outdone, after_old, ended_from, may_activate, after_activation}
+use Rattle.ak_wire.specs.declared.envelope.Message.{Message}
+use Rattle.ak_wire.specs.declared.envelope.Message.TheVariants as message
+use Rattle.ak_wire.specs.declared.action.Action.TheVariants as action
+use Rattle.ak_node.specs.declared.node.State.{State}
+use Rattle.ak_node.specs.declared.node.NodeEvent.{NodeEvent}
+use Rattle.ak_node.specs.declared.node.NodeEvent.TheVariants as event
+use Rattle.ak_node.specs.Node as node
+use Rattle.ak_node.specs.Node.{Outcome, around, shards_do, known, me_of, status_of, is_member, is_gone, nothing, and_then, does, does_for, unless_refused, asks_at, exits, gossips_to, gossips, rule_on, does_rule, asks_as, ends_phase, rest, may_leave, goes_on, ticked, is_asked, answers_ask, takes_grant, takes, has_handed_over, becomes_active, activates, forgets, closes, concludes, on_message, rule, is_dead, running_step, step}
+
+-- where a ballot is live there is a table
+abbrev pub IsTabled : SingletonModel → ShardingModel → Type 0
+IsTabled s t = (b : BallotModel) → s.live ≡ Some b → is_some t.table ≡ true
+
+abbrev pub HasTable : State → Type 0
+HasTable n = IsTabled n.singleton n.sharding
+
+no_live : {P : Type 0} (b : BallotModel) → ◌≡◌ {A = Option BallotModel} None (Some b) → P
+no_live b is = absurd (true≢false (sym (ap is_some is)))
+
+by_rule : (r : TickRule) (me : UniqueModel) (settled : SettledView) (s : SingletonModel) (t : ShardingModel) → IsTabled s t → IsTabled (after_rule r me settled s) (coordinates.tabled_by r me t)
+by_rule tick_rules.Rests me settled s t h b live = h b live
+by_rule tick_rules.Opens me settled s t h b live = refl
+by_rule tick_rules.HandsOver me settled s t h b live = h b live
+by_rule tick_rules.Closes me settled s t h b live = no_live b live
+by_rule tick_rules.Asks me settled s t h b live = h b live
+
+by_end : (ph : Phase) (settled : SettledView) (s : SingletonModel) (t : ShardingModel) → IsTabled s t → IsTabled (ended_from ph settled s) (coordinates.ended_table ph t)
+by_end phase.Younger settled s t h b live = h b live
+by_end phase.Asking settled s t h b live = no_live b live
+by_end phase.Active settled s t h b live = no_live b live
+by_end phase.Ended settled s t h b live = h b live
+
+learns_some : (asking : Bool) (from : UniqueModel) (told : List Report) (o : Option ShardTable) → is_some (coordinates.learns_reports asking from told o) ≡ is_some o
+learns_some asking from told None = refl
+learns_some asking from told (Some table) = refl
+
+by_grant : (first : Bool) (a : Around) (from : UniqueModel) (floor : Counts) (told : List Report) (s : SingletonModel) (t : ShardingModel) → IsTabled s t → IsTabled (after_granted first from floor s) (coordinates.learns_if first a from told t)
+by_grant true a from floor told s t h b live = learns_some (is_asking a.singleton.phase) from told t.table ∙ h b live
+by_grant false a from floor told s t h b live = h b live
+
+by_old : (outdone : Bool) (b last : BallotModel) (me : UniqueModel) (s : SingletonModel) (t : ShardingModel) → IsTabled s t → IsTabled (after_old outdone b last s) (coordinates.begins_if outdone me t)
+by_old true b last me s t h c live = refl
+by_old false b last me s t h c live = h c live
+
+by_active : (b : Bool) (s : SingletonModel) (t : ShardingModel) → IsTabled s t → IsTabled (after_activation b s) t
+by_active true s t h = h
+by_active false s t h = h
+
+abbrev Well : State → Type 0
+Well n = HasTable n
+
+well_if : (b : Bool) (o p : Outcome) → Well o.0 → Well p.0 → Well (if b then o else p).0
+well_if true o p x y = x
+well_if false o p x y = y
+
+shards_well : (work : Around → ShardingModel → sharding.Outcome) (n : State) → ((a : Around) (s : ShardingModel) → SameTable s (work a s)) → Well n → Well (shards_do work n).0
+shards_well work n same w b live = same (around n) n.sharding ∙ w b live
+
+unless_well : (n : State) (next : membership.Outcome → Outcome) (r : Result membership.Outcome MemberFault) → ((o : membership.Outcome) → (next o).0 ≡ (does n o).0) → Well n → Well (unless_refused next n r).0
+unless_well n next (Ok o) is w = subst Well (sym (is o)) w
+unless_well n next (Err why) is w = w
+
+asks_well : (target : Option AddressModel) (n : State) → Well n → Well (asks_at target n).0
+asks_well None n w = w
+asks_well (Some target) n w = w
+
+gossips_well : (to : Option UniqueModel) (n : State) → Well n → Well (gossips_to to n).0
+gossips_well None n w = w
+gossips_well (Some to) n w = w
+
+rule_well : (r : TickRule) (n : State) → Well n → Well (does_rule r n).0
+rule_well r n w = by_rule r (me_of n) (node.settled_of n) n.singleton n.sharding w
+
+asked_well : (status : Option Status) (n : State) → Well n → Well (asks_as status n).0
+asked_well None n w = w
+asked_well (Some status) n w = rule_well (rule_on status n) n w
+
+rest_well : (word : ℕ) (n : State) → Well n → Well (rest word n).0
+rest_well word n w =
+    let a = (asks_as (status_of n) n).0 in
+    let b = (shards_do coordinates.coordinates a).0 in
+    let c = (shards_do hosts.asks_homes b).0 in
+    gossips_well (ticks.gossip_peer word c.membership) c
+    (shards_well hosts.asks_homes b (λ x s. refl)
+    (shards_well coordinates.coordinates a (λ x s. coordinates_same x s) (asked_well (status_of n) n w)))
+
+goes_well : (word : ℕ) (n : State) → Well n → Well (goes_on word n).0
+goes_well word n w =
+    let x = (ends_phase n).0 in
+    let ended = by_end n.singleton.phase (node.settled_of n) n.singleton n.sharding w in
+    well_if (is_gone n) (nothing n) _ w
+    (well_if (is_member_with is_exiting (known n).view.standings (me_of n)) (and_then (node.leaves word) (ends_phase n)) (rest word n)
+    (well_if (may_leave x) (exits x) (rest word x) ended (rest_well word x ended))
+    (rest_well word n w))
+
+shard_packet_well : (from : UniqueModel) (what : Message) (n : State) → Well n → Well (node.on_shards from what n).0
+shard_packet_well from what n w = well_if (is_member n) (shards_do (λ a s. packets.on_shard_message a from what s) n) (nothing n) (shards_well (λ a s. packets.on_shard_message a from what s) n (λ a s. message_same a from what s) w) w
+
+offer_well : (entity : List ℕ) (payload : ℕ) (n : State) → Well n → Well (node.offer entity payload n).0
+offer_well entity payload n w = shards_well (λ a s. hosts.on_offer a entity payload s) n (λ a s. offer_same a entity payload s) w
+
+told_well : (from : UniqueModel) (m : Message) (n : State) → Well n → Well (on_message from m n).0
+told_well from message.Join n w = unless_well n (does_for from n) (membership.on_join from n.membership) (λ o. refl) w
+told_well from (message.Welcome g) n w = unless_well n (does_for from n) (membership.on_gossip g n.membership) (λ o. refl) w
+told_well from (message.Gossip g) n w = unless_well n (does_for from n) (membership.on_gossip g n.membership) (λ o. refl) w
+told_well from message.Heartbeat n w = well_if (is_member n) _ (nothing n) w w
+told_well from message.HeartbeatReply n w = well_if (is_member n) _ (nothing n) w w
+told_well from message.ExitingConfirmed n w = well_if (is_member n) _ (nothing n) w w
+told_well from (message.Ask b) n w = well_if (is_asked from b n) (answers_ask from b n) (nothing n) w w
+told_well from (message.Granted b floor told) n w = well_if (takes_grant from told n) (nothing (takes from b floor told n)) (nothing n) (by_grant (is_first_grant from b n.singleton) (around n) from floor told n.singleton n.sharding w) w
+told_well from (message.Busy b held) n w = well_if (is_member n && is_some_ballot n.singleton.live b) _ (nothing n) w w
+told_well from (message.Old b last) n w = well_if (is_member n) _ (nothing n) (by_old (is_outdone b last n.singleton) b last (me_of n) n.singleton n.sharding w) w
+told_well from (message.HandOverToMe b) n w = well_if (is_member n && has_handed_over b n) _ (nothing n) w w
+told_well from (message.HandOverDone b floor) n w = well_if (is_member n) _ (nothing n) w w
+told_well from (message.Release b floor) n w = well_if (is_member n) _ (nothing n) w w
+told_well from (message.GetHome b shard) n w = shard_packet_well from (message.GetHome b shard) n w
+told_well from (message.Home b shard owner) n w = shard_packet_well from (message.Home b shard owner) n w
+told_well from (message.HostShard b shard number) n w = shard_packet_well from (message.HostShard b shard number) n w
+told_well from (message.ShardStarted b shard number) n w = shard_packet_well from (message.ShardStarted b shard number) n w
+told_well from (message.BeginHandOff b shard number) n w = shard_packet_well from (message.BeginHandOff b shard number) n w
+told_well from (message.BeginHandOffAck b shard number) n w = shard_packet_well from (message.BeginHandOffAck b shard number) n w
+told_well from (message.HandOff b shard number) n w = shard_packet_well from (message.HandOff b shard number) n w
+told_well from (message.ShardStopped b shard number) n w = shard_packet_well from (message.ShardStopped b shard number) n w
+told_well from (message.Forward entity payload) n w = shard_packet_well from (message.Forward entity payload) n w
+told_well from (message.Leave who) n w = unless_well n (does n) (membership.leave who n.membership) (λ o. refl) w
+told_well from (message.Down who) n w = unless_well n (does n) (membership.down who n.membership) (λ o. refl) w
+told_well from (message.Offer entity payload) n w = offer_well entity payload n w
+
+ruled_well : (e : NodeEvent) (n : State) → Well n → Well (rule e n).0
+ruled_well event.Found n w = w
+ruled_well (event.Join target) n w = well_if (is_member n) (nothing n) _ w w
+ruled_well (event.Tick word) n w = well_if (is_member n) _ (asks_at n.membership.target n) (goes_well word (ticked n (ticks.tick n.membership)).0 w) (asks_well n.membership.target n w)
+ruled_well (event.Packet p) n w = told_well p.from p.message n w
+ruled_well (event.Leave who) n w = unless_well n (does n) (membership.leave who n.membership) (λ o. refl) w
+ruled_well (event.Down who) n w = unless_well n (does n) (membership.down who n.membership) (λ o. refl) w
+ruled_well (event.Offer entity payload) n w = offer_well entity payload n w
+ruled_well event.Stop n w = w
+
+forgets_well : (n : State) → Well n → Well (forgets n)
+forgets_well n w = by_runs n.runs
+  where
+    by_runs : (b : Bool) → Well (node.sharing (if b then (hosts.forgets (around n) n.sharding).0 else n.sharding) n)
+    by_runs true = w
+    by_runs false = w
+
+concluded_well : (n : State) → Well n → Well (concludes n).0
+concluded_well n w = let c = forgets (closes n).0 in by_active (c.runs && may_activate (me_of c) (node.settled_of c) (node.margin_of c) c.singleton) c.singleton c.sharding (forgets_well (closes n).0 w)
+
+running_well : (e : NodeEvent) (n : State) → Well n → Well (running_step e n).0
+running_well e n w = well_if (is_dead (me_of n) e) (n, action.Dead ∷ []) (and_then concludes (rule e n)) w (concluded_well (rule e n).0 (ruled_well e n w))
+
+pub step_well : (e : NodeEvent) (n : State) → Well n → Well (step e n).0
+step_well e n w = well_if n.runs (running_step e (record n { steps = n.steps + 1 })) (nothing n) (running_well e (record n { steps = n.steps + 1 }) w) w
