@@ -14,7 +14,7 @@ class Sim:
         s.listed = listed
 
     def started(s, me):
-        return dict(me=me, gossip=dict(version={}, standings={}, seen=[]), shown={}, founder=False, target=None, ticks=0, stable=0, moved=False, detector={}, confirmed=[], settled=None, promise=dict(last=None, released=False, floor={}), phase='Younger', live=None, granted=[], floor={}, runs=True, steps=0)
+        return dict(me=me, gossip=dict(version={}, standings={}, seen=[]), shown={}, founder=False, target=None, ticks=0, stable=0, moved=False, detector={}, confirmed=[], settled=None, promise=dict(last=None, released=False, floor={}), phase='Younger', live=None, granted=[], floor={}, has_table=False, runs=True, steps=0)
 
 def members(st):
     return {u: v for u, v in sorted(st.items()) if v[0] == 'M'}
@@ -141,16 +141,19 @@ def goes_on(n, word, q):
                     acts.append(to(n, u, ('Release', last, dict(version_of(sv)))))
             n['promise'] = dict(last=last, released=True, floor=vmerge(n['promise']['floor'], version_of(sv)))
             n['phase'] = 'Ended'
+            n['has_table'] = False
             n['live'] = None
             n['granted'] = []
             n['floor'] = {}
         else:
             raise Exception('not built')
+        middle = copy.deepcopy(n)
+        ended, acts = acts, []
         n['runs'] = False
         for u, v in members(st).items():
             if v[1] in COUNTS:
                 acts.append(to(n, u, ('ExitingConfirmed',)))
-        return acts
+        return (middle, ended, acts)
     r = tick_rule(n)
     if r == 'Opens':
         last = n['promise']['last']
@@ -158,6 +161,7 @@ def goes_on(n, word, q):
         n['floor'] = vmerge(n['promise']['floor'], version_of(sv))
         n['promise'] = dict(last=b, released=False, floor=n['promise']['floor'])
         n['phase'] = 'Asking'
+        n['has_table'] = True
         n['live'] = b
         n['granted'] = [n['me']]
         for u in needed(sv):
@@ -169,6 +173,7 @@ def goes_on(n, word, q):
                 acts.append(to(n, u, ('Ask', n['live'])))
     elif r != 'Rests':
         raise Exception(r)
+    asked, acts = acts, []
     g = n['gossip']
     ms = members(st)
     if n['ticks'] % 3 == 0 or 2 * len(g['seen']) < len(ms):
@@ -176,7 +181,7 @@ def goes_on(n, word, q):
         c = [u for u in others if u not in g['seen']] or others
         if c:
             acts.append(to(n, c[word % len(c)], ('Gossip', gcopy(g))))
-    return acts
+    return (None, asked, acts)
 
 def covers(v, w):
     return all((v.get(u, 0) >= c for u, c in w.items()))

@@ -123,6 +123,8 @@ class Gen:
         t = s.sin(old, new)
         if t:
             f.append('singleton = record %s.singleton { %s }' % (base, '; '.join(t)))
+        if old['has_table'] != new['has_table']:
+            f.append('sharding = begins_table %s %s.sharding' % (u(new['me']), base) if new['has_table'] else 'sharding = ends_table %s.sharding' % base)
         if old['runs'] != new['runs']:
             f.append('runs = ' + str(new['runs']).lower())
         if old['steps'] != new['steps']:
@@ -153,8 +155,8 @@ class Gen:
             m = copy.deepcopy(n)
             beats = [to(n, w, ('Heartbeat',)) for w in n['detector']]
             upd = [('Update', ch[0], ch[1])] if ch[0] else []
-            does = goes_on(n, int(e[3]), s.q)
-            first = beats + upd + does
+            middle, asked, told = goes_on(n, int(e[3]), s.q)
+            first = beats + upd + asked + told
         elif e[0] == 'N':
             if e[2] == 'Found':
                 n['founder'] = True
@@ -213,11 +215,19 @@ class Gen:
         L.append('pub step_%d : step %s %s ≡ (%s, does_%d)' % (k, ev, base, now, k))
         L.append('unfolding covers merged_tables union')
         if istick:
-            rule = '(in_ticks %s (record %s { steps = %d }) %s ticked_%d %s %s %s (simp listed) (simp listed) (simp listed) (simp listed))' % (e[3], base, n['steps'], rn, k, change, lst([s.act(a) for a in beats]), lst([s.act(a) for a in does]))
+            after = '(record %s { membership = ticked_%d; steps = %d })' % (base, k, n['steps'])
+            asked_list, told_list = lst([s.act(a) for a in asked]), lst([s.act(a) for a in told])
+            if middle is None:
+                coordinates = '(simp listed)' if ruled['phase'] == 'Active' else 'refl'
+                going = '(in_going %s %s %s %s %s (simp listed) (simp listed) (simp listed) %s refl (simp listed))' % (e[3], after, rn, asked_list, told_list, coordinates)
+            else:
+                L.insert(-2, 'abbrev ended_%d : State\nended_%d = %s\n' % (k, k, s.diff(old, middle, base, 'ticked_%d' % k)))
+                going = '(in_leaving %s %s ended_%d %s %s %s (simp listed) (simp listed) (simp listed) refl (simp listed))' % (e[3], after, k, rn, asked_list, told_list)
+            rule = '(in_ticks %s (record %s { steps = %d }) %s ticked_%d %s %s %s (simp listed) (simp listed) (simp listed)\n        %s)' % (e[3], base, n['steps'], rn, k, change, lst([s.act(a) for a in beats]), lst([s.act(a) for a in asked + told]), going)
         else:
             rule = '(simp listed)'
         act = 'refl' if closed['phase'] != 'Asking' or not closed['runs'] else '(simp listed)'
-        L.append('step_%d =\n    in_stages %s %s %s %s %s %s %s %s refl refl\n    %s\n    (simp listed)\n    %s\n' % (k, ev, base, rn, cn, now, f, se, th, rule, act))
+        L.append('step_%d =\n    in_stages %s %s %s %s %s %s %s %s refl refl\n    %s\n    (simp listed)\n    refl\n    %s\n' % (k, ev, base, rn, cn, now, f, se, th, rule, act))
         s.st[i] = n
         s.nm[i] = now
         return (i, now, first + second + third)

@@ -1,3 +1,4 @@
+pub mod AskedCommands
 pub mod Completeness
 pub mod CutLemmas
 pub mod FinishLemmas
@@ -8,6 +9,5 @@ pub mod ReplayLemmas
 pub mod ReplayLoop
 pub mod RunLemmas
 pub mod SomeReplay
-pub mod StatusLemmas
 pub mod WordsLemmas
 pub mod WorkedTexts

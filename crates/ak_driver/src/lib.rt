@@ -6,7 +6,7 @@ mod laws;
 mod replay;
 mod words;
 
-ghost use Rattle.std.specs.Prelude.{◌≡◌, ◌≤◌, ◌↔◌, ℕ, List, Some, IfSome, IsTrue, codes};
+ghost use Rattle.std.specs.Prelude.{◌≡◌, ◌≤◌, ℕ, List, Some, IfSome};
 ghost use Rattle.std.specs.Process.{exit_status};
 ghost use Rattle.ak_outside.specs.Codes.{exit_code};
 ghost use Rattle.ak_outside.specs.Outside.{Rose};
@@ -15,32 +15,19 @@ ghost use Rattle.ak_driver.specs.StatusContracts.{AsksReplay, ReplayCause, Writt
 ghost use Rattle.ak_driver.specs.WordsContracts.{words_of};
 
 use ak_address::Text;
+use ak_options::{Command, read_command};
 pub use ak_outside::Status;
-use ak_outside::{Arguments, Sink, Source};
+use ak_outside::{Arguments, Clock, Folder, Link, Sink, Source};
 pub use laws::{replays_are_determined, replays_reach_runs, worked_schedules};
 pub use replay::run_replay;
 use replay::written;
 use std::alloc::Global;
 use std::process::ExitCode;
+use std::thread::Threads;
 pub use words::collect_words;
 
-// The one word is `replay`.
-fn is_replay(words: &[Text]) -> bool
-    ensures { IsTrue result ↔ AsksReplay words.now }
-{
-    match words {
-        [word] => is_name(word),
-        _ => false,
-    }
-}
-
-fn is_name(word: &Text) -> bool
-    ensures { IsTrue result ↔ (word.now ≡ codes "replay") }
-{
-    word.bytes() == b"replay".as_slice()
-}
-
-// Does what the words after the program's name ask for. Other words than `replay` alone take no memory, and nothing is read.
+// Does what the words after the program's name ask for: `replay` alone replays. The other commands are not built yet: the words
+// that ask for one are refused as those are that ask for none, and nothing is read.
 fn run_words<S: Source, W: Sink>(
     alloc: Global,
     words: &[Text],
@@ -57,24 +44,40 @@ fn run_words<S: Source, W: Sink>(
     ensures usage { (AsksReplay words.now → ⊥) → Written Status.Usage usage_line result (W.faults output.old) (W.faults output.new) (W.written output.old) (W.written output.new) }
     ensures unread { (AsksReplay words.now → ⊥) → input.new ≡ input.old }
 {
-    if is_replay(words) {
-        return run_replay(alloc, input, output);
+    match read_command(alloc, words) {
+        Ok(Some(Command::Replay)) => run_replay(alloc, input, output),
+        Ok(Some(_)) => refuse(output),
+        Ok(None) => refuse(output),
+        Err(_) => refuse(output),
     }
+}
+
+// The line on usage.
+fn refuse<W: Sink>(output: &mut W) -> Status
+    ensures count { W.faults output.old ≤ W.faults output.new }
+    ensures usage { Written Status.Usage usage_line result (W.faults output.old) (W.faults output.new) (W.written output.old) (W.written output.new) }
+{
     written(output, b"error 2 usage\n", Status::Usage)
 }
 
 /// Does what the words after the program's name ask for: `replay` alone replays the schedule in the input. Any other
-/// words read nothing, and answer `Usage` after one line that says so, or `Write` where the sink failed. Where there is no
-/// memory for the words themselves the answer is `Memory` after one line that says so, or `Write`; a program started
-/// without words needs none for them.
+/// words, those among them that ask for a command that is not built yet, read nothing, and answer `Usage` after one line
+/// that says so, or `Write` where the sink failed. Where there is no memory for the words themselves the answer is
+/// `Memory` after one line that says so, or `Write`; a program started without words needs none for them.
 ///
 /// Where neither the input nor the output fails, a schedule whose lines are all accepted gives `Done` and its whole
 /// text, and one with a refused line gives `Schedule` and its whole text, unless memory ends.
-pub fn run<A: Arguments, S: Source, W: Sink>(
+///
+/// The folder, the link and the clock are for commands that are not built yet, and stay as they are.
+pub fn run<R: Threads + Sync, A: Arguments, F: Folder, S: Source, W: Sink, L: Link, C: Clock>(
+    rt: &R,
     alloc: Global,
     arguments: &A,
+    folder: &mut F,
     input: &mut S,
     output: &mut W,
+    link: &mut L,
+    clock: &mut C,
 ) -> Status
     ensures read { S.faults input.old ≤ S.faults input.new }
     ensures written { W.faults output.old ≤ W.faults output.new }
@@ -85,6 +88,9 @@ pub fn run<A: Arguments, S: Source, W: Sink>(
         → IsCompleted bytes result (W.written output.old) (W.written output.new)) }
     ensures usage { IfSome (A.arguments arguments.now) (λ all. (AsksReplay (words_of all) → ⊥) → RefusesWords (words_of all) result (W.faults output.old) (W.faults output.new) (W.written output.old) (W.written output.new)) }
     ensures unread { IfSome (A.arguments arguments.now) (λ all. (AsksReplay (words_of all) → ⊥) → input.new ≡ input.old) }
+    ensures folder { folder.new ≡ folder.old }
+    ensures link { link.new ≡ link.old }
+    ensures clock { clock.new ≡ clock.old }
 {
     match collect_words(alloc, arguments) {
         Ok(words) => run_words(alloc, &words, input, output),

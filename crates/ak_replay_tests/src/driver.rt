@@ -1,9 +1,12 @@
 use ak_address::Text;
 use ak_driver::{collect_words, exit, run};
-use ak_outside::{MemoryArguments, MemorySink, MemorySource, Status};
+use ak_outside::{
+    MemoryArguments, MemoryClock, MemoryFolder, MemoryLink, MemorySink, MemorySource, Status,
+};
 use std::alloc::{AllocError, Global};
 use std::process::ExitCode;
 use std::test::Fail;
+use std::thread::Threads;
 
 const HEADERS: &[u8] =
     b"listed a:1\nstrategy static-quorum 1\nmargin 2\ndeadline 9\nstable 9\nshards 10\nbuffer 2\nthreshold 1\nlimit 1\n";
@@ -18,21 +21,61 @@ type Wanted<'a> = (Status, &'a [u8], u64, u64);
 // The numbers of the reads and of the writes that fail.
 type Failing<'a> = (&'a [u64], &'a [u64]);
 
+// A run with these arguments, over a folder with no file, a link over which nothing comes and a clock that stands.
+fn runs<R: Threads + Sync>(
+    rt: &R,
+    alloc: Global,
+    arguments: &[&[u8]],
+    input: &mut MemorySource,
+    output: &mut MemorySink,
+) -> Result<Status, AllocError> {
+    let mut clock = MemoryClock::new(alloc, &[])?;
+    runs_by_clock(rt, alloc, arguments, input, output, &mut clock)
+}
+
+fn runs_by_clock<R: Threads + Sync>(
+    rt: &R,
+    alloc: Global,
+    arguments: &[&[u8]],
+    input: &mut MemorySource,
+    output: &mut MemorySink,
+    clock: &mut MemoryClock,
+) -> Result<Status, AllocError> {
+    let mut link = MemoryLink::new(alloc, Vec::new(alloc), &[], &[], &[])?;
+    runs_over_link(rt, alloc, arguments, input, output, &mut link, clock)
+}
+
+fn runs_over_link<R: Threads + Sync>(
+    rt: &R,
+    alloc: Global,
+    arguments: &[&[u8]],
+    input: &mut MemorySource,
+    output: &mut MemorySink,
+    link: &mut MemoryLink,
+    clock: &mut MemoryClock,
+) -> Result<Status, AllocError> {
+    let words = MemoryArguments::new(arguments);
+    let mut folder = MemoryFolder::new(alloc, Vec::new(alloc), &[])?;
+    Ok(run(rt, alloc, &words, &mut folder, input, output, link, clock))
+}
+
 // Whether a run with these arguments comes to what is wanted.
-fn ends_so(
+fn ends_so<R: Threads + Sync>(
+    rt: &R,
     alloc: Global,
     arguments: &[&[u8]],
     input: &mut MemorySource,
     output: &mut MemorySink,
     wanted: Wanted,
-) -> bool {
-    let status = run(alloc, &MemoryArguments::new(arguments), input, output);
+) -> Result<bool, AllocError> {
+    let status = runs(rt, alloc, arguments, input, output)?;
     let written = status == wanted.0 && output.bytes() == wanted.1;
-    written && input.faults() == wanted.2 && output.faults() == wanted.3
+    Ok(written && input.faults() == wanted.2 && output.faults() == wanted.3)
 }
 
 // The same over an output whose listed writes fail.
-fn ends_at_writes(
+fn ends_at_writes<R: Threads + Sync>(
+    rt: &R,
     alloc: Global,
     arguments: &[&[u8]],
     input: &mut MemorySource,
@@ -40,12 +83,13 @@ fn ends_at_writes(
     wanted: Wanted,
 ) -> Result<bool, AllocError> {
     let mut output = MemorySink::new(alloc, failing)?;
-    Ok(ends_so(alloc, arguments, input, &mut output, wanted))
+    ends_so(rt, alloc, arguments, input, &mut output, wanted)
 }
 
 // The same over an input too whose listed reads fail. A function that owns one of them is proved to let it go at each of its
 // ends, so none owns both.
-fn comes_to(
+fn comes_to<R: Threads + Sync>(
+    rt: &R,
     alloc: Global,
     arguments: &[&[u8]],
     text: &[u8],
@@ -53,24 +97,37 @@ fn comes_to(
     wanted: Wanted,
 ) -> Result<bool, AllocError> {
     let mut input = MemorySource::new(alloc, text, 7, failing.0)?;
-    ends_at_writes(alloc, arguments, &mut input, failing.1, wanted)
+    ends_at_writes(rt, alloc, arguments, &mut input, failing.1, wanted)
 }
 
-static OTHERS: [&[&[u8]]; 6] = [
+static OTHERS: [&[&[u8]]; 9] = [
     &[],
     &[b"replay"],
     &[b"akka"],
     &[b"akka", b"watch"],
     &[b"akka", b"replay", b"extra"],
     &[b"akka", b"replay", b""],
+    // accepted, and not built yet
+    &[
+        b"akka",
+        b"sweep",
+        b"--first",
+        b"0",
+        b"--count",
+        b"1",
+        b"--events",
+        b"1",
+    ],
+    &[b"akka", b"node", b"--config", b"F", b"--ticks", b"0"],
+    &[b"akka", b"ctl", b"--to", b"a:1", b"--say", b"leave a:1#1"],
 ];
 
-// Other words answer one line, and read nothing: the first read would fail.
+// Other words, and commands that are not built, answer one line, and read nothing: the first read would fail.
 #[test]
 fn other_words_are_refused(rt: HostRuntime) -> Result<(), Fail> {
     let wanted: Wanted = (Status::Usage, b"error 2 usage\n", 0, 0);
     for arguments in &OTHERS {
-        assert!(rt; comes_to(rt.alloc(), arguments, b"", (&[1], &[]), wanted)?);
+        assert!(rt; comes_to(&rt, rt.alloc(), arguments, b"", (&[1], &[]), wanted)?);
     }
     Ok(())
 }
@@ -113,14 +170,15 @@ fn schedule(alloc: Global, events: &[u8]) -> Result<Vec<u8>, AllocError> {
 }
 
 // Whether a replay of these lines after the headers comes to what is wanted.
-fn replays_to(
+fn replays_to<R: Threads + Sync>(
+    rt: &R,
     alloc: Global,
     events: &[u8],
     failing: Failing,
     wanted: Wanted,
 ) -> Result<bool, AllocError> {
     let text = schedule(alloc, events)?;
-    comes_to(alloc, &REPLAY, &text, failing, wanted)
+    comes_to(rt, alloc, &REPLAY, &text, failing, wanted)
 }
 
 const REFUSED: &[u8] = b"1 start a:1#1\nerror 4 S1 line 11\n";
@@ -143,7 +201,7 @@ static ENDS: [(&[u8], Failing<'static>, Wanted<'static>); 4] = [
 #[test]
 fn replays_end(rt: HostRuntime) -> Result<(), Fail> {
     for (events, failing, wanted) in &ENDS {
-        assert!(rt; replays_to(rt.alloc(), events, *failing, *wanted)?);
+        assert!(rt; replays_to(&rt, rt.alloc(), events, *failing, *wanted)?);
     }
     Ok(())
 }
@@ -188,7 +246,7 @@ static PRINTED: [(&[u8], Wanted<'static>); 6] = [
 #[test]
 fn replays_print_each_line_once(rt: HostRuntime) -> Result<(), Fail> {
     'rows: for (events, wanted) in &PRINTED {
-        assert!(rt; replays_to(rt.alloc(), events, (&[], &[]), *wanted)?);
+        assert!(rt; replays_to(&rt, rt.alloc(), events, (&[], &[]), *wanted)?);
     }
     Ok(())
 }
@@ -203,35 +261,43 @@ fn many_steps(alloc: Global) -> Result<Vec<u8>, AllocError> {
 }
 
 // The replay of the input has this status, and its output fails once where that says so.
-fn replay_to(
+fn replay_to<R: Threads + Sync>(
+    rt: &R,
     alloc: Global,
     input: &mut MemorySource,
     output: &mut MemorySink,
     status: Status,
 ) -> Result<(), Fail> {
     let failed = u64::from(status == Status::Write);
-    let ended = run(alloc, &MemoryArguments::new(&REPLAY), input, output);
+    let ended = runs(rt, alloc, &REPLAY, input, output)?;
     if ended == status && output.faults() == failed {
         return Ok(());
     }
     Err("the replay ends otherwise")?
 }
 
-fn written_from(
+fn written_from<R: Threads + Sync>(
+    rt: &R,
     alloc: Global,
     input: &mut MemorySource,
     failing: &[u64],
     status: Status,
 ) -> Result<Vec<u8>, Fail> {
     let mut output = MemorySink::new(alloc, failing)?;
-    replay_to(alloc, input, &mut output, status)?;
+    replay_to(rt, alloc, input, &mut output, status)?;
     Ok(output.bytes().to_vec(alloc)?)
 }
 
 // What is written where a replay of this text has this status, and these writes fail.
-fn written(alloc: Global, text: &[u8], failing: &[u64], status: Status) -> Result<Vec<u8>, Fail> {
+fn written<R: Threads + Sync>(
+    rt: &R,
+    alloc: Global,
+    text: &[u8],
+    failing: &[u64],
+    status: Status,
+) -> Result<Vec<u8>, Fail> {
     let mut input = MemorySource::new(alloc, text, 7, &[])?;
-    written_from(alloc, &mut input, failing, status)
+    written_from(rt, alloc, &mut input, failing, status)
 }
 
 // A prefix that is not the whole, and is as long as what is written at once.
@@ -240,9 +306,9 @@ fn is_large_prefix(prefix: &[u8], whole: &[u8]) -> bool {
 }
 
 // Whether what is written of this text where the second write fails is such a prefix.
-fn leaves_a_prefix(alloc: Global, text: &[u8]) -> Result<bool, Fail> {
-    let whole = written(alloc, text, &[], Status::Done)?;
-    let prefix = written(alloc, text, &[2], Status::Write)?;
+fn leaves_a_prefix<R: Threads + Sync>(rt: &R, alloc: Global, text: &[u8]) -> Result<bool, Fail> {
+    let whole = written(rt, alloc, text, &[], Status::Done)?;
+    let prefix = written(rt, alloc, text, &[2], Status::Write)?;
     Ok(is_large_prefix(&prefix, &whole))
 }
 
@@ -250,7 +316,7 @@ fn leaves_a_prefix(alloc: Global, text: &[u8]) -> Result<bool, Fail> {
 #[test]
 fn a_failed_write_leaves_a_prefix(rt: HostRuntime) -> Result<(), Fail> {
     let text = many_steps(rt.alloc())?;
-    assert!(rt; leaves_a_prefix(rt.alloc(), &text)?);
+    assert!(rt; leaves_a_prefix(&rt, rt.alloc(), &text)?);
     Ok(())
 }
 
@@ -273,7 +339,8 @@ fn extend_long(alloc: Global, text: &mut Vec<u8>) -> Result<(), AllocError> {
 }
 
 // Whether a replay of these lines and of such a comment comes to what is wanted, where the read after them fails.
-fn ends_at_long_line(
+fn ends_at_long_line<R: Threads + Sync>(
+    rt: &R,
     alloc: Global,
     before: &[u8],
     last: u8,
@@ -281,7 +348,7 @@ fn ends_at_long_line(
 ) -> Result<bool, AllocError> {
     let text = long_line(alloc, before, last)?;
     let failing = [read_after(&text)];
-    comes_to(alloc, &REPLAY, &text, (&failing, &[]), wanted)
+    comes_to(rt, alloc, &REPLAY, &text, (&failing, &[]), wanted)
 }
 
 const FOUNDED_AND_REFUSED: &[u8] =
@@ -300,15 +367,22 @@ static LONG_LINES: [(&[u8], u8, Wanted<'static>); 4] = [
 ];
 
 // The same where two steps run before the comment.
-fn all_steps_end_at_long_line(alloc: Global, running: &[u8]) -> Result<bool, AllocError> {
+fn all_steps_end_at_long_line<R: Threads + Sync>(
+    rt: &R,
+    alloc: Global,
+    running: &[u8],
+) -> Result<bool, AllocError> {
     let refused: Wanted = (Status::Schedule, FOUNDED_AND_REFUSED, 0, 0);
-    let failed = ends_at_long_line(alloc, running, b'\r', FAILED_READ)?;
-    Ok(failed && ends_at_long_line(alloc, running, b'#', refused)?)
+    let failed = ends_at_long_line(rt, alloc, running, b'\r', FAILED_READ)?;
+    Ok(failed && ends_at_long_line(rt, alloc, running, b'#', refused)?)
 }
 
-fn two_steps_end_at_long_line(alloc: Global) -> Result<bool, AllocError> {
+fn two_steps_end_at_long_line<R: Threads + Sync>(
+    rt: &R,
+    alloc: Global,
+) -> Result<bool, AllocError> {
     let running = schedule(alloc, b"start a:1#1\nfound a:1#1\n")?;
-    all_steps_end_at_long_line(alloc, &running)
+    all_steps_end_at_long_line(rt, alloc, &running)
 }
 
 // A line of 4,096 bytes may end in CR, so the next read is asked, and fails. A longer one is refused with no other read,
@@ -316,20 +390,26 @@ fn two_steps_end_at_long_line(alloc: Global) -> Result<bool, AllocError> {
 #[test]
 fn a_long_line_ends_the_reading(rt: HostRuntime) -> Result<(), Fail> {
     'rows: for (before, last, wanted) in &LONG_LINES {
-        assert!(rt; ends_at_long_line(rt.alloc(), before, *last, *wanted)?);
+        assert!(rt; ends_at_long_line(&rt, rt.alloc(), before, *last, *wanted)?);
     }
-    assert!(rt; two_steps_end_at_long_line(rt.alloc())?);
+    assert!(rt; two_steps_end_at_long_line(&rt, rt.alloc())?);
     Ok(())
 }
 
 // Whether the read of this number and the one after it end a replay of the text at the first of them.
-fn ends_at_read(alloc: Global, text: &[u8], first: u64) -> Result<bool, AllocError> {
+fn ends_at_read<R: Threads + Sync>(
+    rt: &R,
+    alloc: Global,
+    text: &[u8],
+    first: u64,
+) -> Result<bool, AllocError> {
     let failing = [first, first.saturating_add(1)];
-    comes_to(alloc, &REPLAY, text, (&failing, &[]), FAILED_READ)
+    comes_to(rt, alloc, &REPLAY, text, (&failing, &[]), FAILED_READ)
 }
 
 // Whether no read is asked after the end of the text: it would fail.
-fn asks_no_more(
+fn asks_no_more<R: Threads + Sync>(
+    rt: &R,
     alloc: Global,
     text: &[u8],
     status: Status,
@@ -337,6 +417,7 @@ fn asks_no_more(
 ) -> Result<bool, AllocError> {
     let failing = [read_after(text).saturating_add(1)];
     comes_to(
+        rt,
         alloc,
         &REPLAY,
         text,
@@ -346,27 +427,28 @@ fn asks_no_more(
 }
 
 // Whether a read that fails in the middle or in place of the end is the last one, and none is asked after the end.
-fn reads_to_end(
+fn reads_to_end<R: Threads + Sync>(
+    rt: &R,
     alloc: Global,
     text: &[u8],
     status: Status,
     printed: &[u8],
 ) -> Result<bool, AllocError> {
-    let middle = ends_at_read(alloc, text, 2)?;
-    let end = ends_at_read(alloc, text, read_after(text))?;
-    Ok(middle && end && asks_no_more(alloc, text, status, printed)?)
+    let middle = ends_at_read(rt, alloc, text, 2)?;
+    let end = ends_at_read(rt, alloc, text, read_after(text))?;
+    Ok(middle && end && asks_no_more(rt, alloc, text, status, printed)?)
 }
 
-fn reads_to_refusal(alloc: Global) -> Result<bool, AllocError> {
+fn reads_to_refusal<R: Threads + Sync>(rt: &R, alloc: Global) -> Result<bool, AllocError> {
     let text = schedule(alloc, b"start a:1#1\ntock a:1#1\n")?;
-    reads_to_end(alloc, &text, Status::Schedule, REFUSED)
+    reads_to_end(rt, alloc, &text, Status::Schedule, REFUSED)
 }
 
 // A read that fails in the middle, or in place of the end, is the last, and no step is printed. After the end no read is asked.
 #[test]
 fn a_failed_read_is_the_last(rt: HostRuntime) -> Result<(), Fail> {
-    assert!(rt; reads_to_end(rt.alloc(), HEADERS, Status::Done, SUMMARY)?);
-    assert!(rt; reads_to_refusal(rt.alloc())?);
+    assert!(rt; reads_to_end(&rt, rt.alloc(), HEADERS, Status::Done, SUMMARY)?);
+    assert!(rt; reads_to_refusal(&rt, rt.alloc())?);
     Ok(())
 }
 
@@ -382,16 +464,16 @@ fn stand_before_refusal(printed: &[u8], whole: &[u8]) -> bool {
 }
 
 // What is printed of the same steps where a refused line comes after them.
-fn printed_to_refusal(alloc: Global) -> Result<Vec<u8>, Fail> {
+fn printed_to_refusal<R: Threads + Sync>(rt: &R, alloc: Global) -> Result<Vec<u8>, Fail> {
     let mut text = many_steps(alloc)?;
     text.extend_from_slice(b"tock a:1#1\n")?;
-    written(alloc, &text, &[], Status::Schedule)
+    written(rt, alloc, &text, &[], Status::Schedule)
 }
 
 // Whether these steps stand before a refusal, each of them once.
-fn steps_stand(alloc: Global, text: &[u8]) -> Result<bool, Fail> {
-    let whole = written(alloc, text, &[], Status::Done)?;
-    let printed = printed_to_refusal(alloc)?;
+fn steps_stand<R: Threads + Sync>(rt: &R, alloc: Global, text: &[u8]) -> Result<bool, Fail> {
+    let whole = written(rt, alloc, text, &[], Status::Done)?;
+    let printed = printed_to_refusal(rt, alloc)?;
     Ok(stand_before_refusal(&printed, &whole))
 }
 
@@ -399,6 +481,6 @@ fn steps_stand(alloc: Global, text: &[u8]) -> Result<bool, Fail> {
 #[test]
 fn all_steps_stand_before_a_refusal(rt: HostRuntime) -> Result<(), Fail> {
     let text = many_steps(rt.alloc())?;
-    assert!(rt; steps_stand(rt.alloc(), &text)?);
+    assert!(rt; steps_stand(&rt, rt.alloc(), &text)?);
     Ok(())
 }

@@ -1,3 +1,4 @@
+pub mod Addressed
 pub mod Ages
 pub mod Agreed
 pub mod AsLine
@@ -5,6 +6,9 @@ pub mod Basis
 pub mod ByStart
 pub mod Closed
 pub mod ClosedRuns
+pub mod DoubleKept
+pub mod DoubleMarks
+pub mod DoubleRuns
 pub mod FinishedRuns
 pub mod FoldLemmas
 pub mod FoldRuns
@@ -23,6 +27,7 @@ pub mod NotedHere
 pub mod NotedLine
 pub mod OneActiveRuns
 pub mod OneFounder
+pub mod OneHomeRuns
 pub mod Processes
 pub mod RaisedBySteps
 pub mod RaisedFor
@@ -36,6 +41,7 @@ pub mod StepLemmas
 pub mod StepStages
 pub mod TellsRuns
 pub mod Told
+pub mod UidsOfStarts
 pub mod UpdateLemmas
 pub mod WaitedRuns
 pub mod WhatHappened

@@ -206,7 +206,7 @@ first_some nodes (a ∷ actions) number some = by_first (first_some nodes action
         record { place = suc f.place; who = f.who; ends = f.ends; found = f.found; first = by_place is f }
 
 -- ---- a list with one more event
-take_first : (i : ℕ) (events : List Event) (e : Event) → i ≤ length events → take i (events ++ e ∷ []) ≡ take i events
+pub take_first : (i : ℕ) (events : List Event) (e : Event) → i ≤ length events → take i (events ++ e ∷ []) ≡ take i events
 take_first zero events e le = refl
 take_first (suc i) [] e le = absurd (omega arith)
 take_first (suc i) (x ∷ events) e le = ap (λ (l : List Event). x ∷ l) (take_first i events e (omega arith))
@@ -413,7 +413,7 @@ module _ (settings : SettingsModel) (events : List Event) where
   same_number : (number other : ℕ) (who whose : UniqueModel) → who ≡ whose → HasNumber (run settings events).nodes number who → HasNumber (run settings events).nodes other whose → number ≡ other
   same_number number other who whose same h g = (run_sound settings events).apart number other h.node g.node h.at g.at (h.is_who ∙ same ∙ sym g.is_who)
 
-  same_place : (a b c d : ℕ) → (a < b) ⊎ ((a ≡ b) × (c ≤ d)) → (b < a) ⊎ ((b ≡ a) × (d ≤ c)) → (a ≡ b) × (c ≡ d)
+  pub same_place : (a b c d : ℕ) → (a < b) ⊎ ((a ≡ b) × (c ≤ d)) → (b < a) ⊎ ((b ≡ a) × (d ≤ c)) → (a ≡ b) × (c ≡ d)
   same_place a b c d (inl x) (inl y) = absurd (omega arith)
   same_place a b c d (inl x) (inr y) = let same = y.0 in absurd (omega arith)
   same_place a b c d (inr x) (inl y) = let same = x.0 in absurd (omega arith)

@@ -1,10 +1,11 @@
 -- Beside each world of a run whose margin is kept stands a cluster of the moves: each node keeps the same of promises and of the
 -- singleton, whatever a packet says was said there, and all that is true after any allowed moves is true of it.
-use Rattle.std.proofs.Common.{◌≡◌, ◌≢◌, ℕ, ◌+◌, ◌≤◌, Bool, true, false, not, inl, inr, if◌then◌else◌, List, [], ◌∷◌, ◌++◌, length, Some, Result, Ok, Err, slice_get, slice_set, Contains, IsTrue, append-nil, append_assoc, refl, sym, ap, ◌∙◌, subst, true≢false}
+use Rattle.std.proofs.Common.{◌≡◌, ◌≢◌, ℕ, ◌+◌, ◌==◌, ◌≤◌, Bool, true, false, not, inl, inr, if◌then◌else◌, List, [], ◌∷◌, ◌++◌, length, Some, Result, Ok, Err, slice_get, slice_set, Contains, IsTrue, append-nil, append_assoc, refl, sym, ap, ◌∙◌, subst, arith, true≢false}
+use Rattle.std.proofs.lemmas.Bool.{eqb-true}
 use Rattle.std.specs.List.{list_any}
 use Rattle.std.specs.Ordering.{is_eq}
 use Rattle.ak_address.specs.Unique.{UniqueModel, unique_cmp}
-use Rattle.ak_address.proofs.Elements.{contains_at, contains_either, any_there, contains_nothing}
+use Rattle.ak_address.proofs.Elements.{contains_first, contains_at, contains_either, any_there, contains_nothing}
 use Rattle.ak_address.proofs.TableLaws.{key_itself}
 use Rattle.ak_clock.specs.Version.{Counts, Covers}
 use Rattle.ak_clock.proofs.VersionLaws.{covers_along}
@@ -30,9 +31,14 @@ use Rattle.ak_wire.specs.Wire.{sent}
 use Rattle.ak_node.specs.declared.node.State.{State}
 use Rattle.ak_node.specs.declared.node.NodeEvent.{NodeEvent}
 use Rattle.ak_node.specs.declared.node.NodeEvent.TheVariants as event
-use Rattle.ak_node.specs.Node.{Outcome, known, me_of, settled_of, margin_of, and_then, started, rule, concludes, is_dead, step}
-use Rattle.ak_node.specs.Said.{said_in}
+use Rattle.ak_node.specs.Node.{is_for, Outcome, known, me_of, settled_of, margin_of, and_then, started, rule, concludes, is_dead, step}
+use Rattle.ak_node.specs.Said.{said_to, said_in}
+use Rattle.ak_promise.specs.Ballot.{BallotModel}
+use Rattle.ak_sharding.proofs.NewSharing.{new_is}
+use Rattle.ak_wire.specs.declared.envelope.Message.{Message}
+use Rattle.ak_wire.specs.declared.envelope.Message.TheVariants as message
 use Rattle.ak_node.proofs.NodeLemmas.{rule_settled}
+use Rattle.ak_node.proofs.StepGrants.{Once, step_once}
 use Rattle.ak_node.proofs.StepChanges.{rule_changes, step_changes, step_is}
 use Rattle.ak_node.proofs.StepMoves.{IsPart, IsAfter, IsShown, IsOwn, part_alike}
 use Rattle.ak_node.proofs.StepEnds.{IsNoted, WaitsSurely, WasHeard, Premises, Ends, running_ends}
@@ -43,6 +49,8 @@ use Rattle.ak_world.specs.InRun.{HasStopped}
 use Rattle.ak_world.specs.Margin.{IsMargin}
 use Rattle.ak_world.specs.RunLine.{line_of}
 use Rattle.ak_world.specs.SettledLine.{IsOverHalf}
+use Rattle.ak_world.specs.Uids.{HaveUids}
+use Rattle.ak_world.proofs.Addressed.{is_order, said_alike, receiver_in, receiver_is, uid_of}
 use Rattle.ak_world.proofs.AsLine.{run_is_line, line_grows, aged_started}
 use Rattle.ak_world.proofs.FinishedRuns.{kept_before, all_rest, ticked_rests}
 use Rattle.ak_world.proofs.FoldRuns.{run_sound}
@@ -58,9 +66,11 @@ pub record IsMirrored (settings : SettingsModel) (quorum : ℕ) (events : List E
   pub at : (index : ℕ) (n : State) → slice_get (run settings events).nodes index ≡ Some n → IsAfter n (c.node (me_of n))
   pub absent : (z : UniqueModel) → (IsThere (run settings events).nodes z → ⊥) → c.node z ≡ blank (line_of settings events quorum) IsLater
   pub sent : (p : Envelope) → Contains (run settings events).packets p → (x : Said Counts) → Contains (said_in p) x → Sent (line_of settings events quorum) IsLater c p.from x
+  -- each grant reports each shard once at most
+  pub once : (p : Envelope) → Contains (run settings events).packets p → Once p.message
   pub safe : Safe (line_of settings events quorum) IsLater c
 
-module _ (settings : SettingsModel) (quorum : ℕ) (over_half : IsOverHalf settings quorum) (all : List Event) (kept : IsMargin settings all Kept) (least : 1 ≤ settings.margin) where
+module _ (settings : SettingsModel) (quorum : ℕ) (over_half : IsOverHalf settings quorum) (all : List Event) (kept : IsMargin settings all Kept) (least : 1 ≤ settings.margin) (uids : HaveUids (run settings all)) where
   module _ (past rest : List Event) (e : Event) (parts : past ++ e ∷ rest ≡ all) (c : Cluster Counts) (k : IsMirrored settings quorum past c) where
     abbrev w : WorldState
     w = run settings past
@@ -96,12 +106,54 @@ module _ (settings : SettingsModel) (quorum : ℕ) (over_half : IsOverHalf setti
     stopped_there : (q : UniqueModel) → HasStopped w.nodes q → (c.node q).runs ≡ false
     stopped_there q s = subst (λ u. (c.node u).runs ≡ false) s.is_who ((k.at s.index s.node s.at).over s.stopped)
 
+    -- ---- what a packet says to a process it says
+    -- an order names its receiver, which promised its ballot, and so is a process with a number
+    order_promised : (p : Envelope) → Contains w.packets p → (m : Message) → p.message ≡ m → is_order m ≡ true → (b : BallotModel) × Contains (c.node (receiver_in p)).promised b
+    order_promised p there (message.HostShard b shard number) same is = (
+      b,
+      (k.safe.placed.directed (receiver_in p) b shard number (
+        p.from,
+        inl (k.sent p there (moves.HostShard b (receiver_in p) shard number)
+            (subst (λ m. Contains (said_to (receiver_in p) m) (moves.HostShard b (receiver_in p) shard number)) (sym same) (contains_first _ []))),
+      )).0,
+    )
+    order_promised p there (message.HandOff b shard number) same is = (
+      b,
+      (k.safe.placed.directed (receiver_in p) b shard number (
+        p.from,
+        inr (k.sent p there (moves.HandOff b (receiver_in p) shard number)
+            (subst (λ m. Contains (said_to (receiver_in p) m) (moves.HandOff b (receiver_in p) shard number)) (sym same) (contains_first _ []))),
+      )).0,
+    )
+    order_promised p there other same is = absurd (true≢false (sym is))
+
+    order_numbered : (p : Envelope) → Contains w.packets p → is_order p.message ≡ true → (p.uid == 0) ≡ false
+    order_numbered p there is = by_uid (p.uid == 0) refl
+      where
+        by_uid : (b : Bool) → (p.uid == 0) ≡ b → b ≡ false
+        by_uid false is_b = refl
+        by_uid true zero_is =
+            let none : IsThere w.nodes (receiver_in p) → ⊥ = λ t.
+            let least_uid = uid_of settings past (e ∷ rest) (subst (λ l. HaveUids (run settings l)) (sym parts) uids) (receiver_in p) t in
+            let z = eqb-true p.uid 0 zero_is in
+            omega (arith, z, least_uid) in
+            let o = order_promised p there p.message refl is in
+            absurd (contains_nothing o.0 (subst (λ (n : Node Counts). Contains n.promised o.0) (k.absent (receiver_in p) none) o.1))
+
+    addressed : (p : Envelope) → Contains w.packets p → (z : UniqueModel) → is_for z p ≡ true → (x : Said Counts) → Contains (said_to z p.message) x → Contains (said_in p) x
+    addressed p there z is x says = by_order (is_order p.message) refl
+      where
+        by_order : (b : Bool) → is_order p.message ≡ b → Contains (said_in p) x
+        by_order false is_b = subst (λ l. Contains l x) (said_alike z (receiver_in p) p.message is_b) says
+        by_order true is_b = subst (λ u. Contains (said_to u p.message) x) (sym (receiver_is p z (order_numbered p there is_b) is)) says
+
     -- ---- nothing happens
     same_mirrored : (x : WorldState) → run settings now ≡ x → x.nodes ≡ w.nodes → x.packets ≡ w.packets → IsMirrored settings quorum now c
     same_mirrored x is nodes packets = record {
       at = λ index n at. k.at index n (ap (λ l. slice_get l index) (sym (ap (λ (y : WorldState). y.nodes) is ∙ nodes)) ∙ at);
       absent = λ z none. k.absent z (λ there. none (subst (λ l. IsThere l z) (sym (ap (λ (y : WorldState). y.nodes) is ∙ nodes)) there));
       sent = λ p there x x_says. k.sent p (subst (λ l. Contains l p) (ap (λ (y : WorldState). y.packets) is ∙ packets) there) x x_says;
+      once = λ p there. k.once p (subst (λ l. Contains l p) (ap (λ (y : WorldState). y.packets) is ∙ packets) there);
       safe = grown c k.safe;
     }
 
@@ -131,7 +183,7 @@ module _ (settings : SettingsModel) (quorum : ℕ) (over_half : IsOverHalf setti
         running = λ runs. record {
           like = record { runs = refl; settled_is = refl; finished = λ q none. absurd (true≢false (sym none)); last = refl; released = refl; floor = refl; phase = refl };
           fits = refl;
-          marks = refl;
+          sharing = new_is settings (record (blank l0 IsLater) { runs = true }) refl;
         };
         over = λ none. absurd (true≢false none);
       }
@@ -148,6 +200,7 @@ module _ (settings : SettingsModel) (quorum : ℕ) (over_half : IsOverHalf setti
             other z apart
             ∙ k.absent z (λ t. none (subst (λ l. IsThere l z) (sym (ap (λ (y : WorldState). y.nodes) is)) (record { index = t.index; node = t.node; at = prefix_at w.nodes (started u settings ∷ []) t.index t.node t.at; is_who = t.is_who })));
         sent = λ p there x x_says. after_sent l0 line0 IsLater c (Move.Start u) _ (k.sent p (subst (λ l. Contains l p) (ap (λ (y : WorldState). y.packets) is) there) x x_says);
+        once = λ p there. k.once p (subst (λ l. Contains l p) (ap (λ (y : WorldState). y.packets) is) there);
         safe = grown c_start (safe_kept l0 line0 IsLater later_strict c (Move.Start u) k.safe (was_blank, λ i. (unaged (c.node i).settled, λ a act. unaged a.first)));
       }
 
@@ -182,7 +235,7 @@ module _ (settings : SettingsModel) (quorum : ℕ) (over_half : IsOverHalf setti
       part_n = (k.at index n at).running runs
 
       part : IsPart later_n a
-      part = part_alike n later_n a part_n refl refl refl
+      part = part_alike n later_n a part_n refl refl refl refl
 
       own : IsOwn (OnAt settings quorum now) (AgedAt settings quorum now) (RemovedAt settings quorum now) me a
       own t live = let o = safe1.promised.own me t live in (o.0, o.2)
@@ -268,7 +321,7 @@ module _ (settings : SettingsModel) (quorum : ℕ) (over_half : IsOverHalf setti
         own = own;
         shown = shown;
         waits = waits_by ev refl;
-        was_heard = heard_by ev was_sent;
+        was_heard = heard_by ev was_sent lives;
         shown_then = shown_m;
         noted = noted_is lives;
       }
@@ -280,9 +333,18 @@ module _ (settings : SettingsModel) (quorum : ℕ) (over_half : IsOverHalf setti
           }
           waits_by other is = tt
 
-          heard_by : (x : NodeEvent) → WasSent w x → WasHeard (OnAt settings quorum now) (AgedAt settings quorum now) (RemovedAt settings quorum now) heard stopped later_n a part own shown x
-          heard_by (event.Packet p) s = λ x x_says. k.sent p (contains_at w.packets s.0 p s.1) x x_says
-          heard_by other s = tt
+          heard_by : (x : NodeEvent) → WasSent w x → is_dead me x ≡ false → WasHeard (OnAt settings quorum now) (AgedAt settings quorum now) (RemovedAt settings quorum now) heard stopped later_n a part own shown x
+          heard_by (event.Packet p) s alive =
+              let there = contains_at w.packets s.0 p s.1 in
+              (λ x x_says. k.sent p there x (addressed p there me (for_me alive) x x_says), k.once p there)
+            where
+              for_me : not (is_for me p) ≡ false → is_for me p ≡ true
+              for_me alive = by_test (is_for me p) alive
+                where
+                  by_test : (b : Bool) → not b ≡ false → b ≡ true
+                  by_test true is = refl
+                  by_test false is = absurd (true≢false is)
+          heard_by other s alive = tt
 
       ends : Ends (OnAt settings quorum now) (AgedAt settings quorum now) (RemovedAt settings quorum now) heard stopped later_n a (step ev n)
       ends = subst (Ends (OnAt settings quorum now) (AgedAt settings quorum now) (RemovedAt settings quorum now) heard stopped later_n a) (sym (step_is ev n runs))
@@ -313,6 +375,10 @@ module _ (settings : SettingsModel) (quorum : ℕ) (over_half : IsOverHalf setti
           | inl old ↦ did_move.before _ (k.sent p old x x_says)
           | inr new ↦ subst (λ u. Sent l1 IsLater c_step u x) (sym ((step_changes ev n runs).from p new)) (did_move.said x (ends.says p new x x_says))
         ];
+        once = λ p there. elim (contains_either w.packets (sent (step ev n).1) p (subst (λ l. Contains l p) (ap (λ (y : WorldState). y.packets) then_is) there)) [
+          | inl old ↦ k.once p old
+          | inr new ↦ step_once ev n runs p new
+        ];
         safe = safe_after l1 line1 IsLater later_strict c ends.list safe1 did_move.allowed;
       }
 
@@ -337,6 +403,7 @@ module _ (settings : SettingsModel) (quorum : ℕ) (over_half : IsOverHalf setti
     at = λ index n at. absurd (cc);
     absent = λ z none. refl;
     sent = λ p there. absurd (contains_nothing p there);
+    once = λ p there. absurd (contains_nothing p there);
     safe = safe_first (line_of settings [] quorum) (run_is_line settings [] quorum over_half) IsLater later_strict;
   }
 

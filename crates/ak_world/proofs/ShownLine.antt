@@ -13,7 +13,8 @@ use Rattle.ak_member.specs.declared.standing.Standing.TheVariants.{Member, Burie
 use Rattle.ak_member.specs.declared.status.Status.{Status}
 use Rattle.ak_member.specs.declared.status.Status.TheVariants.{Joining}
 use Rattle.ak_member.specs.Age.{counts, counted_pairs, least_pair, IsOldest}
-use Rattle.ak_member.specs.Standing.{Standings, member_of, members_of, tombstone_of}
+use Rattle.ak_member.specs.Standing.{Standings, member_of, members_of, tombstone_of, is_up}
+use Rattle.ak_address.proofs.TableLaws.{get-empty}
 use Rattle.ak_member.proofs.OldestLaws.{oldest_is}
 use Rattle.ak_history.specs.declared.entry.Entry.{Entry}
 use Rattle.ak_history.specs.History.{IsNumbered, view}
@@ -89,6 +90,9 @@ module _ (history : List Entry) (above : RaisesAbove history) (noted : NotedView
   pub removed_buried : (who : UniqueModel) → IsRemoved history noted.version who → IsSome (tombstone_of (map.get noted.standings who))
   removed_buried who gone = subst (λ (s : Standings). IsSome (tombstone_of (map.get s who))) (sym shown_is) (removed_shown history noted.version who gone)
 
+up_apart : (status : Status) → is_up status ≡ true → status ≢ Joining
+up_apart status up joining = true≢false (sym up ∙ ap is_up joining)
+
 -- the empty version shows that nothing was done
 nothing_did : (history : List Entry) → IsNumbered history → (x : Effect) → Did history map.empty x → ⊥
 nothing_did history numbered x d =
@@ -143,6 +147,7 @@ module _ (settings : SettingsModel) (quorum : ℕ) where
     };
     over = λ q over. none_finished margin q over;
     buried = λ q gone. absurd (none_removed q gone);
+    risen = λ who status number at up. absurd (true≢false (sym (ap is_some (sym (ap member_of (get-empty who)) ∙ at))));
   }
     where
       numbered : IsNumbered (run settings events).history
@@ -166,6 +171,7 @@ module _ (settings : SettingsModel) (quorum : ℕ) where
         };
         over = λ q over. let t = finished_means margin (Some noted) q over in (refl, tombstone_removed history above noted is.0 q t.0 t.1);
         buried = λ q gone. removed_buried history above noted is.0 q gone;
+        risen = λ who status number at up. risen_aged history noted.version who status number (ap (λ (s : Standings). member_of (map.get s who)) (sym is.0) ∙ at) (up_apart status up);
       }
 
   -- and at the next event
@@ -182,4 +188,5 @@ module _ (settings : SettingsModel) (quorum : ℕ) where
         };
         over = λ q over. let o = s.over q over in (o.0, g.removed_then noted.version q is.1 o.1);
         buried = λ q gone. s.buried q (g.removed_before noted.version q is.1 gone);
+        risen = λ who status number at up. g.aged_then noted.version who is.1 (s.risen who status number at up);
       }

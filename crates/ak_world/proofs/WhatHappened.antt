@@ -32,6 +32,7 @@ WasSent w (event.Tick word) = Unit {0}
 WasSent w (event.Packet p) = (index : ℕ) × (slice_get w.packets index ≡ Some p)
 WasSent w (event.Leave who) = Unit {0}
 WasSent w (event.Down who) = Unit {0}
+WasSent w (event.Offer entity payload) = Unit {0}
 WasSent w event.Stop = Unit {0}
 
 -- what a node is brought came in a packet that was sent, and who asks sent one
@@ -51,6 +52,7 @@ brought w (event.Tick word) sent g is = nothing_comes g is
 brought w (event.Packet p) sent g is = (sent.0, p, sent.1, is)
 brought w (event.Leave who) sent g is = nothing_comes g is
 brought w (event.Down who) sent g is = nothing_comes g is
+brought w (event.Offer entity payload) sent g is = nothing_comes g is
 brought w event.Stop sent g is = nothing_comes g is
 
 -- the gossip that is accepted is the one that came
@@ -68,6 +70,7 @@ asked w (event.Tick word) sent who is = no_one_asks who is
 asked w (event.Packet p) sent who is = (p, contains_at w.packets sent.0 p sent.1, asker_is p.from who p.message is)
 asked w (event.Leave other) sent who is = no_one_asks who is
 asked w (event.Down other) sent who is = no_one_asks who is
+asked w (event.Offer entity payload) sent who is = no_one_asks who is
 asked w event.Stop sent who is = no_one_asks who is
 
 -- ---- what an accepted event was

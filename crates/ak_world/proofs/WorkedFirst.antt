@@ -18,9 +18,10 @@ use Rattle.ak_wire.specs.declared.action.Action.TheVariants.{Send, Update, View,
 use Rattle.ak_node.specs.declared.node.State.{State}
 use Rattle.ak_node.specs.declared.node.NodeEvent.TheVariants as event
 use Rattle.ak_node.specs.Node.{started, step}
+use Rattle.ak_sharding.specs.Coordinates.{begins_table}
 use Rattle.ak_world.specs.Worked.{at_b, a_1, b_1, c_1, three}
 use Rattle.ak_world.proofs.ListedTables.{listed, table, set}
-use Rattle.ak_world.proofs.StepStages.{in_stages, in_ticks}
+use Rattle.ak_world.proofs.StepStages.{in_stages, in_ticks, in_going}
 use Rattle.ak_world.proofs.WorkedLemmas.{gossip_of, settled_as, ballot, packet}
 
 -- ---- 4: b founds
@@ -43,6 +44,7 @@ step_4 =
     (simp listed)
     (simp listed)
     refl
+    refl
 
 -- ---- 5: c asks to join
 abbrev pub packet_1 : Envelope
@@ -60,6 +62,7 @@ step_5 =
     in_stages (event.Join at_b) (started c_1 three) c_5 c_5 c_5 (Send packet_1 ∷ []) [] [] refl refl
     (simp listed)
     (simp listed)
+    refl
     refl
 
 -- ---- 6: b hears it, and welcomes c
@@ -82,6 +85,7 @@ step_6 =
     (simp listed)
     (simp listed)
     refl
+    refl
 
 -- ---- 7: a asks to join
 abbrev pub packet_3 : Envelope
@@ -99,6 +103,7 @@ step_7 =
     in_stages (event.Join at_b) (started a_1 three) a_7 a_7 a_7 (Send packet_3 ∷ []) [] [] refl refl
     (simp listed)
     (simp listed)
+    refl
     refl
 
 -- ---- 8: a tick of b: b and c come Up
@@ -121,8 +126,10 @@ pub step_8 : step (event.Tick 0) b_6 ≡ (b_8, does_8)
 unfolding covers merged_tables union
 step_8 =
     in_stages (event.Tick 0) b_6 ruled_8 b_8 b_8 (Send (packet b_1 c_1 message.Heartbeat) ∷ Update 3 (Rise b_1 Up 1 ∷ Rise c_1 Up 2 ∷ []) ∷ []) (View ∷ []) [] refl refl
-    (in_ticks 0 (record b_6 { steps = 3 }) ruled_8 ticked_8 (record { number = Some 3; effects = Rise b_1 Up 1 ∷ Rise c_1 Up 2 ∷ []; reply = Nothing }) (Send (packet b_1 c_1 message.Heartbeat) ∷ []) [] (simp listed) (simp listed) (simp listed) (simp listed))
+    (in_ticks 0 (record b_6 { steps = 3 }) ruled_8 ticked_8 (record { number = Some 3; effects = Rise b_1 Up 1 ∷ Rise c_1 Up 2 ∷ []; reply = Nothing }) (Send (packet b_1 c_1 message.Heartbeat) ∷ []) [] (simp listed) (simp listed) (simp listed)
+    (in_going 0 (record b_6 { membership = ticked_8; steps = 3 }) ruled_8 [] [] (simp listed) (simp listed) (simp listed) refl refl (simp listed)))
     (simp listed)
+    refl
     refl
 
 -- ---- 9: b hears a, and welcomes it
@@ -145,6 +152,7 @@ step_9 =
     (simp listed)
     (simp listed)
     refl
+    refl
 
 -- ---- 10: a tick of b: it gossips to c
 abbrev pub packet_8 : Envelope
@@ -163,8 +171,10 @@ pub step_10 : step (event.Tick 1) b_9 ≡ (b_10, does_10)
 unfolding covers merged_tables union
 step_10 =
     in_stages (event.Tick 1) b_9 b_10 b_10 b_10 (Send (packet b_1 a_1 message.Heartbeat) ∷ Send (packet b_1 c_1 message.Heartbeat) ∷ Send packet_8 ∷ []) [] [] refl refl
-    (in_ticks 1 (record b_9 { steps = 5 }) b_10 ticked_10 (record { number = None; effects = []; reply = Nothing }) (Send (packet b_1 a_1 message.Heartbeat) ∷ Send (packet b_1 c_1 message.Heartbeat) ∷ []) (Send packet_8 ∷ []) (simp listed) (simp listed) (simp listed) (simp listed))
+    (in_ticks 1 (record b_9 { steps = 5 }) b_10 ticked_10 (record { number = None; effects = []; reply = Nothing }) (Send (packet b_1 a_1 message.Heartbeat) ∷ Send (packet b_1 c_1 message.Heartbeat) ∷ []) (Send packet_8 ∷ []) (simp listed) (simp listed) (simp listed)
+    (in_going 1 (record b_9 { membership = ticked_10; steps = 5 }) b_10 [] (Send packet_8 ∷ []) (simp listed) (simp listed) (simp listed) refl refl (simp listed)))
     (simp listed)
+    refl
     refl
 
 -- ---- 11: c hears it, and answers: its view is settled
@@ -187,6 +197,7 @@ step_11 =
     (simp listed)
     (simp listed)
     refl
+    refl
 
 -- ---- 12: so is that of b
 abbrev ruled_12 : State
@@ -205,6 +216,7 @@ step_12 =
     (simp listed)
     (simp listed)
     refl
+    refl
 
 -- ---- 13: a tick of b: a comes Up, and c is asked
 abbrev pub known_13 : List UniqueModel → GossipState
@@ -217,7 +229,7 @@ abbrev ticked_13 : MembershipState
 ticked_13 = record b_12.membership { gossip = known_13 (b_1 ∷ []); ticks = 3; stable = 2; moved = true; detector = table ((a_1, 2) ∷ (c_1, 3) ∷ []) }
 
 abbrev ruled_13 : State
-ruled_13 = record b_12 { membership = ticked_13; singleton = record b_12.singleton { promise = record { last = Some (ballot 1 b_1); released = false; floor = table [] }; phase = phase.Asking; live = Some (ballot 1 b_1); granted = set (b_1 ∷ []); floor = table ((b_1, 4) ∷ []) }; steps = 7 }
+ruled_13 = record b_12 { membership = ticked_13; singleton = record b_12.singleton { promise = record { last = Some (ballot 1 b_1); released = false; floor = table [] }; phase = phase.Asking; live = Some (ballot 1 b_1); granted = set (b_1 ∷ []); floor = table ((b_1, 4) ∷ []) }; sharding = begins_table b_1 b_12.sharding; steps = 7 }
 
 abbrev pub b_13 : State
 b_13 = record ruled_13 { membership = record ruled_13.membership { shown = table ((b_1, 5) ∷ []); stable = 0; moved = false } }
@@ -229,8 +241,10 @@ pub step_13 : step (event.Tick 0) b_12 ≡ (b_13, does_13)
 unfolding covers merged_tables union
 step_13 =
     in_stages (event.Tick 0) b_12 ruled_13 b_13 b_13 (Send (packet b_1 a_1 message.Heartbeat) ∷ Send (packet b_1 c_1 message.Heartbeat) ∷ Update 5 (Rise a_1 Up 3 ∷ []) ∷ Send packet_12 ∷ Send (packet b_1 a_1 (message.Gossip (known_13 (b_1 ∷ [])))) ∷ []) (View ∷ []) [] refl refl
-    (in_ticks 0 (record b_12 { steps = 7 }) ruled_13 ticked_13 (record { number = Some 5; effects = Rise a_1 Up 3 ∷ []; reply = Nothing }) (Send (packet b_1 a_1 message.Heartbeat) ∷ Send (packet b_1 c_1 message.Heartbeat) ∷ []) (Send packet_12 ∷ Send (packet b_1 a_1 (message.Gossip (known_13 (b_1 ∷ [])))) ∷ []) (simp listed) (simp listed) (simp listed) (simp listed))
+    (in_ticks 0 (record b_12 { steps = 7 }) ruled_13 ticked_13 (record { number = Some 5; effects = Rise a_1 Up 3 ∷ []; reply = Nothing }) (Send (packet b_1 a_1 message.Heartbeat) ∷ Send (packet b_1 c_1 message.Heartbeat) ∷ []) (Send packet_12 ∷ Send (packet b_1 a_1 (message.Gossip (known_13 (b_1 ∷ [])))) ∷ []) (simp listed) (simp listed) (simp listed)
+    (in_going 0 (record b_12 { membership = ticked_13; steps = 7 }) ruled_13 (Send packet_12 ∷ []) (Send (packet b_1 a_1 (message.Gossip (known_13 (b_1 ∷ [])))) ∷ []) (simp listed) (simp listed) (simp listed) refl refl (simp listed)))
     (simp listed)
+    refl
     (simp listed)
 
 -- ---- 14: c grants
@@ -250,6 +264,7 @@ step_14 =
     (simp listed)
     (simp listed)
     refl
+    refl
 
 -- ---- 15: b hears it, and is active
 abbrev ruled_15 : State
@@ -267,4 +282,5 @@ step_15 =
     in_stages (event.Packet packet_14) b_13 ruled_15 ruled_15 b_15 [] [] (Active 1 ∷ []) refl refl
     (simp listed)
     (simp listed)
+    refl
     (simp listed)

@@ -16,12 +16,13 @@ use Rattle.ak_wire.specs.declared.action.Action.TheVariants.{Update, View, Settl
 use Rattle.ak_node.specs.declared.node.State.{State}
 use Rattle.ak_node.specs.declared.node.NodeEvent.TheVariants as event
 use Rattle.ak_node.specs.Node.{started, step}
+use Rattle.ak_sharding.specs.Coordinates.{begins_table}
 use Rattle.ak_schedule.specs.declared.event.Event.TheVariants.{Start, Found, Tick}
 use Rattle.ak_world.specs.Worked.{a_1, alone, rise}
 use Rattle.ak_world.specs.World.{WorldState, Done, empty_world, starts, stepped}
 use Rattle.ak_world.proofs.WorkedLemmas.{Comes, comes_first, comes_next, gossip_of, settled_as, ballot}
 use Rattle.ak_world.proofs.ListedTables.{listed, table, set}
-use Rattle.ak_world.proofs.StepStages.{in_stages, in_ticks}
+use Rattle.ak_world.proofs.StepStages.{in_stages, in_ticks, in_going}
 
 -- ---- 2: it founds
 abbrev known_2 : List UniqueModel → GossipState
@@ -42,6 +43,7 @@ step_2 =
     in_stages event.Found (started a_1 alone) ruled_2 a_2 a_2 (Update 1 (Joined a_1 ∷ []) ∷ []) (View ∷ []) [] refl refl
     (simp listed)
     (simp listed)
+    refl
     refl
 
 -- ---- 3: a tick: it comes Up, and its view is settled
@@ -64,8 +66,10 @@ pub step_3 : step (event.Tick 0) a_2 ≡ (a_3, does_3)
 unfolding covers merged_tables union
 step_3 =
     in_stages (event.Tick 0) a_2 ruled_3 a_3 a_3 (Update 2 (Rise a_1 Up 1 ∷ []) ∷ []) (View ∷ Settled ∷ []) [] refl refl
-    (in_ticks 0 (record a_2 { steps = 2 }) ruled_3 ticked_3 (record { number = Some 2; effects = Rise a_1 Up 1 ∷ []; reply = Nothing }) [] [] (simp listed) (simp listed) (simp listed) (simp listed))
+    (in_ticks 0 (record a_2 { steps = 2 }) ruled_3 ticked_3 (record { number = Some 2; effects = Rise a_1 Up 1 ∷ []; reply = Nothing }) [] [] (simp listed) (simp listed) (simp listed)
+    (in_going 0 (record a_2 { membership = ticked_3; steps = 2 }) ruled_3 [] [] (simp listed) (simp listed) (simp listed) refl refl (simp listed)))
     (simp listed)
+    refl
     refl
 
 -- ---- 4: a tick: it asks itself alone, and is active
@@ -73,7 +77,7 @@ abbrev ticked_4 : MembershipState
 ticked_4 = record a_3.membership { ticks = 2; stable = 1 }
 
 abbrev ruled_4 : State
-ruled_4 = record a_3 { membership = ticked_4; singleton = record a_3.singleton { promise = record { last = Some (ballot 1 a_1); released = false; floor = table [] }; phase = phase.Asking; live = Some (ballot 1 a_1); granted = set (a_1 ∷ []); floor = table ((a_1, 2) ∷ []) }; steps = 3 }
+ruled_4 = record a_3 { membership = ticked_4; singleton = record a_3.singleton { promise = record { last = Some (ballot 1 a_1); released = false; floor = table [] }; phase = phase.Asking; live = Some (ballot 1 a_1); granted = set (a_1 ∷ []); floor = table ((a_1, 2) ∷ []) }; sharding = begins_table a_1 a_3.sharding; steps = 3 }
 
 abbrev pub a_4 : State
 a_4 = record ruled_4 { singleton = record ruled_4.singleton { phase = phase.Active } }
@@ -85,8 +89,10 @@ pub step_4 : step (event.Tick 0) a_3 ≡ (a_4, does_4)
 unfolding covers merged_tables union
 step_4 =
     in_stages (event.Tick 0) a_3 ruled_4 ruled_4 a_4 [] [] (Active 1 ∷ []) refl refl
-    (in_ticks 0 (record a_3 { steps = 3 }) ruled_4 ticked_4 (record { number = None; effects = []; reply = Nothing }) [] [] (simp listed) (simp listed) (simp listed) (simp listed))
+    (in_ticks 0 (record a_3 { steps = 3 }) ruled_4 ticked_4 (record { number = None; effects = []; reply = Nothing }) [] [] (simp listed) (simp listed) (simp listed)
+    (in_going 0 (record a_3 { membership = ticked_4; steps = 3 }) ruled_4 [] [] (simp listed) (simp listed) (simp listed) refl refl (simp listed)))
     (simp listed)
+    refl
     (simp listed)
 
 -- ---- the worlds

@@ -18,10 +18,11 @@ use Rattle.ak_wire.specs.declared.action.Action.TheVariants.{Send, Update, View,
 use Rattle.ak_node.specs.declared.node.State.{State}
 use Rattle.ak_node.specs.declared.node.NodeEvent.TheVariants as event
 use Rattle.ak_node.specs.Node.{step}
+use Rattle.ak_sharding.specs.Coordinates.{begins_table, ends_table}
 use Rattle.ak_world.specs.Worked.{a_1, b_1, c_1}
 use Rattle.ak_world.proofs.WorkedFirst.{a_7, b_15, c_14, packet_3}
 use Rattle.ak_world.proofs.ListedTables.{listed, table, set}
-use Rattle.ak_world.proofs.StepStages.{in_stages, in_ticks}
+use Rattle.ak_world.proofs.StepStages.{in_stages, in_ticks, in_going, in_leaving}
 use Rattle.ak_world.proofs.WorkedLemmas.{gossip_of, settled_as, ballot, packet}
 
 -- ---- 16: b leaves
@@ -44,6 +45,7 @@ step_16 =
     (simp listed)
     (simp listed)
     refl
+    refl
 
 -- ---- 17: a tick of b: it gossips to c
 abbrev pub packet_17 : Envelope
@@ -62,8 +64,10 @@ pub step_17 : step (event.Tick 1) b_16 ≡ (b_17, does_17)
 unfolding covers merged_tables union
 step_17 =
     in_stages (event.Tick 1) b_16 b_17 b_17 b_17 (Send (packet b_1 a_1 message.Heartbeat) ∷ Send (packet b_1 c_1 message.Heartbeat) ∷ Send packet_17 ∷ []) [] [] refl refl
-    (in_ticks 1 (record b_16 { steps = 10 }) b_17 ticked_17 (record { number = None; effects = []; reply = Nothing }) (Send (packet b_1 a_1 message.Heartbeat) ∷ Send (packet b_1 c_1 message.Heartbeat) ∷ []) (Send packet_17 ∷ []) (simp listed) (simp listed) (simp listed) (simp listed))
+    (in_ticks 1 (record b_16 { steps = 10 }) b_17 ticked_17 (record { number = None; effects = []; reply = Nothing }) (Send (packet b_1 a_1 message.Heartbeat) ∷ Send (packet b_1 c_1 message.Heartbeat) ∷ []) (Send packet_17 ∷ []) (simp listed) (simp listed) (simp listed)
+    (in_going 1 (record b_16 { membership = ticked_17; steps = 10 }) b_17 [] (Send packet_17 ∷ []) (simp listed) (simp listed) (simp listed) (simp listed) refl (simp listed)))
     (simp listed)
+    refl
     refl
 
 -- ---- 18: c hears it, and answers
@@ -86,6 +90,7 @@ step_18 =
     (simp listed)
     (simp listed)
     refl
+    refl
 
 -- ---- 19: b hears the answer
 abbrev pub b_19 : State
@@ -100,6 +105,7 @@ step_19 =
     in_stages (event.Packet packet_18) b_17 b_19 b_19 b_19 [] [] [] refl refl
     (simp listed)
     (simp listed)
+    refl
     refl
 
 -- ---- 20: b hears once more that a joins, and welcomes it again
@@ -119,6 +125,7 @@ step_20 =
     (simp listed)
     (simp listed)
     refl
+    refl
 
 -- ---- 21: a hears it: its view is settled
 abbrev ruled_21 : State
@@ -136,6 +143,7 @@ step_21 =
     in_stages (event.Packet packet_19) a_7 ruled_21 a_21 a_21 (Send (packet a_1 b_1 (message.Gossip (known_16 (a_1 ∷ b_1 ∷ c_1 ∷ [])))) ∷ []) (View ∷ Settled ∷ []) [] refl refl
     (simp listed)
     (simp listed)
+    refl
     refl
 
 -- ---- 22: a tick of a, which leads: b exits
@@ -161,8 +169,10 @@ pub step_22 : step (event.Tick 0) a_21 ≡ (a_22, does_22)
 unfolding covers merged_tables union
 step_22 =
     in_stages (event.Tick 0) a_21 ruled_22 a_22 a_22 (Send (packet a_1 b_1 message.Heartbeat) ∷ Send (packet a_1 c_1 message.Heartbeat) ∷ Update 1 (Rise b_1 Exiting 0 ∷ []) ∷ Send packet_23 ∷ []) (View ∷ []) [] refl refl
-    (in_ticks 0 (record a_21 { steps = 3 }) ruled_22 ticked_22 (record { number = Some 1; effects = Rise b_1 Exiting 0 ∷ []; reply = Nothing }) (Send (packet a_1 b_1 message.Heartbeat) ∷ Send (packet a_1 c_1 message.Heartbeat) ∷ []) (Send packet_23 ∷ []) (simp listed) (simp listed) (simp listed) (simp listed))
+    (in_ticks 0 (record a_21 { steps = 3 }) ruled_22 ticked_22 (record { number = Some 1; effects = Rise b_1 Exiting 0 ∷ []; reply = Nothing }) (Send (packet a_1 b_1 message.Heartbeat) ∷ Send (packet a_1 c_1 message.Heartbeat) ∷ []) (Send packet_23 ∷ []) (simp listed) (simp listed) (simp listed)
+    (in_going 0 (record a_21 { membership = ticked_22; steps = 3 }) ruled_22 [] (Send packet_23 ∷ []) (simp listed) (simp listed) (simp listed) refl refl (simp listed)))
     (simp listed)
+    refl
     refl
 
 -- ---- 23: b hears it
@@ -182,6 +192,7 @@ step_23 =
     (simp listed)
     (simp listed)
     refl
+    refl
 
 -- ---- 24: a tick of b: it ends its activity, says that it stops, and stops
 abbrev pub packet_28 : Envelope
@@ -191,17 +202,22 @@ abbrev ticked_24 : MembershipState
 ticked_24 = record b_23.membership { ticks = 5; stable = 1; detector = table ((a_1, 4) ∷ (c_1, 5) ∷ []) }
 
 abbrev pub b_24 : State
-b_24 = record b_23 { membership = ticked_24; singleton = record b_23.singleton { promise = record { last = Some (ballot 1 b_1); released = true; floor = table ((b_1, 4) ∷ []) }; phase = phase.Ended; live = None; granted = set []; floor = table [] }; runs = false; steps = 14 }
+b_24 = record b_23 { membership = ticked_24; singleton = record b_23.singleton { promise = record { last = Some (ballot 1 b_1); released = true; floor = table ((b_1, 4) ∷ []) }; phase = phase.Ended; live = None; granted = set []; floor = table [] }; sharding = ends_table b_23.sharding; runs = false; steps = 14 }
 
 abbrev pub does_24 : List Action
 does_24 = Send (packet b_1 a_1 message.Heartbeat) ∷ Send (packet b_1 c_1 message.Heartbeat) ∷ Ended 1 ∷ Send (packet b_1 c_1 (message.Release (ballot 1 b_1) (table ((b_1, 4) ∷ [])))) ∷ Send packet_28 ∷ Send (packet b_1 c_1 message.ExitingConfirmed) ∷ Stopped ∷ []
+
+abbrev ended_24 : State
+ended_24 = record b_23 { membership = ticked_24; singleton = record b_23.singleton { promise = record { last = Some (ballot 1 b_1); released = true; floor = table ((b_1, 4) ∷ []) }; phase = phase.Ended; live = None; granted = set []; floor = table [] }; sharding = ends_table b_23.sharding; steps = 14 }
 
 pub step_24 : step (event.Tick 0) b_23 ≡ (b_24, does_24)
 unfolding covers merged_tables union
 step_24 =
     in_stages (event.Tick 0) b_23 b_24 b_24 b_24 (Send (packet b_1 a_1 message.Heartbeat) ∷ Send (packet b_1 c_1 message.Heartbeat) ∷ Ended 1 ∷ Send (packet b_1 c_1 (message.Release (ballot 1 b_1) (table ((b_1, 4) ∷ [])))) ∷ Send packet_28 ∷ Send (packet b_1 c_1 message.ExitingConfirmed) ∷ []) (Stopped ∷ []) [] refl refl
-    (in_ticks 0 (record b_23 { steps = 14 }) b_24 ticked_24 (record { number = None; effects = []; reply = Nothing }) (Send (packet b_1 a_1 message.Heartbeat) ∷ Send (packet b_1 c_1 message.Heartbeat) ∷ []) (Ended 1 ∷ Send (packet b_1 c_1 (message.Release (ballot 1 b_1) (table ((b_1, 4) ∷ [])))) ∷ Send packet_28 ∷ Send (packet b_1 c_1 message.ExitingConfirmed) ∷ []) (simp listed) (simp listed) (simp listed) (simp listed))
+    (in_ticks 0 (record b_23 { steps = 14 }) b_24 ticked_24 (record { number = None; effects = []; reply = Nothing }) (Send (packet b_1 a_1 message.Heartbeat) ∷ Send (packet b_1 c_1 message.Heartbeat) ∷ []) (Ended 1 ∷ Send (packet b_1 c_1 (message.Release (ballot 1 b_1) (table ((b_1, 4) ∷ [])))) ∷ Send packet_28 ∷ Send (packet b_1 c_1 message.ExitingConfirmed) ∷ []) (simp listed) (simp listed) (simp listed)
+    (in_leaving 0 (record b_23 { membership = ticked_24; steps = 14 }) ended_24 b_24 (Ended 1 ∷ Send (packet b_1 c_1 (message.Release (ballot 1 b_1) (table ((b_1, 4) ∷ [])))) ∷ []) (Send packet_28 ∷ Send (packet b_1 c_1 message.ExitingConfirmed) ∷ []) (simp listed) (simp listed) (simp listed) refl (simp listed)))
     (simp listed)
+    refl
     refl
 
 -- ---- 25: a hears that b stops
@@ -217,6 +233,7 @@ step_25 =
     in_stages (event.Packet packet_28) a_22 a_25 a_25 a_25 [] [] [] refl refl
     (simp listed)
     (simp listed)
+    refl
     refl
 
 -- ---- 26: a tick of a: it gossips to c
@@ -236,8 +253,10 @@ pub step_26 : step (event.Tick 1) a_25 ≡ (a_26, does_26)
 unfolding covers merged_tables union
 step_26 =
     in_stages (event.Tick 1) a_25 a_26 a_26 a_26 (Send (packet a_1 b_1 message.Heartbeat) ∷ Send (packet a_1 c_1 message.Heartbeat) ∷ Send packet_32 ∷ []) [] [] refl refl
-    (in_ticks 1 (record a_25 { steps = 5 }) a_26 ticked_26 (record { number = None; effects = []; reply = Nothing }) (Send (packet a_1 b_1 message.Heartbeat) ∷ Send (packet a_1 c_1 message.Heartbeat) ∷ []) (Send packet_32 ∷ []) (simp listed) (simp listed) (simp listed) (simp listed))
+    (in_ticks 1 (record a_25 { steps = 5 }) a_26 ticked_26 (record { number = None; effects = []; reply = Nothing }) (Send (packet a_1 b_1 message.Heartbeat) ∷ Send (packet a_1 c_1 message.Heartbeat) ∷ []) (Send packet_32 ∷ []) (simp listed) (simp listed) (simp listed)
+    (in_going 1 (record a_25 { membership = ticked_26; steps = 5 }) a_26 [] (Send packet_32 ∷ []) (simp listed) (simp listed) (simp listed) refl refl (simp listed)))
     (simp listed)
+    refl
     refl
 
 -- ---- 27: c hears it, and answers
@@ -260,6 +279,7 @@ step_27 =
     (simp listed)
     (simp listed)
     refl
+    refl
 
 -- ---- 28: a hears the answer: its view is settled
 abbrev ruled_28 : State
@@ -277,6 +297,7 @@ step_28 =
     in_stages (event.Packet packet_33) a_26 ruled_28 a_28 a_28 [] (Settled ∷ []) [] refl refl
     (simp listed)
     (simp listed)
+    refl
     refl
 
 -- ---- 29: a tick of a: b is removed
@@ -302,8 +323,10 @@ pub step_29 : step (event.Tick 0) a_28 ≡ (a_29, does_29)
 unfolding covers merged_tables union
 step_29 =
     in_stages (event.Tick 0) a_28 ruled_29 a_29 a_29 (Send (packet a_1 b_1 message.Heartbeat) ∷ Send (packet a_1 c_1 message.Heartbeat) ∷ Update 2 (Removed b_1 true ∷ []) ∷ Send packet_36 ∷ []) (View ∷ []) [] refl refl
-    (in_ticks 0 (record a_28 { steps = 7 }) ruled_29 ticked_29 (record { number = Some 2; effects = Removed b_1 true ∷ []; reply = Nothing }) (Send (packet a_1 b_1 message.Heartbeat) ∷ Send (packet a_1 c_1 message.Heartbeat) ∷ []) (Send packet_36 ∷ []) (simp listed) (simp listed) (simp listed) (simp listed))
+    (in_ticks 0 (record a_28 { steps = 7 }) ruled_29 ticked_29 (record { number = Some 2; effects = Removed b_1 true ∷ []; reply = Nothing }) (Send (packet a_1 b_1 message.Heartbeat) ∷ Send (packet a_1 c_1 message.Heartbeat) ∷ []) (Send packet_36 ∷ []) (simp listed) (simp listed) (simp listed)
+    (in_going 0 (record a_28 { membership = ticked_29; steps = 7 }) ruled_29 [] (Send packet_36 ∷ []) (simp listed) (simp listed) (simp listed) refl refl (simp listed)))
     (simp listed)
+    refl
     refl
 
 -- ---- 30: c hears it: its view is settled
@@ -323,6 +346,7 @@ step_30 =
     (simp listed)
     (simp listed)
     refl
+    refl
 
 -- ---- 31: a tick of c: a is asked
 abbrev pub packet_39 : Envelope
@@ -332,7 +356,7 @@ abbrev ticked_31 : MembershipState
 ticked_31 = record c_30.membership { ticks = 1; stable = 1; detector = table ((a_1, 1) ∷ []) }
 
 abbrev pub c_31 : State
-c_31 = record c_30 { membership = ticked_31; singleton = record c_30.singleton { promise = record { last = Some (ballot 2 c_1); released = false; floor = table [] }; phase = phase.Asking; live = Some (ballot 2 c_1); granted = set (c_1 ∷ []); floor = table ((a_1, 2) ∷ (b_1, 6) ∷ []) }; steps = 7 }
+c_31 = record c_30 { membership = ticked_31; singleton = record c_30.singleton { promise = record { last = Some (ballot 2 c_1); released = false; floor = table [] }; phase = phase.Asking; live = Some (ballot 2 c_1); granted = set (c_1 ∷ []); floor = table ((a_1, 2) ∷ (b_1, 6) ∷ []) }; sharding = begins_table c_1 c_30.sharding; steps = 7 }
 
 abbrev pub does_31 : List Action
 does_31 = Send (packet c_1 a_1 message.Heartbeat) ∷ Send packet_39 ∷ []
@@ -341,8 +365,10 @@ pub step_31 : step (event.Tick 0) c_30 ≡ (c_31, does_31)
 unfolding covers merged_tables union
 step_31 =
     in_stages (event.Tick 0) c_30 c_31 c_31 c_31 (Send (packet c_1 a_1 message.Heartbeat) ∷ Send packet_39 ∷ []) [] [] refl refl
-    (in_ticks 0 (record c_30 { steps = 7 }) c_31 ticked_31 (record { number = None; effects = []; reply = Nothing }) (Send (packet c_1 a_1 message.Heartbeat) ∷ []) (Send packet_39 ∷ []) (simp listed) (simp listed) (simp listed) (simp listed))
+    (in_ticks 0 (record c_30 { steps = 7 }) c_31 ticked_31 (record { number = None; effects = []; reply = Nothing }) (Send (packet c_1 a_1 message.Heartbeat) ∷ []) (Send packet_39 ∷ []) (simp listed) (simp listed) (simp listed)
+    (in_going 0 (record c_30 { membership = ticked_31; steps = 7 }) c_31 (Send packet_39 ∷ []) [] (simp listed) (simp listed) (simp listed) refl refl (simp listed)))
     (simp listed)
+    refl
     (simp listed)
 
 -- ---- 32: a grants
@@ -362,6 +388,7 @@ step_32 =
     (simp listed)
     (simp listed)
     refl
+    refl
 
 -- ---- 33: c hears it, and is active
 abbrev ruled_33 : State
@@ -379,4 +406,5 @@ step_33 =
     in_stages (event.Packet packet_40) c_31 ruled_33 ruled_33 c_33 [] [] (Active 2 ∷ []) refl refl
     (simp listed)
     (simp listed)
+    refl
     (simp listed)

@@ -1,3 +1,5 @@
+pub mod Double
+pub mod DoubleMark
 pub mod Fold
 pub mod Held
 pub mod InRun
@@ -11,5 +13,6 @@ pub mod SettledLine
 pub mod Singletons
 pub mod StepText
 pub mod Worked
+pub mod Uids
 pub mod World
 pub mod WorldContracts

@@ -1,4 +1,4 @@
-ghost use Rattle.std.specs.Prelude.{◌≡◌, ◌⊎◌, ◌↔◌, ℕ, ◌+◌, ◌≤◌, List, ◌++◌, take, slice_get, true, Some, Ok, Contains, IsTrue, IsSomeAnd};
+ghost use Rattle.std.specs.Prelude.{◌≡◌, ◌⊎◌, ◌↔◌, ℕ, ◌+◌, ◌≤◌, List, ◌++◌, take, slice_get, true, Option, Some, None, Ok, Contains, IsTrue, IsSomeAnd};
 ghost use Rattle.ak_address.specs.Unique.{UniqueModel};
 ghost use Rattle.ak_address.specs.Uniques.{has};
 ghost use Rattle.ak_clock.specs.Version.{Counts, count, Covers};
@@ -28,6 +28,13 @@ ghost use Rattle.ak_world.specs.declared.margin.Margin.{Margin};
 ghost use Rattle.ak_world.specs.declared.margin.Margin.TheVariants.{Kept};
 ghost use Rattle.ak_world.specs.Noting.{HasSettled, NotesAt, TellsMarginEnd};
 ghost use Rattle.ak_world.specs.Singletons.{FinishedHaveStopped, IsActiveSingleton, OneIsActive, RunsSingleton};
+ghost use Rattle.ak_world.specs.Uids.{HaveUids};
+ghost use Rattle.ak_world.specs.Double.{Doubled, IsFirstDouble};
+ghost use Rattle.ak_coordinator.specs.Coordinator.{entry_of};
+ghost use Rattle.ak_coordinator.specs.Table.{ShardTable};
+ghost use Rattle.ak_region.specs.Marks.{marks_of};
+ghost use Rattle.ak_sharding.specs.Alive.{IsActive, Hosts};
+ghost use Rattle.ak_singleton.specs.declared.phase.Phase.TheVariants.{Active};
 ghost use Rattle.ak_world.specs.Margin.{IsStep, Runs, IsTold, IsUntold, IsMargin};
 ghost use Rattle.ak_world.specs.Worked.{alone, passing, rise, three};
 ghost use Rattle.ak_world.specs.InRun.{WasStarted, HasStopped, AllServe, RunAlone, IsConfirmed, IsNamedIn, IsSettled, HasNoted};
@@ -161,9 +168,9 @@ pub fn each_run_has_one_margin()
 
 /// Where the strategy is a static quorum of more than half of the listed addresses: after each number of events through which the
 /// removal margin was kept at most one node is an active singleton, by what nodes told (Akka's "Cluster Singleton"), also in a run
-/// that breaks the margin later.
+/// that breaks the margin later. Each process has a uid from 1 on, as the type of a process says.
 pub fn at_most_one_node_is_active()
-    ensures { (settings : SettingsModel) (events : List Event) (quorum time : ℕ) → IsOverHalf settings quorum → 1 ≤ settings.margin → IsMargin settings (take time events) Kept → OneIsActive settings (take time events) }
+    ensures { (settings : SettingsModel) (events : List Event) (quorum time : ℕ) → IsOverHalf settings quorum → 1 ≤ settings.margin → HaveUids (run settings events) → IsMargin settings (take time events) Kept → OneIsActive settings (take time events) }
 {}
 
 /// A node is an active singleton, by what it told, exactly where it runs and its phase is active.
@@ -210,4 +217,32 @@ pub fn an_activity_can_pass_to_another_node()
     ensures kept { IsMargin three passing Kept }
     ensures first { IsActiveSingleton three (take 15 passing) 0 }
     ensures second { IsActiveSingleton three passing 1 }
+{}
+
+/// Where the strategy is a static quorum of more than half of the listed addresses, and the removal margin was kept through these
+/// events: no entity starts at a node, by what the nodes tell, while it is active at another one.
+pub fn no_entity_starts_twice()
+    ensures { (settings : SettingsModel) (events : List Event) (quorum : ℕ) → IsOverHalf settings quorum → 1 ≤ settings.margin → IsMargin settings events Kept → HaveUids (run settings events)
+        → IsFirstDouble settings events None }
+{}
+
+/// Under the same premises no shard is hosted at two running nodes, and while a node is the active singleton its table has each
+/// shard that a running node hosts, with that node and the number with which it is hosted there.
+pub fn a_shard_has_one_home()
+    ensures hosted { (settings : SettingsModel) (events : List Event) (quorum : ℕ) → IsOverHalf settings quorum → 1 ≤ settings.margin → IsMargin settings events Kept → HaveUids (run settings events)
+        → (i j : ℕ) (n m : State) → slice_get (run settings events).nodes i ≡ Some n → slice_get (run settings events).nodes j ≡ Some m → IsTrue n.runs → IsTrue m.runs → (shard : ℕ) → Hosts n.sharding shard → Hosts m.sharding shard → i ≡ j }
+    ensures table { (settings : SettingsModel) (events : List Event) (quorum : ℕ) → IsOverHalf settings quorum → 1 ≤ settings.margin → IsMargin settings events Kept → HaveUids (run settings events)
+        → (i j : ℕ) (n m : State) → slice_get (run settings events).nodes i ≡ Some n → slice_get (run settings events).nodes j ≡ Some m → IsTrue n.runs → IsTrue m.runs → n.singleton.phase ≡ Active
+        → (shard : ℕ) → Hosts m.sharding shard → (table : ShardTable) × (n.sharding.table ≡ Some table) × ((entry_of table shard).home ≡ Some (record { owner = me_of m; number = (marks_of m.sharding.region shard).number })) }
+{}
+
+/// Under the same premises no entity is kept active at two running nodes.
+pub fn an_entity_is_at_one_node()
+    ensures { (settings : SettingsModel) (events : List Event) (quorum : ℕ) → IsOverHalf settings quorum → 1 ≤ settings.margin → IsMargin settings events Kept → HaveUids (run settings events)
+        → (i j : ℕ) (n m : State) → slice_get (run settings events).nodes i ≡ Some n → slice_get (run settings events).nodes j ≡ Some m → IsTrue n.runs → IsTrue m.runs → (entity : List ℕ) → IsActive n.sharding entity → IsActive m.sharding entity → i ≡ j }
+{}
+
+/// Of any events there is one first double at most: the entity, the two nodes and the step are the same, whoever finds them.
+pub fn each_run_has_one_first_double()
+    ensures { (settings : SettingsModel) (events : List Event) (one other : Option Doubled) → IsFirstDouble settings events one → IsFirstDouble settings events other → one ≡ other }
 {}

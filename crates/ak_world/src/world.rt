@@ -7,7 +7,7 @@ ghost use Rattle.ak_world.specs.Singletons.{FinishedHaveStopped, OneIsActive};
 ghost use Rattle.ak_world.specs.declared.margin.Margin.TheVariants.{Kept};
 ghost use Rattle.ak_world.specs.MarginMark as mark;
 ghost use Rattle.std.specs.List.{list_any, position};
-ghost use Rattle.ak_address.specs.Unique.{UniqueModel};
+ghost use Rattle.ak_address.specs.Unique.{IsUnique, UniqueModel};
 ghost use Rattle.ak_address.specs.Uniques.{has};
 ghost use Rattle.ak_clock.specs.Version.{Counts, Covers};
 ghost use Rattle.ak_history.specs.declared.entry.Entry.{Entry};
@@ -56,7 +56,7 @@ pub enum Reason {
     TooManyPackets,
     /// As many processes were started as may be: 64.
     TooManyStarts,
-    /// Entities are not built yet.
+    /// Offers are not built into the world yet.
     NotBuilt,
 }
 
@@ -505,6 +505,21 @@ fn keep_event(alloc: Global, event: &Event, accepted: &mut Vec<KeptEvent>) -> Re
     Ok(())
 }
 
+// Each tells a proof what is true of every value of a type. They do nothing.
+fn process(who: &Unique)
+    ensures { IsUnique who.now }
+{
+    let _uid = who.uid;
+}
+
+fn start_has_uid(event: &Event)
+    ensures { (u : UniqueModel) → event.now ≡ Event.Start u → 1 ≤ u.uid }
+{
+    if let Event::Start(who) = event {
+        process(who);
+    }
+}
+
 // How many events there are.
 fn count_of(events: &[KeptEvent]) -> u64
     ensures { result ≡ length events.now }
@@ -531,11 +546,13 @@ impl Model for World {
     ghost use Rattle.ak_membership.specs.contracts.membership.Membership as membership;
     ghost use Rattle.ak_promise.specs.Ballot.{coded_ballot};
     ghost use Rattle.ak_wire.specs.Stored.{coded_counts};
+    ghost use Rattle.ak_singleton.specs.SingletonView.{coded_singleton};
+    ghost use Rattle.ak_sharding.specs.ShardingView.{coded_sharding};
     ghost use Rattle.ak_world.specs.WorldContracts.{WorldModel, state_of, IsWorld};
 
     ghost Value = { WorldModel };
 
-    ghost coded = { Prim.hlevel (codes, coded_address, coded_unique, coded_uniques, coded_settings, coded_gossip, coded_ballot, coded_counts, membership.the_row.coded) };
+    ghost coded = { Prim.hlevel (codes, coded_address, coded_unique, coded_uniques, coded_settings, coded_gossip, coded_ballot, coded_counts, membership.the_row.coded, coded_singleton, coded_sharding) };
 
     ghost view = { λ w. record { settings = w.scene.settings; state = state_of w.scene; events = w.accepted.items; spent = w.is_spent } };
 
@@ -612,6 +629,7 @@ impl World {
         ensures finished { (time : ℕ) → IsMargin self.new.settings (take time self.new.events) Kept → FinishedHaveStopped self.new.settings (take time self.new.events) }
     {
         self.scene.settings.invariant();
+        start_has_uid(event);
         if self.is_spent {
             return Err(Refused::NoMemory);
         }

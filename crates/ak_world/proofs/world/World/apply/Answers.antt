@@ -12,7 +12,9 @@ use Rattle.ak_world.proofs.InRunLemmas.{serve-of_run, confirmed-of_run, alone-of
 use Rattle.ak_world.proofs.Noted.{noted_in_order}
 use Rattle.ak_world.proofs.SettledRuns.{in_line, noted-of_run}
 use Rattle.ak_world.proofs.MarginRuns.{went_margin}
+use Rattle.ak_world.specs.Uids.{HaveUids}
 use Rattle.ak_world.proofs.OneActiveRuns.{finished-of_run, one_active-of_run}
+use Rattle.ak_world.proofs.UidsOfStarts.{next_uids}
 use Rattle.ak_world.proofs.WorldLemmas.{ready_run, few_run, length-states, run-went, at-ok}
 use Rattle.ak_world.proofs.world.World.apply.Goals as goal
 
@@ -32,6 +34,9 @@ invariant_of-self c =
       is_margin =
           went_margin c.self.inside.scene.settings _ _ _ c.self.inside.accepted.items _ c.args.event.now _ c.self.inside.margin _ _ (c.self.invariant.is_run c.if-self.false) c.happens.ensures.settings kept (c.count_of-number.ensures ∙ ap length c.deref.ensures.value) c.in-Ok.ensures.scenes
           c.marked-margin.ensures c.self.invariant.is_margin;
+      uids =
+          subst (λ (s : SettingsModel). HaveUids (run s c.keep_event.new.accepted.items)) (sym c.happens.ensures.settings)
+          (subst (λ (l : List Event). HaveUids (run c.self.inside.scene.settings l)) (sym kept) (next_uids c.self.inside.scene.settings c.self.inside.accepted.items c.args.event.now c.self.invariant.uids c.start_has_uid.ensures));
     }
 
 pub marked-margin-requires : goal.marked-margin-requires
@@ -164,31 +169,45 @@ returns-in-Err-Invalid-clause-noted c =
     λ alive. noted-of_run c.happens.new.self.settings c.self.inside.accepted.items (state_of c.happens.new.self) (is_run alive)
 
 pub returns-then-self-clause-one_active : goal.returns-then-self-clause-one_active
-returns-then-self-clause-one_active c = one_active-of_run _ _ (subst (λ (w : WorldModel). 1 ≤ w.settings.margin) c.self.view_is c.invariant.ensures.margin.from)
+returns-then-self-clause-one_active c =
+    one_active-of_run _ _ (subst (λ (w : WorldModel). HaveUids (run w.settings w.events)) c.self.view_is c.self.invariant.uids) (subst (λ (w : WorldModel). 1 ≤ w.settings.margin) c.self.view_is c.invariant.ensures.margin.from)
 
 pub returns-then-self-clause-finished : goal.returns-then-self-clause-finished
 returns-then-self-clause-finished c = finished-of_run _ _ (subst (λ (w : WorldModel). 1 ≤ w.settings.margin) c.self.view_is c.invariant.ensures.margin.from)
 
 pub returns-then-is_ok-clause-one_active : goal.returns-then-is_ok-clause-one_active
-returns-then-is_ok-clause-one_active c = one_active-of_run _ _ (subst (λ (s : SettingsModel). 1 ≤ s.margin) (sym c.happens.ensures.settings) c.invariant.ensures.margin.from)
+returns-then-is_ok-clause-one_active c =
+    let kept : c.keep_event.new.accepted.items ≡ c.self.inside.accepted.items ++ c.args.event.now ∷ [] =
+    at-ok c.keep_event.result _ (sym c.is_ok.ensures.value ∙ c.if-is_ok.true) c.keep_event.ensures.ok in
+    let uids =
+    subst (λ (s : SettingsModel). HaveUids (run s c.keep_event.new.accepted.items)) (sym c.happens.ensures.settings)
+    (subst (λ (l : List Event). HaveUids (run c.self.inside.scene.settings l)) (sym kept) (next_uids c.self.inside.scene.settings c.self.inside.accepted.items c.args.event.now c.self.invariant.uids c.start_has_uid.ensures)) in
+    one_active-of_run _ _ uids (subst (λ (s : SettingsModel). 1 ≤ s.margin) (sym c.happens.ensures.settings) c.invariant.ensures.margin.from)
 
 pub returns-then-is_ok-clause-finished : goal.returns-then-is_ok-clause-finished
 returns-then-is_ok-clause-finished c = finished-of_run _ _ (subst (λ (s : SettingsModel). 1 ≤ s.margin) (sym c.happens.ensures.settings) c.invariant.ensures.margin.from)
 
 pub returns-else-is_ok-clause-one_active : goal.returns-else-is_ok-clause-one_active
-returns-else-is_ok-clause-one_active c = one_active-of_run _ _ (subst (λ (s : SettingsModel). 1 ≤ s.margin) (sym c.happens.ensures.settings) c.invariant.ensures.margin.from)
+returns-else-is_ok-clause-one_active c =
+    let same : c.keep_event.new.accepted.items ≡ c.self.inside.accepted.items = grind (arith, common_steps) in
+    let uids =
+    subst (λ (s : SettingsModel). HaveUids (run s c.keep_event.new.accepted.items)) (sym c.happens.ensures.settings)
+    (subst (λ (l : List Event). HaveUids (run c.self.inside.scene.settings l)) (sym same) c.self.invariant.uids) in
+    one_active-of_run _ _ uids (subst (λ (s : SettingsModel). 1 ≤ s.margin) (sym c.happens.ensures.settings) c.invariant.ensures.margin.from)
 
 pub returns-else-is_ok-clause-finished : goal.returns-else-is_ok-clause-finished
 returns-else-is_ok-clause-finished c = finished-of_run _ _ (subst (λ (s : SettingsModel). 1 ≤ s.margin) (sym c.happens.ensures.settings) c.invariant.ensures.margin.from)
 
 pub returns-in-Err-NoMemory-clause-one_active : goal.returns-in-Err-NoMemory-clause-one_active
-returns-in-Err-NoMemory-clause-one_active c = one_active-of_run _ _ (subst (λ (s : SettingsModel). 1 ≤ s.margin) (sym c.happens.ensures.settings) c.invariant.ensures.margin.from)
+returns-in-Err-NoMemory-clause-one_active c =
+    one_active-of_run _ _ (subst (λ (s : SettingsModel). HaveUids (run s c.self.inside.accepted.items)) (sym c.happens.ensures.settings) c.self.invariant.uids) (subst (λ (s : SettingsModel). 1 ≤ s.margin) (sym c.happens.ensures.settings) c.invariant.ensures.margin.from)
 
 pub returns-in-Err-NoMemory-clause-finished : goal.returns-in-Err-NoMemory-clause-finished
 returns-in-Err-NoMemory-clause-finished c = finished-of_run _ _ (subst (λ (s : SettingsModel). 1 ≤ s.margin) (sym c.happens.ensures.settings) c.invariant.ensures.margin.from)
 
 pub returns-in-Err-Invalid-clause-one_active : goal.returns-in-Err-Invalid-clause-one_active
-returns-in-Err-Invalid-clause-one_active c = one_active-of_run _ _ (subst (λ (s : SettingsModel). 1 ≤ s.margin) (sym c.happens.ensures.settings) c.invariant.ensures.margin.from)
+returns-in-Err-Invalid-clause-one_active c =
+    one_active-of_run _ _ (subst (λ (s : SettingsModel). HaveUids (run s c.self.inside.accepted.items)) (sym c.happens.ensures.settings) c.self.invariant.uids) (subst (λ (s : SettingsModel). 1 ≤ s.margin) (sym c.happens.ensures.settings) c.invariant.ensures.margin.from)
 
 pub returns-in-Err-Invalid-clause-finished : goal.returns-in-Err-Invalid-clause-finished
 returns-in-Err-Invalid-clause-finished c = finished-of_run _ _ (subst (λ (s : SettingsModel). 1 ≤ s.margin) (sym c.happens.ensures.settings) c.invariant.ensures.margin.from)
