@@ -27,7 +27,7 @@ use Rattle.ak_world.proofs.Told.{world_then, what_happened}
 use Rattle.ak_world.proofs.WhatHappened.{begins, steps, nobody, Happened}
 use Rattle.ak_world.proofs.WorldLemmas.{run-push}
 
-before_or_last : (a b : ℕ) → a < suc b → (a < b) ⊎ (a ≡ b)
+pub before_or_last : (a b : ℕ) → a < suc b → (a < b) ⊎ (a ≡ b)
 before_or_last zero zero lt = inr refl
 before_or_last zero (suc b) lt = inl (omega arith)
 before_or_last (suc a) zero lt = absurd (omega (arith, lt))

@@ -79,19 +79,25 @@ module _ (settings : SettingsModel) (events : List Event) (e : Event) where
   within_of : (time place node : ℕ) (a : Action) → Acts settings events time place node a → time < length events
   within_of time place node a x = slice_get_within events time x.event x.did.at
 
-  doubled_later : (time place node other : ℕ) (x : List ℕ) → IsDoubled settings events time place node other x → IsDoubled settings more time place node other x
+  pub doubled_later : (time place node other : ℕ) (x : List ℕ) → IsDoubled settings events time place node other x → IsDoubled settings more time place node other x
   doubled_later time place node other x d = record {
     starts = acts_later time place node (action.Entity x) d.starts;
     apart = d.apart;
     active = active_later time place other x (within_of time place node (action.Entity x) d.starts) d.active;
   }
 
-  doubled_sooner : (time place node other : ℕ) (x : List ℕ) → time < length events → IsDoubled settings more time place node other x → IsDoubled settings events time place node other x
+  pub doubled_sooner : (time place node other : ℕ) (x : List ℕ) → time < length events → IsDoubled settings more time place node other x → IsDoubled settings events time place node other x
   doubled_sooner time place node other x within d = record {
     starts = acts_sooner time place node (action.Entity x) within d.starts;
     apart = d.apart;
     active = active_sooner time place other x within d.active;
   }
+
+  -- and the same node was the first of those at which the entity was active
+  pub least_later : (d : Doubled) (f : IsFirst settings events d) (other : ℕ) → IsDoubled settings events f.time f.place d.started other d.entity → ComesNotAfter (run settings (take (f.time + 1) more)).nodes d.active other
+  least_later d f other is =
+      let within = within_of f.time f.place d.started (action.Entity d.entity) f.doubled.starts in
+      subst (λ l. ComesNotAfter (run settings l).nodes d.active other) (sym (take_first (f.time + 1) events e (omega (arith, within)))) (f.least other is)
 
   -- ---- the last step
   module _ (done : Done) (did : happens settings e (run settings events) ≡ Ok done) where
@@ -142,7 +148,7 @@ module _ (settings : SettingsModel) (events : List Event) (e : Event) where
           time = f.time;
           place = f.place;
           doubled = doubled_later f.time f.place d.started d.active d.entity f.doubled;
-          least = λ other is. subst (λ l. ComesNotAfter (run settings l).nodes d.active other) (sym (take_first (f.time + 1) events e (omega (arith, within)))) (f.least other (doubled_sooner f.time f.place d.started other d.entity within is));
+          least = λ other is. least_later d f other (doubled_sooner f.time f.place d.started other d.entity within is);
           first = λ later later_place node other x is. elim (old_or_last later later_place node other x is) [
             | inl old ↦ f.first later later_place node other x old
             | inr new ↦ inl (let at = new.0 in omega (arith, within, at))

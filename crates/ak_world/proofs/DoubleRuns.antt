@@ -173,7 +173,6 @@ module _ (settings : SettingsModel) (events : List Event) (quorum : ℕ) (over_h
   pub none_doubled : IsFirstDouble settings events None
   none_doubled = no_double
 
--- ---- the same of a world that is the run: as a clause of `apply` says it
-module _ (settings : SettingsModel) (events : List Event) (w : WorldState) (is_run : w ≡ run settings events) (uids : HaveUids w) (least : 1 ≤ settings.margin) where
-  pub no_double-of_run : (quorum : ℕ) → IsOverHalf settings quorum → IsMargin settings events Kept → IsFirstDouble settings events None
-  no_double-of_run quorum over_half kept = none_doubled settings events quorum over_half least kept (subst HaveUids is_run uids)
+-- ---- as a clause of `apply` says it
+pub no_double-of_run : (settings : SettingsModel) (events : List Event) → HaveUids (run settings events) → 1 ≤ settings.margin → (quorum time : ℕ) → IsOverHalf settings quorum → IsMargin settings (take time events) Kept → IsFirstDouble settings (take time events) None
+no_double-of_run settings events uids least quorum time over_half kept = none_doubled settings (take time events) quorum over_half least kept (uids_first settings events time uids)

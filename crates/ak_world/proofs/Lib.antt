@@ -7,6 +7,7 @@ pub mod ByStart
 pub mod Closed
 pub mod ClosedRuns
 pub mod DoubleKept
+pub mod DoubleLoops
 pub mod DoubleMarks
 pub mod DoubleRuns
 pub mod FinishedRuns
@@ -37,6 +38,7 @@ pub mod Rises
 pub mod SeenHeld
 pub mod SettledRuns
 pub mod ShownLine
+pub mod SomeDouble
 pub mod StepLemmas
 pub mod StepStages
 pub mod TellsRuns

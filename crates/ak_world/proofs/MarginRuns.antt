@@ -353,17 +353,18 @@ kept_at_first settings time place node who u = contains_nothing u.event (contain
 
 -- ---- a refused event
 module _ (settings : SettingsModel) (events : List Event) (e : Event) (why : Reason) (refused : happens settings e (run settings events) ≡ Err why) where
-  none_last : (time place node : ℕ) (who : UniqueModel) (u : IsUntold settings (events ++ e ∷ []) time place node who) → time ≡ length events → u.event ≡ e → ⊥
-  none_last time place node who u is same =
+  -- it is no step
+  pub not_last : (time : ℕ) (event : Event) (done : Done) → IsStep settings (events ++ e ∷ []) time event done → time ≡ length events → event ≡ e → ⊥
+  not_last time event done s is same =
       let whole : take time (events ++ e ∷ []) ≡ events = ap (λ k. take k (events ++ e ∷ [])) is ∙ take_whole events e in
-      let accepted : happens settings e (run settings events) ≡ Ok u.done =
-      ap (λ (l : List Event). happens settings e (run settings l)) (sym whole) ∙ ap (λ x. happens settings x (run settings (take time (events ++ e ∷ [])))) (sym same) ∙ u.did.happened in
+      let accepted : happens settings e (run settings events) ≡ Ok done =
+      ap (λ (l : List Event). happens settings e (run settings l)) (sym whole) ∙ ap (λ x. happens settings x (run settings (take time (events ++ e ∷ [])))) (sym same) ∙ s.happened in
       absurd (let both = sym refused ∙ accepted in cc)
 
   untold_old : (time place node : ℕ) (who : UniqueModel) → IsUntold settings (events ++ e ∷ []) time place node who → IsUntold settings events time place node who
   untold_old time place node who u = elim (old_or_new settings events e time u.event u.did.at) [
     | inl old ↦ untold_sooner settings events e time place node who u old
-    | inr new ↦ absurd (none_last time place node who u new.0 new.1)
+    | inr new ↦ absurd (not_last time u.event u.done u.did new.0 new.1)
   ]
 
   same_run : run settings (events ++ e ∷ []) ≡ run settings events

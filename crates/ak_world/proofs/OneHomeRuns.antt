@@ -1,6 +1,6 @@
 -- While the removal margin is kept no shard is hosted at two running nodes, and the running coordinator's table has each shard that a
 -- running node hosts; so no entity is active at two running nodes.
-use Rattle.std.proofs.Common.{◌≡◌, ℕ, zero, suc, ◌≤◌, true, List, [], ◌∷◌, length, replicate, Option, Some, None, is_some, Result, Ok, Err, slice_get, IsTrue, refl, sym, ap, ◌∙◌, subst, true≢false}
+use Rattle.std.proofs.Common.{◌≡◌, ℕ, zero, suc, ◌≤◌, true, List, [], ◌∷◌, length, replicate, Option, Some, None, is_some, Result, Ok, Err, slice_get, take, IsTrue, refl, sym, ap, ◌∙◌, subst, true≢false}
 use Rattle.ak_coordinator.specs.Table.{ShardTable}
 use Rattle.ak_coordinator.specs.Coordinator.{entry_of}
 use Rattle.ak_region.specs.Slot.{untold}
@@ -35,7 +35,9 @@ use Rattle.ak_world.specs.RunLine.{line_of}
 use Rattle.ak_world.specs.SettledLine.{IsOverHalf}
 use Rattle.ak_world.specs.World.{WorldState, Done, empty_world, happens, after, run_from, run}
 use Rattle.ak_world.proofs.FoldRuns.{run_sound}
+use Rattle.ak_world.specs.Homes.{HasOneHome}
 use Rattle.ak_world.specs.Uids.{HaveUids}
+use Rattle.ak_world.proofs.Addressed.{uids_first}
 use Rattle.ak_world.proofs.Mirrored as mirrors
 use Rattle.ak_world.proofs.Mirrored.{IsMirrored}
 
@@ -136,3 +138,12 @@ module _ (settings : SettingsModel) (events : List Event) (quorum : ℕ) (over_h
       by_table : (o : Option ShardTable) → n.sharding.table ≡ o → is_some n.sharding.table ≡ true → (table : ShardTable) × (n.sharding.table ≡ Some table) × ((entry_of table shard).home ≡ Some (record { owner = me_of m; number = (marks_of m.sharding.region shard).number }))
       by_table None none some = absurd (true≢false (sym some ∙ ap is_some none))
       by_table (Some table) has some = (table, has, in_its_table i j n m at_i at_j runs_n runs_m active table has shard hosts)
+
+-- ---- as a clause of `apply` says it
+pub one_home-of_run : (settings : SettingsModel) (events : List Event) → HaveUids (run settings events) → 1 ≤ settings.margin → (quorum time : ℕ) → IsOverHalf settings quorum → IsMargin settings (take time events) Kept → HasOneHome settings (take time events)
+one_home-of_run settings events uids least quorum time over_half kept =
+    let now = uids_first settings events time uids in
+    record {
+      hosted = one_host settings (take time events) quorum over_half least kept now;
+      table = λ i j n m at_i at_j active runs shard hosts. in_table settings (take time events) quorum over_half least kept now i j n m at_i at_j active.0 runs active.1 shard hosts;
+    }

@@ -2,6 +2,7 @@ pub mod Double
 pub mod DoubleMark
 pub mod Fold
 pub mod Held
+pub mod Homes
 pub mod InRun
 pub mod Kept
 pub mod Margin

@@ -30,11 +30,8 @@ ghost use Rattle.ak_world.specs.Noting.{HasSettled, NotesAt, TellsMarginEnd};
 ghost use Rattle.ak_world.specs.Singletons.{FinishedHaveStopped, IsActiveSingleton, OneIsActive, RunsSingleton};
 ghost use Rattle.ak_world.specs.Uids.{HaveUids};
 ghost use Rattle.ak_world.specs.Double.{Doubled, IsFirstDouble};
-ghost use Rattle.ak_coordinator.specs.Coordinator.{entry_of};
-ghost use Rattle.ak_coordinator.specs.Table.{ShardTable};
-ghost use Rattle.ak_region.specs.Marks.{marks_of};
-ghost use Rattle.ak_sharding.specs.Alive.{IsActive, Hosts};
-ghost use Rattle.ak_singleton.specs.declared.phase.Phase.TheVariants.{Active};
+ghost use Rattle.ak_sharding.specs.Alive.{IsActive};
+ghost use Rattle.ak_world.specs.Homes.{HasOneHome};
 ghost use Rattle.ak_world.specs.Margin.{IsStep, Runs, IsTold, IsUntold, IsMargin};
 ghost use Rattle.ak_world.specs.Worked.{alone, passing, rise, three};
 ghost use Rattle.ak_world.specs.InRun.{WasStarted, HasStopped, AllServe, RunAlone, IsConfirmed, IsNamedIn, IsSettled, HasNoted};
@@ -219,21 +216,17 @@ pub fn an_activity_can_pass_to_another_node()
     ensures second { IsActiveSingleton three passing 1 }
 {}
 
-/// Where the strategy is a static quorum of more than half of the listed addresses, and the removal margin was kept through these
-/// events: no entity starts at a node, by what the nodes tell, while it is active at another one.
+/// Where the strategy is a static quorum of more than half of the listed addresses: after each number of events through which the
+/// removal margin was kept no entity started at a node, by what nodes told, while it was active at another one (Akka's "Cluster
+/// Sharding"), also in a run that breaks the margin later. Each process has a uid from 1 on, as the type of a process says.
 pub fn no_entity_starts_twice()
-    ensures { (settings : SettingsModel) (events : List Event) (quorum : ℕ) → IsOverHalf settings quorum → 1 ≤ settings.margin → IsMargin settings events Kept → HaveUids (run settings events)
-        → IsFirstDouble settings events None }
+    ensures { (settings : SettingsModel) (events : List Event) (quorum time : ℕ) → IsOverHalf settings quorum → 1 ≤ settings.margin → HaveUids (run settings events) → IsMargin settings (take time events) Kept → IsFirstDouble settings (take time events) None }
 {}
 
 /// Under the same premises no shard is hosted at two running nodes, and while a node is the active singleton its table has each
 /// shard that a running node hosts, with that node and the number with which it is hosted there.
 pub fn a_shard_has_one_home()
-    ensures hosted { (settings : SettingsModel) (events : List Event) (quorum : ℕ) → IsOverHalf settings quorum → 1 ≤ settings.margin → IsMargin settings events Kept → HaveUids (run settings events)
-        → (i j : ℕ) (n m : State) → slice_get (run settings events).nodes i ≡ Some n → slice_get (run settings events).nodes j ≡ Some m → IsTrue n.runs → IsTrue m.runs → (shard : ℕ) → Hosts n.sharding shard → Hosts m.sharding shard → i ≡ j }
-    ensures table { (settings : SettingsModel) (events : List Event) (quorum : ℕ) → IsOverHalf settings quorum → 1 ≤ settings.margin → IsMargin settings events Kept → HaveUids (run settings events)
-        → (i j : ℕ) (n m : State) → slice_get (run settings events).nodes i ≡ Some n → slice_get (run settings events).nodes j ≡ Some m → IsTrue n.runs → IsTrue m.runs → n.singleton.phase ≡ Active
-        → (shard : ℕ) → Hosts m.sharding shard → (table : ShardTable) × (n.sharding.table ≡ Some table) × ((entry_of table shard).home ≡ Some (record { owner = me_of m; number = (marks_of m.sharding.region shard).number })) }
+    ensures { (settings : SettingsModel) (events : List Event) (quorum time : ℕ) → IsOverHalf settings quorum → 1 ≤ settings.margin → HaveUids (run settings events) → IsMargin settings (take time events) Kept → HasOneHome settings (take time events) }
 {}
 
 /// Under the same premises no entity is kept active at two running nodes.
@@ -242,7 +235,8 @@ pub fn an_entity_is_at_one_node()
         → (i j : ℕ) (n m : State) → slice_get (run settings events).nodes i ≡ Some n → slice_get (run settings events).nodes j ≡ Some m → IsTrue n.runs → IsTrue m.runs → (entity : List ℕ) → IsActive n.sharding entity → IsActive m.sharding entity → i ≡ j }
 {}
 
-/// Of any events there is one first double at most: the entity, the two nodes and the step are the same, whoever finds them.
+/// Of any events there is one first double, or none: the entity, the two nodes and the step are the same, whoever finds them.
 pub fn each_run_has_one_first_double()
-    ensures { (settings : SettingsModel) (events : List Event) (one other : Option Doubled) → IsFirstDouble settings events one → IsFirstDouble settings events other → one ≡ other }
+    ensures some { (settings : SettingsModel) (events : List Event) → (double : Option Doubled) × IsFirstDouble settings events double }
+    ensures one { (settings : SettingsModel) (events : List Event) (one other : Option Doubled) → IsFirstDouble settings events one → IsFirstDouble settings events other → one ≡ other }
 {}

@@ -22,6 +22,8 @@ ghost use Rattle.ak_world.specs.SettledLine.{WasSettled, IsOverHalf, AreInLine};
 ghost use Rattle.ak_schedule.specs.Settings.{settling_size};
 ghost use Rattle.ak_node.specs.Node as rules_of_nodes;
 ghost use Rattle.ak_node.specs.Sends.{AreValid, ComesValid};
+ghost use Rattle.ak_world.specs.Double.{IsFirstDouble};
+ghost use Rattle.ak_world.specs.Homes.{HasOneHome};
 ghost use Rattle.ak_world.specs.WorldContracts.{AreSpelled, Applies, Scenes, IsReady, Acts, Keeps, states, state_of};
 ghost use Rattle.ak_node.specs.NodeContracts.{NodeModel};
 
@@ -604,8 +606,11 @@ impl World {
     /// far, at whichever running nodes and whenever, are comparable: one covers the other. It matters neither what was delivered
     /// nor who stopped. What a node has noted as settled was settled.
     ///
-    /// Under such a quorum, after each number of accepted events through which the removal margin was kept, at most one node is an
-    /// active singleton, by what nodes told (Akka's "Cluster Singleton"): also where the margin is broken later. Under any strategy,
+    /// Under such a quorum, after each number of accepted events through which the removal margin was kept, also where it is broken
+    /// later: at most one node is an active singleton, by what nodes told (Akka's "Cluster Singleton"); no shard is hosted at two
+    /// running nodes, and while a node is active its table has each shard that a running node hosts, with that node and number;
+    /// and no entity started at a node, by what nodes told, while it was active at another one (Akka's "Cluster Sharding"). Under
+    /// any strategy,
     /// while the margin is kept, whoever is finished by the settled view of a node has stopped.
     pub fn apply(&mut self, alloc: Global, event: &Event) -> Result<Step, Refused>
         requires { length self.old.events < 2 ^ 62 }
@@ -626,6 +631,8 @@ impl World {
         ensures line { self.new.spent ≡ false → (quorum : ℕ) → IsOverHalf self.new.settings quorum → AreInLine self.new.settings self.new.events quorum }
         ensures noted { self.new.spent ≡ false → (index : ℕ) (n : State) (noted : NotedView) → slice_get self.new.state.nodes index ≡ Some n → n.membership.settled.view ≡ Some noted → WasSettled self.new.settings self.new.events (settling_size self.new.settings.strategy) noted.version }
         ensures one_active { (quorum time : ℕ) → IsOverHalf self.new.settings quorum → IsMargin self.new.settings (take time self.new.events) Kept → OneIsActive self.new.settings (take time self.new.events) }
+        ensures one_home { (quorum time : ℕ) → IsOverHalf self.new.settings quorum → IsMargin self.new.settings (take time self.new.events) Kept → HasOneHome self.new.settings (take time self.new.events) }
+        ensures no_double { (quorum time : ℕ) → IsOverHalf self.new.settings quorum → IsMargin self.new.settings (take time self.new.events) Kept → IsFirstDouble self.new.settings (take time self.new.events) None }
         ensures finished { (time : ℕ) → IsMargin self.new.settings (take time self.new.events) Kept → FinishedHaveStopped self.new.settings (take time self.new.events) }
     {
         self.scene.settings.invariant();

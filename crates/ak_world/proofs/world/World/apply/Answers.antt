@@ -14,6 +14,8 @@ use Rattle.ak_world.proofs.SettledRuns.{in_line, noted-of_run}
 use Rattle.ak_world.proofs.MarginRuns.{went_margin}
 use Rattle.ak_world.specs.Uids.{HaveUids}
 use Rattle.ak_world.proofs.OneActiveRuns.{finished-of_run, one_active-of_run}
+use Rattle.ak_world.proofs.OneHomeRuns.{one_home-of_run}
+use Rattle.ak_world.proofs.DoubleRuns.{no_double-of_run}
 use Rattle.ak_world.proofs.UidsOfStarts.{next_uids}
 use Rattle.ak_world.proofs.WorldLemmas.{ready_run, few_run, length-states, run-went, at-ok}
 use Rattle.ak_world.proofs.world.World.apply.Goals as goal
@@ -211,3 +213,61 @@ returns-in-Err-Invalid-clause-one_active c =
 
 pub returns-in-Err-Invalid-clause-finished : goal.returns-in-Err-Invalid-clause-finished
 returns-in-Err-Invalid-clause-finished c = finished-of_run _ _ (subst (λ (s : SettingsModel). 1 ≤ s.margin) (sym c.happens.ensures.settings) c.invariant.ensures.margin.from)
+
+pub returns-then-self-clause-one_home : goal.returns-then-self-clause-one_home
+returns-then-self-clause-one_home c =
+    one_home-of_run _ _ (subst (λ (w : WorldModel). HaveUids (run w.settings w.events)) c.self.view_is c.self.invariant.uids) (subst (λ (w : WorldModel). 1 ≤ w.settings.margin) c.self.view_is c.invariant.ensures.margin.from)
+
+pub returns-then-is_ok-clause-one_home : goal.returns-then-is_ok-clause-one_home
+returns-then-is_ok-clause-one_home c =
+    let kept : c.keep_event.new.accepted.items ≡ c.self.inside.accepted.items ++ c.args.event.now ∷ [] =
+    at-ok c.keep_event.result _ (sym c.is_ok.ensures.value ∙ c.if-is_ok.true) c.keep_event.ensures.ok in
+    let uids =
+    subst (λ (s : SettingsModel). HaveUids (run s c.keep_event.new.accepted.items)) (sym c.happens.ensures.settings)
+    (subst (λ (l : List Event). HaveUids (run c.self.inside.scene.settings l)) (sym kept) (next_uids c.self.inside.scene.settings c.self.inside.accepted.items c.args.event.now c.self.invariant.uids c.start_has_uid.ensures)) in
+    one_home-of_run _ _ uids (subst (λ (s : SettingsModel). 1 ≤ s.margin) (sym c.happens.ensures.settings) c.invariant.ensures.margin.from)
+
+pub returns-else-is_ok-clause-one_home : goal.returns-else-is_ok-clause-one_home
+returns-else-is_ok-clause-one_home c =
+    let same : c.keep_event.new.accepted.items ≡ c.self.inside.accepted.items = grind (arith, common_steps) in
+    let uids =
+    subst (λ (s : SettingsModel). HaveUids (run s c.keep_event.new.accepted.items)) (sym c.happens.ensures.settings)
+    (subst (λ (l : List Event). HaveUids (run c.self.inside.scene.settings l)) (sym same) c.self.invariant.uids) in
+    one_home-of_run _ _ uids (subst (λ (s : SettingsModel). 1 ≤ s.margin) (sym c.happens.ensures.settings) c.invariant.ensures.margin.from)
+
+pub returns-in-Err-NoMemory-clause-one_home : goal.returns-in-Err-NoMemory-clause-one_home
+returns-in-Err-NoMemory-clause-one_home c =
+    one_home-of_run _ _ (subst (λ (s : SettingsModel). HaveUids (run s c.self.inside.accepted.items)) (sym c.happens.ensures.settings) c.self.invariant.uids) (subst (λ (s : SettingsModel). 1 ≤ s.margin) (sym c.happens.ensures.settings) c.invariant.ensures.margin.from)
+
+pub returns-in-Err-Invalid-clause-one_home : goal.returns-in-Err-Invalid-clause-one_home
+returns-in-Err-Invalid-clause-one_home c =
+    one_home-of_run _ _ (subst (λ (s : SettingsModel). HaveUids (run s c.self.inside.accepted.items)) (sym c.happens.ensures.settings) c.self.invariant.uids) (subst (λ (s : SettingsModel). 1 ≤ s.margin) (sym c.happens.ensures.settings) c.invariant.ensures.margin.from)
+
+pub returns-then-self-clause-no_double : goal.returns-then-self-clause-no_double
+returns-then-self-clause-no_double c =
+    no_double-of_run _ _ (subst (λ (w : WorldModel). HaveUids (run w.settings w.events)) c.self.view_is c.self.invariant.uids) (subst (λ (w : WorldModel). 1 ≤ w.settings.margin) c.self.view_is c.invariant.ensures.margin.from)
+
+pub returns-then-is_ok-clause-no_double : goal.returns-then-is_ok-clause-no_double
+returns-then-is_ok-clause-no_double c =
+    let kept : c.keep_event.new.accepted.items ≡ c.self.inside.accepted.items ++ c.args.event.now ∷ [] =
+    at-ok c.keep_event.result _ (sym c.is_ok.ensures.value ∙ c.if-is_ok.true) c.keep_event.ensures.ok in
+    let uids =
+    subst (λ (s : SettingsModel). HaveUids (run s c.keep_event.new.accepted.items)) (sym c.happens.ensures.settings)
+    (subst (λ (l : List Event). HaveUids (run c.self.inside.scene.settings l)) (sym kept) (next_uids c.self.inside.scene.settings c.self.inside.accepted.items c.args.event.now c.self.invariant.uids c.start_has_uid.ensures)) in
+    no_double-of_run _ _ uids (subst (λ (s : SettingsModel). 1 ≤ s.margin) (sym c.happens.ensures.settings) c.invariant.ensures.margin.from)
+
+pub returns-else-is_ok-clause-no_double : goal.returns-else-is_ok-clause-no_double
+returns-else-is_ok-clause-no_double c =
+    let same : c.keep_event.new.accepted.items ≡ c.self.inside.accepted.items = grind (arith, common_steps) in
+    let uids =
+    subst (λ (s : SettingsModel). HaveUids (run s c.keep_event.new.accepted.items)) (sym c.happens.ensures.settings)
+    (subst (λ (l : List Event). HaveUids (run c.self.inside.scene.settings l)) (sym same) c.self.invariant.uids) in
+    no_double-of_run _ _ uids (subst (λ (s : SettingsModel). 1 ≤ s.margin) (sym c.happens.ensures.settings) c.invariant.ensures.margin.from)
+
+pub returns-in-Err-NoMemory-clause-no_double : goal.returns-in-Err-NoMemory-clause-no_double
+returns-in-Err-NoMemory-clause-no_double c =
+    no_double-of_run _ _ (subst (λ (s : SettingsModel). HaveUids (run s c.self.inside.accepted.items)) (sym c.happens.ensures.settings) c.self.invariant.uids) (subst (λ (s : SettingsModel). 1 ≤ s.margin) (sym c.happens.ensures.settings) c.invariant.ensures.margin.from)
+
+pub returns-in-Err-Invalid-clause-no_double : goal.returns-in-Err-Invalid-clause-no_double
+returns-in-Err-Invalid-clause-no_double c =
+    no_double-of_run _ _ (subst (λ (s : SettingsModel). HaveUids (run s c.self.inside.accepted.items)) (sym c.happens.ensures.settings) c.self.invariant.uids) (subst (λ (s : SettingsModel). 1 ≤ s.margin) (sym c.happens.ensures.settings) c.invariant.ensures.margin.from)
