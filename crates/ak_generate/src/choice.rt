@@ -14,8 +14,8 @@ pub(crate) enum Choice {
     Join,
 }
 
-// Of a hundred words in a row 35 choose a tick, 55 a delivery, 3 an offer, one each a leave, a down and a stop, and two each a
-// start and a join.
+// Of a hundred words one after another 35 choose a tick, 55 a delivery, 3 an offer, one each a leave, a down and a stop, and
+// two each a start and a join.
 pub(crate) fn choice_of(word: u32) -> Choice
     ensures { result ≡ choice_of (word % 100) }
 {

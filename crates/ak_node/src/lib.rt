@@ -2,6 +2,7 @@
 //! (Akka's Cluster Specification, "Membership Lifecycle"; the messages are this project's choice).
 #![tactic(auto)]
 
+mod actions;
 mod ballots;
 mod laws;
 mod node;

@@ -11,10 +11,11 @@ ghost use Rattle.ak_field.specs.Ranges.{IsEntity};
 ghost use Rattle.ak_node.specs.Sends.{AreValid, ComesValid, IsProcess, IsSaid};
 ghost use Rattle.ak_node.specs.NodeContracts.{Does, IsSameProcess, IsLeftOver, IsSilent, ServesWhileItRuns};
 
+use crate::actions::{one, refuse, tell, told};
 use ak_address::{Address, Text, Unique};
 use ak_field::EntityId;
 use ak_gossip::Gossip;
-use ak_membership::{Change, Closing, MemberFault, Membership, Reply};
+use ak_membership::{Change, Closing, Membership, Reply};
 use ak_promise::Ballot;
 use ak_schedule::Settings;
 use ak_settled::Settled;
@@ -58,61 +59,6 @@ pub struct State {
     pub runs: bool,
     /// How many events it was given while it ran.
     pub steps: u64,
-}
-
-// The number of a refusal; running out of memory has none.
-fn number_of(fault: &MemberFault) -> u8
-    ensures { result ≡ rules.number_of fault.now }
-{
-    match fault {
-        MemberFault::NotUp => 1,
-        MemberFault::UnknownMember => 2,
-        MemberFault::NotMember => 3,
-        MemberFault::Unlisted => 4,
-        MemberFault::ForeignCount { own: _, theirs: _ } => 5,
-        MemberFault::TooManyUniques { union: _ } => 6,
-        MemberFault::NoMemory => 0,
-    }
-}
-
-// One action alone.
-fn one(alloc: Global, action: Action) -> Result<Actions, AllocError>
-    ensures { IfOk result (λ actions. actions ≡ action ∷ []) }
-{
-    let mut actions = Actions::empty(alloc);
-    actions.push(action)?;
-    Ok(actions)
-}
-
-// Adds the update that a membership made, where it made one.
-fn tell(change: Change, actions: &mut Actions) -> Result<(), AllocError>
-    ensures { OnOk result (actions.new ≡ actions.old ++ rules.update_by change.number change.effects) }
-{
-    match change.number {
-        Some(number) => actions.push(Action::Update(number, change.effects)),
-        None => Ok(()),
-    }
-}
-
-// The update that a membership made, as an action, where it made one.
-fn told(alloc: Global, change: Change) -> Result<Actions, AllocError>
-    ensures { IfOk result (λ actions. actions ≡ rules.update_by change.number change.effects) }
-{
-    let mut actions = Actions::empty(alloc);
-    tell(change, &mut actions)?;
-    Ok(actions)
-}
-
-// A refusal as an action.
-fn refuse(alloc: Global, fault: MemberFault) -> Result<Actions, AllocError>
-    ensures told { IfOk result (λ actions. actions ≡ Action.Refused (rules.number_of fault) ∷ []) }
-    ensures numbered { OnOk result (1 ≤ rules.number_of fault) }
-{
-    let number = number_of(&fault);
-    if number == 0 {
-        return Err(AllocError);
-    }
-    one(alloc, Action::Refused(number))
 }
 
 impl State {

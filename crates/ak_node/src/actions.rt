@@ -1,0 +1,63 @@
+//! What a membership did, as actions.
+
+ghost use Rattle.std.specs.Prelude.{◌≡◌, ◌≤◌, ◌++◌, ◌∷◌, [], IfOk, OnOk};
+ghost use Rattle.ak_node.specs.Node as rules;
+
+use ak_membership::{Change, MemberFault};
+use ak_wire::{Action, Actions};
+use std::alloc::{AllocError, Global};
+
+// The number of a refusal; running out of memory has none.
+fn number_of(fault: &MemberFault) -> u8
+    ensures { result ≡ rules.number_of fault.now }
+{
+    match fault {
+        MemberFault::NotUp => 1,
+        MemberFault::UnknownMember => 2,
+        MemberFault::NotMember => 3,
+        MemberFault::Unlisted => 4,
+        MemberFault::ForeignCount { own: _, theirs: _ } => 5,
+        MemberFault::TooManyUniques { union: _ } => 6,
+        MemberFault::NoMemory => 0,
+    }
+}
+
+// One action alone.
+pub(crate) fn one(alloc: Global, action: Action) -> Result<Actions, AllocError>
+    ensures { IfOk result (λ actions. actions ≡ action ∷ []) }
+{
+    let mut actions = Actions::empty(alloc);
+    actions.push(action)?;
+    Ok(actions)
+}
+
+// Adds the update that a membership made, where it made one.
+pub(crate) fn tell(change: Change, actions: &mut Actions) -> Result<(), AllocError>
+    ensures { OnOk result (actions.new ≡ actions.old ++ rules.update_by change.number change.effects) }
+{
+    match change.number {
+        Some(number) => actions.push(Action::Update(number, change.effects)),
+        None => Ok(()),
+    }
+}
+
+// The update that a membership made, as an action, where it made one.
+pub(crate) fn told(alloc: Global, change: Change) -> Result<Actions, AllocError>
+    ensures { IfOk result (λ actions. actions ≡ rules.update_by change.number change.effects) }
+{
+    let mut actions = Actions::empty(alloc);
+    tell(change, &mut actions)?;
+    Ok(actions)
+}
+
+// A refusal as an action.
+pub(crate) fn refuse(alloc: Global, fault: MemberFault) -> Result<Actions, AllocError>
+    ensures told { IfOk result (λ actions. actions ≡ Action.Refused (rules.number_of fault) ∷ []) }
+    ensures numbered { OnOk result (1 ≤ rules.number_of fault) }
+{
+    let number = number_of(&fault);
+    if number == 0 {
+        return Err(AllocError);
+    }
+    one(alloc, Action::Refused(number))
+}
