@@ -5,11 +5,11 @@ use Rattle.std.proofs.lemmas.Bool.Decides.{leb_tells}
 use Rattle.ak_line.specs.Line.{IsLine}
 use Rattle.ak_line.specs.Moves.{Move}
 use Rattle.ak_line.specs.BallotOrder.{IsLater}
-use Rattle.ak_line.specs.Safe.{OneActive, OneHome, InTable}
+use Rattle.ak_line.specs.Safe.{OneActive, OneHome, OnePlace, InTable}
 use Rattle.ak_line.specs.Numbers.{Ages, HasCome, numbers, AreAllowed, cluster_after}
 use Rattle.ak_line.proofs.BallotOrderLaws.{later_strict}
 use Rattle.ak_line.proofs.OneActive.{one_active}
-use Rattle.ak_line.proofs.OneHome.{always_one_home, always_in_table}
+use Rattle.ak_line.proofs.OneHome.{always_one_home, always_one_place, always_in_table}
 
 still_come : (o : Option ℕ) (v w : ℕ) → v ≤ w → HasCome o v → HasCome o w
 still_come None v w below come = come
@@ -40,3 +40,6 @@ one_home_at a moves allowed = always_one_home (numbers a) (numbers_line a) IsLat
 
 pub in_table_at : (a : Ages) (moves : List (Move ℕ)) → AreAllowed a moves → InTable (numbers a) IsLater (cluster_after a moves)
 in_table_at a moves allowed = always_in_table (numbers a) (numbers_line a) IsLater later_strict moves allowed
+
+pub one_place_at : (a : Ages) (moves : List (Move ℕ)) → AreAllowed a moves → OnePlace (numbers a) IsLater (cluster_after a moves)
+one_place_at a moves allowed = always_one_place (numbers a) (numbers_line a) IsLater later_strict moves allowed

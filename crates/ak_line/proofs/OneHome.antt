@@ -10,7 +10,7 @@ use Rattle.ak_line.specs.Floors.{Floors, Latest}
 use Rattle.ak_line.specs.Placed.{Placed}
 use Rattle.ak_line.specs.Reported.{Reported}
 use Rattle.ak_line.specs.Hosted.{Hosted}
-use Rattle.ak_line.specs.Safe.{Safe, OneHome, InTable, OnlyHosted}
+use Rattle.ak_line.specs.Safe.{Safe, OneHome, OnePlace, InTable}
 use Rattle.ak_address.proofs.Elements.{contains_nothing}
 use Rattle.ak_line.proofs.Kept.{kept}
 use Rattle.ak_line.proofs.FloorsKept.{floors_kept}
@@ -97,9 +97,8 @@ module _ {V : Type 0} (l : Line V) (above : BallotModel → BallotModel → Type
       let a = s.hosted.housed x j at.0 at.1 in
       subst (λ i. ((w.node i).table j).home ≡ Some (record { node = x; number = ((w.node x).marks j).number })) (same_Some a.0 y (sym a.1 ∙ s.latest.current y t running active)) a.2
 
-  pub one_entity : (E : Type 0) (shard_of : E → ℕ) (active : Name → E → Type 0) → OnlyHosted l above w E shard_of active
-      → (x y : Name) (e : E) → runs l above w x → runs l above w y → active x e → active y e → x ≡ y
-  one_entity E shard_of active only x y e runs_x runs_y at_x at_y = one_home x y (shard_of e) (runs_x, only x e at_x) (runs_y, only y e at_y)
+  pub one_entity : OnePlace l above w
+  one_entity shard_of active only x y entity runs_x runs_y at_x at_y = one_home x y (shard_of entity) (runs_x, only x entity at_x) (runs_y, only y entity at_y)
 
 -- ---- after any moves from the start
 module _ {V : Type 0} (l : Line V) (line : IsLine V l) (above : BallotModel → BallotModel → Type 0) (strict : IsStrict above) (moves : List (Move V)) (allowed : AllAllowed l above (unstarted l above) moves) where
@@ -114,3 +113,6 @@ module _ {V : Type 0} (l : Line V) (line : IsLine V l) (above : BallotModel → 
 
   pub always_in_table : InTable l above (after_all l above (unstarted l above) moves)
   always_in_table = in_table l above end always_safe
+
+  pub always_one_place : OnePlace l above (after_all l above (unstarted l above) moves)
+  always_one_place = one_entity l above end always_safe

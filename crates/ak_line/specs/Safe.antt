@@ -1,5 +1,5 @@
 -- All that is true after any allowed moves, and what it means for shards and entities.
-use Rattle.std.specs.Prelude.{◌≡◌, ℕ, true, Some}
+use Rattle.std.specs.Prelude.{◌≡◌, ℕ, Bool, true, IsTrue, List, Some}
 use Rattle.ak_line.specs.Name.{Name}
 use Rattle.ak_promise.specs.Ballot.{BallotModel}
 use Rattle.ak_line.specs.Line.{Line}
@@ -40,3 +40,8 @@ module _ {V : Type 0} (l : Line V) (above : BallotModel → BallotModel → Type
   -- entities are active only while their shard is hosted
   abbrev pub OnlyHosted : Cluster V → (E : Type 0) → (E → ℕ) → (Name → E → Type 0) → Type 0
   OnlyHosted w E shard_of active = (x : Name) (e : E) → active x e → ((w.node x).marks (shard_of e)).hosts ≡ true
+
+  -- where entities are active only while their shard is hosted, whichever shards are theirs, none is active at two running nodes
+  abbrev pub OnePlace : Cluster V → Type 0
+  OnePlace w = (shard_of : List ℕ → ℕ) (active : Name → List ℕ → Bool) → OnlyHosted w (List ℕ) shard_of (λ x entity. IsTrue (active x entity))
+      → (x y : Name) (entity : List ℕ) → runs l above w x → runs l above w y → IsTrue (active x entity) → IsTrue (active y entity) → x ≡ y

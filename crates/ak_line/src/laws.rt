@@ -3,14 +3,15 @@ ghost use Rattle.ak_line.specs.BallotOrder.{IsLater};
 ghost use Rattle.ak_line.specs.Example.{IsActiveAfter, alone, both, me, moves, other, passing};
 ghost use Rattle.ak_line.specs.Moves.{Move};
 ghost use Rattle.ak_line.specs.Numbers.{Ages, AreAllowed, cluster_after, numbers};
-ghost use Rattle.ak_line.specs.Safe.{InTable, OneActive, OneHome, RunsShard};
+ghost use Rattle.ak_line.specs.Safe.{InTable, OneActive, OneHome, OnePlace, RunsShard};
 
 /// After any moves that their guards allow, from a cluster in which nobody has started: at most one running node is active, no
-/// shard is hosted at two running nodes, and while one is active its table has each shard that a running node hosts, with that
-/// node and number. Said here of versions that are numbers; the lemmas say it of every line of settled versions.
+/// shard is hosted at two running nodes, so that no entity which is active only where its shard is hosted is active at two; and
+/// while one is active its table has each shard that a running node hosts, with that node and number. Said here of versions that are numbers; the lemmas say it of every line of settled versions.
 pub fn one_is_active_and_shards_have_one_home()
     ensures active { (ages : Ages) (moves : List (Move ℕ)) → AreAllowed ages moves → OneActive (numbers ages) IsLater (cluster_after ages moves) }
     ensures home { (ages : Ages) (moves : List (Move ℕ)) → AreAllowed ages moves → OneHome (numbers ages) IsLater (cluster_after ages moves) }
+    ensures place { (ages : Ages) (moves : List (Move ℕ)) → AreAllowed ages moves → OnePlace (numbers ages) IsLater (cluster_after ages moves) }
     ensures table { (ages : Ages) (moves : List (Move ℕ)) → AreAllowed ages moves → InTable (numbers ages) IsLater (cluster_after ages moves) }
 {}
 
