@@ -41,6 +41,10 @@ abbrev pub is_exiting_as : Option (Status × ℕ) → Bool
 is_exiting_as None = false
 is_exiting_as (Some member) = is_exiting member.0
 
+-- a member, with its status and number, is Exiting
+abbrev pub is_exiting_pair : UniqueModel × (Status × ℕ) → Bool
+is_exiting_pair pair = is_exiting pair.1.0
+
 abbrev pub is_exiting_member : Standings → UniqueModel → Bool
 is_exiting_member s who = is_exiting_as (member_of (finmap.get s who))
 

@@ -255,6 +255,7 @@ impl Entry {
     }
 
     // A shard whose home is finished is free, and finished nodes are waited for no more.
+    #[tactic(auto, using(crate::proofs::TickLemmas::nothing_noticed))]
     pub(crate) fn notice(
         &mut self,
         alloc: Global,
@@ -265,6 +266,10 @@ impl Entry {
     {
         if self.has_finished_home(settled, margin) {
             self.free(alloc);
+            return Ok(());
+        }
+        // Mostly a shard does not move, and nobody is waited for.
+        if self.waits.len() == 0 {
             return Ok(());
         }
         let waits = unfinished(alloc, settled, margin, &self.waits)?;

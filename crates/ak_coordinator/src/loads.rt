@@ -1,8 +1,9 @@
-ghost use Rattle.std.specs.Prelude.{◌≡◌, ◌≤◌, ◌<◌, ◌++◌, ◌∷◌, [], length, IfOk, OnOk, option_to_list, slice_get};
+ghost use Rattle.std.specs.Prelude.{◌≡◌, ◌+◌, ◌≤◌, ◌<◌, ◌++◌, ◌∷◌, [], length, IfOk, OnOk, Ok, option_to_list, slice_get};
 ghost use Rattle.std.specs.Prelude as list;
 ghost use Rattle.std.specs.FinMap as map;
 ghost use Rattle.ak_address.specs.Counters.{counter};
-ghost use Rattle.ak_address.specs.Unique.{UniqueModel};
+ghost use Rattle.ak_address.specs.Pairs.{index};
+ghost use Rattle.ak_address.specs.Unique.{UniqueModel, unique_cmp};
 ghost use Rattle.ak_member.specs.Standing.{Standings};
 ghost use Rattle.ak_coordinator.specs.Coordinator.{less_one, loads_among};
 ghost use Rattle.ak_coordinator.specs.Homes.{with_home, AreHomes, loads_counted};
@@ -57,20 +58,44 @@ fn count_of(counts: &Table<u32>, who: &Unique) -> u32
     }
 }
 
+// The shards that were counted at the node that stands at a place.
+fn count_at(counts: &Table<u32>, place: usize) -> u32
+    ensures { (who : UniqueModel) → Ok place ≡ index unique_cmp who (map.entries counts.now) → result ≡ counter counts.now who }
+{
+    match counts.at(place) {
+        Some((_, count)) => *count,
+        None => 0,
+    }
+}
+
+// One shard more at the node, which is looked up once.
+fn count_one(alloc: Global, counts: &mut Table<u32>, who: &Unique) -> Result<(), AllocError>
+    requires { counter counts.old who.now < 1000 }
+    ensures { OnOk result (counts.new ≡ map.insert counts.old who.now (counter counts.old who.now + 1)) }
+{
+    match counts.place(who) {
+        Ok(place) => {
+            let count = count_at(counts, place) + 1;
+            counts.set_at(place, count);
+            Ok(())
+        }
+        Err(place) => {
+            let who = who.copy(alloc)?;
+            counts.insert_at(place, who, 1)?;
+            Ok(())
+        }
+    }
+}
+
 // One shard more at the home of a shard, where it has one.
 fn count_home(alloc: Global, counts: &mut Table<u32>, entry: &Entry) -> Result<(), AllocError>
     requires { (who : UniqueModel) → counter counts.old who < 1000 }
     ensures { OnOk result (counts.new ≡ with_home counts.old entry.now.home) }
 {
-    let Some(home) = &entry.home else {
-        return Ok(());
-    };
-    let count = count_of(counts, &home.owner) + 1;
-    if counts.update(&home.owner, count) {
-        return Ok(());
+    match &entry.home {
+        Some(home) => count_one(alloc, counts, &home.owner),
+        None => Ok(()),
     }
-    let owner = home.owner.copy(alloc)?;
-    counts.insert(owner, count)
 }
 
 // How many shards have their home at each node: one walk along the shards, each home looked up by halves.

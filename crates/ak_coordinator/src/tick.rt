@@ -1,11 +1,13 @@
 ghost use Rattle.std.specs.Prelude.{◌≡◌, ◌≤◌, ◌<◌, length, slice_get, option_copied, option_to_list, IfOk, OnOk, IfSome, IsSome};
 ghost use Rattle.std.specs.Prelude as list;
-ghost use Rattle.std.specs.List.{filter};
+ghost use Rattle.std.specs.List.{filter, list_any};
+ghost use Rattle.std.specs.FinMap as map;
 ghost use Rattle.ak_address.specs.Uniques.{in_order};
+ghost use Rattle.ak_member.specs.Standing.{member_pairs, members_of};
 ghost use Rattle.ak_settled.specs.Settled.{standings_of};
 ghost use Rattle.ak_coordinator.specs.Entry.{moves};
 ghost use Rattle.ak_coordinator.specs.Coordinator.{entry_of};
-ghost use Rattle.ak_coordinator.specs.Tick.{is_unfinished, unfinished, noticed, hurried, leaves_exiting, leaves_node, first_from, first_leaver, after_begin, moving};
+ghost use Rattle.ak_coordinator.specs.Tick.{is_unfinished, unfinished, noticed, hurried, is_exiting_pair, leaves_exiting, leaves_node, first_from, first_leaver, after_begin, moving};
 
 use crate::entry::Entry;
 use crate::loads::loads_in;
@@ -41,6 +43,10 @@ pub(crate) fn notice_each(
 ) -> Result<(), AllocError>
     ensures { OnOk result (entries.new ≡ list.map (noticed margin settled.now.view) entries.old) }
 {
+    // Whoever is finished was removed, and where nobody was, no shard is looked at.
+    if settled.members().buried_len() == 0 {
+        return Ok(());
+    }
     'entries: for entry in entries.iter_mut() {
         entry.notice(alloc, settled, margin)?;
     }
@@ -62,11 +68,37 @@ fn moving(entries: &[Entry]) -> usize
     entries.iter().filter(|entry| entry.moves()).count()
 }
 
+// Whether the member at a pair is Exiting.
+fn is_exiting_at(members: &Members, pair: usize) -> bool
+    ensures { result ≡ list_any is_exiting_pair (member_pairs (option_to_list (slice_get (map.entries members.now) pair))) }
+{
+    match members.member_at_pair(pair) {
+        Some(member) => member.status.is_exiting(),
+        None => false,
+    }
+}
+
+// Whether any member is Exiting.
+fn any_exiting(members: &Members) -> bool
+    ensures { result ≡ list_any is_exiting_pair (members_of members.now) }
+{
+    'pairs: for pair in 0..members.uniques() {
+        if is_exiting_at(members, pair) {
+            return true;
+        }
+    }
+    false
+}
+
 // The first shard that does not move and whose home is Exiting.
 fn first_exiting(entries: &[Entry], members: &Members) -> Option<usize>
     ensures first { result ≡ first_from 0 (leaves_exiting members.now) entries.now }
     ensures placed { IfSome result (λ shard. (shard < length entries.now) × IsSome (entry_of entries.now shard).home) }
 {
+    // Mostly no member is Exiting, and then no shard is looked at.
+    if !any_exiting(members) {
+        return None;
+    }
     'shards: for shard in 0..entries.len() {
         if entries[shard].leaves_exiting(members) {
             return Some(shard);

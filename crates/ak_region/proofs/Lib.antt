@@ -6,3 +6,4 @@ pub mod WantedLemmas
 pub mod MarkLemmas
 pub mod AsMoves
 pub mod StoredLemmas
+pub mod HousedLemmas

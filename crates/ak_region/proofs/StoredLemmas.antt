@@ -62,7 +62,7 @@ strange_padded : (s : Standings) (told : List ShardSlot) (n : ℕ) → map (with
 strange_padded s [] n = none_strange s n
 strange_padded s (slot ∷ told) n = ap (λ l. without_stranger s slot ∷ l) (strange_padded s told n)
 
-map_length : (s : Standings) (told : List ShardSlot) → length (map (without_stranger s) told) ≡ length told
+pub map_length : (s : Standings) (told : List ShardSlot) → length (map (without_stranger s) told) ≡ length told
 map_length s [] = refl
 map_length s (slot ∷ told) = ap suc (map_length s told)
 
@@ -133,13 +133,24 @@ slot_changed region shards told now messages most shard s f same fits inside rea
     ∙ ap (set (all_slots shards told) shard) (is ∙ ap f (reached_at told now shard n reaches ∙ sym (at_all shards told shard))))
     ∙ ap (λ r. with_slot r shard (f (slot_of r shard))) same
 
-pub strangers_gone : (s : Standings) (region : RegionModel) (shards len : ℕ) (told now : List ShardSlot) (messages : List Message) (most : ℕ) → kept_as shards told messages most ≡ region
-    → len ≡ length told → now ≡ map (without_stranger s) told → kept_as shards (take len (now ++ drop (length now) told)) messages most ≡ after_forget s region
-strangers_gone s region shards len told now messages most same long is =
+-- and there are not too many
+pub changed_fits : (region : RegionModel) (shards : ℕ) (told now : List ShardSlot) (messages : List Message) (most shard : ℕ) (s : ShardSlot) → kept_as shards told messages most ≡ region → length told ≤ shards
+    → shard < length region.slots → now ≡ told ++ replicate (shard + 1 - length told) untold → length (set now shard s) ≤ shards
+changed_fits region shards told now messages most shard s same fits inside reaches =
+    let n = shard + 1 - length told in
+    let below : shard < shards = subst (λ k. shard < k) (ap (λ (r : RegionModel). length r.slots) (sym same) ∙ all_length shards told fits) inside in
+    let many : length now ≡ length told + n = ap length reaches ∙ length-append told (replicate n untold) ∙ ap (λ k. length told + k) (length-replicate n untold) in
+    let long : length (set now shard s) ≡ length now = set_length now shard s in
+    omega (arith, many, long, below, fits)
+
+pub whole_written : (s : Standings) (len : ℕ) (told now : List ShardSlot) → len ≡ length told → now ≡ map (without_stranger s) told → take len (now ++ drop (length now) told) ≡ now
+whole_written s len told now long is =
     let many : length now ≡ length told = ap length is ∙ map_length s told in
-    let whole : take len (now ++ drop (length now) told) ≡ now =
     ap (λ l. take len (now ++ l)) (drop_all (length now) told (omega (arith, many)))
     ∙ ap (take len) (append-nil now)
     ∙ take_all len now (omega (arith, many, long))
-    in
-    ap (λ l. kept_as shards l messages most) (whole ∙ is) ∙ ap (λ l. record { slots = l; messages = messages; most = most }) (all_forgotten s shards told) ∙ ap (after_forget s) same
+
+pub strangers_gone : (s : Standings) (region : RegionModel) (shards len : ℕ) (told now : List ShardSlot) (messages : List Message) (most : ℕ) → kept_as shards told messages most ≡ region
+    → len ≡ length told → now ≡ map (without_stranger s) told → kept_as shards (take len (now ++ drop (length now) told)) messages most ≡ after_forget s region
+strangers_gone s region shards len told now messages most same long is =
+    ap (λ l. kept_as shards l messages most) (whole_written s len told now long is ∙ is) ∙ ap (λ l. record { slots = l; messages = messages; most = most }) (all_forgotten s shards told) ∙ ap (after_forget s) same

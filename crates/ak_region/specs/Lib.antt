@@ -1,3 +1,4 @@
+pub mod Housed
 pub mod Region
 pub mod RegionModel
 pub mod Reported

@@ -3,6 +3,7 @@
 #![tactic(auto)]
 
 mod buffer;
+mod homes;
 mod laws;
 mod region;
 mod slot;

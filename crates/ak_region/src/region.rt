@@ -5,6 +5,7 @@ ghost use Rattle.ak_region.specs.Slot.{at_home, host_answer, after_host, begun, 
 ghost use Rattle.ak_region.specs.Region.{new_region, slot_of, with_slot, entity_shard, route, after_offer, flushed, after_flush, wanted, after_forget, hosts_any, reports};
 
 use crate::buffer::{take_those_for, wait, wanted_in};
+use crate::homes::{add_home, are_members, keep_members};
 use crate::slot::{Hosting, Slot};
 use crate::told::{can_flush_at, home_at, hosted_at, reach, receives_at};
 use crate::walks::{any_hosted, forget_strangers, reports_of};
@@ -52,6 +53,8 @@ impl Model for Waiting {
 pub struct Region {
     // The slots up to the last shard that was told of, in room for all.
     told: Vec<Slot>,
+    // Each home that one of these slots has, once, and maybe more: whether there is a home to forget is read off these few.
+    homes: Vec<Unique>,
     shards: u32,
     buffer: HeapCircularBuffer<Waiting>,
     most: u32,
@@ -68,7 +71,7 @@ impl Model for Region {
 
     ghost view = { λ r. record { slots = all_slots r.shards r.told.items; messages = r.buffer.items; most = r.most } };
 
-    ghost invariant = { λ r. IsStored r.shards (vec_capacity r.told) r.most r.told.items r.buffer.items };
+    ghost invariant = { λ r. IsStored r.shards (vec_capacity r.told) r.most r.homes.items r.told.items r.buffer.items };
 }
 
 impl Region {
@@ -82,10 +85,12 @@ impl Region {
         ensures { IfOk result (λ region. region ≡ new_region shards buffer) }
     {
         let told = Vec::with_capacity(alloc, shards as usize)?;
+        let homes = Vec::new(alloc);
         let most = buffer;
         let buffer = HeapCircularBuffer::with_capacity(alloc, 0)?;
         Ok(Region {
             told,
+            homes,
             shards,
             buffer,
             most,
@@ -106,6 +111,7 @@ impl Region {
         ensures { self.new ≡ new_region (length self.old.slots) self.old.most }
     {
         self.told.clear();
+        self.homes.clear();
         self.buffer.clear();
     }
 
@@ -160,6 +166,7 @@ impl Region {
         ensures err { OnErr result (self.new ≡ self.old) }
     {
         let home = owner.copy(alloc)?;
+        add_home(&mut self.homes, alloc, owner)?;
         reach(&mut self.told, shard);
         self.told[shard as usize].set_home(home);
         Ok(())
@@ -183,6 +190,7 @@ impl Region {
         ensures err { OnErr result (self.new ≡ self.old) }
     {
         let home = me.copy(alloc)?;
+        add_home(&mut self.homes, alloc, me)?;
         reach(&mut self.told, shard);
         Ok(self.told[shard as usize].host(home, number))
     }
@@ -242,7 +250,12 @@ impl Region {
     pub fn forget(&mut self, members: &Members)
         ensures { self.new ≡ after_forget members.now self.old }
     {
+        // Mostly there is none, and then no slot is looked at.
+        if are_members(&self.homes, members) {
+            return;
+        }
         forget_strangers(&mut self.told, members);
+        keep_members(&mut self.homes, members);
     }
 
     /// The number with which the node hosts the shard, which is its mark; none where it does not. Takes no memory.
