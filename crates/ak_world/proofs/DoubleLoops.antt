@@ -1,6 +1,6 @@
 -- Of the first nodes of a list the first, in the order of processes, that runs and keeps an entity: how it goes on as a loop looks at one
 -- node after another.
-use Rattle.std.proofs.Common.{◌≡◌, ◌≢◌, ◌⊎◌, inl, inr, ℕ, zero, suc, ◌+◌, ◌<◌, ◌≤◌, List, [], ◌∷◌, length, take, take_all, Option, Some, None, slice_get, IsTrue, refl, sym, ap, ◌∙◌, subst, arith, true≢false}
+use Rattle.std.proofs.Common.{◌≡◌, ◌≢◌, Bool, true, false, ◌&&◌, is_some, ◌⊎◌, inl, inr, ℕ, zero, suc, ◌+◌, ◌<◌, ◌≤◌, List, [], ◌∷◌, length, take, take_all, Option, Some, None, slice_get, IsTrue, refl, sym, ap, ◌∙◌, subst, arith, true≢false}
 use Rattle.std.proofs.lemmas.Option.{same_Some, none-some, slice_get_within}
 use Rattle.std.specs.Ordering.{is_eq, is_lt, ordering_reverse}
 use Rattle.std.specs.declared.cmp.Ordering.{Ordering}
@@ -9,10 +9,12 @@ use Rattle.ak_address.specs.Unique.{UniqueModel, unique_cmp}
 use Rattle.ak_address.proofs.OrderLemmas.{unique_total, unique_exact}
 use Rattle.ak_address.proofs.TableLaws.{key_itself}
 use Rattle.ak_sharding.specs.Alive.{IsActive}
+use Rattle.ak_wire.specs.declared.action.Action.{Action}
+use Rattle.ak_wire.specs.declared.action.Action.TheVariants as action
 use Rattle.ak_node.specs.declared.node.State.{State}
 use Rattle.ak_node.specs.Node.{me_of}
-use Rattle.ak_world.specs.Double.{ComesNotAfter}
-use Rattle.ak_world.specs.DoubleMark.{Keeps, IsKeeper, FirstKeeper}
+use Rattle.ak_world.specs.Double.{ComesNotAfter, Doubled}
+use Rattle.ak_world.specs.DoubleMark.{Keeps, IsKeeper, FirstKeeper, StartsNone, MadeBy, DoublesAt, keeps, comes_before, comes_first}
 use Rattle.ak_world.proofs.DoubleKept.{before_or_last}
 
 -- ---- the order of processes
@@ -34,14 +36,14 @@ before_others u v w before least greater = by_order (unique_cmp v w) refl
 not_before : (u v : UniqueModel) → (unique_cmp u v ≡ Less → ⊥) → unique_cmp v u ≡ Greater → ⊥
 not_before u v never greater = never (unique_total.antisymm u v ∙ ap ordering_reverse greater)
 
--- ---- the first nodes of a list
-in_first : (nodes : List State) (index j : ℕ) (m : State) → slice_get (take index nodes) j ≡ Some m → (j < index) × (slice_get nodes j ≡ Some m)
+-- ---- the first of a list
+pub in_first : {X : Type 0} (nodes : List X) (index j : ℕ) (m : X) → slice_get (take index nodes) j ≡ Some m → (j < index) × (slice_get nodes j ≡ Some m)
 in_first nodes zero j m is = absurd (none-some m is)
 in_first [] (suc index) j m is = absurd (none-some m is)
 in_first (n ∷ nodes) (suc index) zero m is = (omega arith, is)
 in_first (n ∷ nodes) (suc index) (suc j) m is = let rest = in_first nodes index j m is in let lt = rest.0 in (omega (arith, lt), rest.1)
 
-first_in : (nodes : List State) (index j : ℕ) (m : State) → j < index → slice_get nodes j ≡ Some m → slice_get (take index nodes) j ≡ Some m
+pub first_in : {X : Type 0} (nodes : List X) (index j : ℕ) (m : X) → j < index → slice_get nodes j ≡ Some m → slice_get (take index nodes) j ≡ Some m
 first_in nodes zero j m lt is = absurd (omega (arith, lt))
 first_in [] (suc index) j m lt is = is
 first_in (n ∷ nodes) (suc index) zero m lt is = is
@@ -103,9 +105,9 @@ module _ (nodes : List State) where
 pub keeper_none : (nodes : List State) (entity : List ℕ) (but : ℕ) → FirstKeeper (take 0 nodes) entity but None
 keeper_none nodes entity but = λ other k apart. none-some k.node k.at
 
--- the one that was found is one of those that were looked at
-pub keeper_within : (nodes : List State) (entity : List ℕ) (but index best : ℕ) → FirstKeeper (take index nodes) entity but (Some best) → (best < index) × (best < length nodes)
-keeper_within nodes entity but index best first = let there = keeps_in nodes entity index best first.keeps in let k = there.1 in (there.0, slice_get_within nodes best k.node k.at)
+-- who keeps the entity is one of the nodes
+pub keeper_within : (nodes : List State) (entity : List ℕ) (but best : ℕ) → FirstKeeper nodes entity but (Some best) → best < length nodes
+keeper_within nodes entity but best first = slice_get_within nodes best first.keeps.node first.keeps.at
 
 -- past the last node there is nothing more to find
 pub keeper_past : (nodes : List State) (entity : List ℕ) (but index : ℕ) (found : Option ℕ) → slice_get nodes index ≡ None → FirstKeeper (take index nodes) entity but found → FirstKeeper (take (index + 1) nodes) entity but found
@@ -166,3 +168,76 @@ pub keeper_stays : (nodes : List State) (entity : List ℕ) (but index : ℕ) (n
     → (index ≡ but) ⊎ (((IsTrue n.runs × IsActive n.sharding entity) → ⊥) ⊎ ((best : ℕ) × (m : State) × (found ≡ Some best) × (slice_get nodes best ≡ Some m) × (unique_cmp (me_of n) (me_of m) ≡ Less → ⊥)))
     → FirstKeeper (take (index + 1) nodes) entity but found
 keeper_stays nodes entity but index n found at first why = stays_by nodes entity but index n at found first why
+
+-- ---- the same by the tests of the code
+both_hold : (a b : Bool) → a && b ≡ true → IsTrue a × (b ≡ true)
+both_hold true b is = (refl, is)
+both_hold false b is = absurd (true≢false (sym is))
+
+both_test : (a b : Bool) → IsTrue a → b ≡ true → a && b ≡ true
+both_test true b holds is = is
+both_test false b holds is = absurd (true≢false (sym holds))
+
+less_of : (o : Ordering) → is_lt o ≡ true → o ≡ Less
+less_of Less is = refl
+less_of Equal is = absurd (true≢false (sym is))
+less_of Greater is = absurd (true≢false (sym is))
+
+pub passed_itself : (nodes : List State) (entity : List ℕ) (but index : ℕ) (found : Option ℕ) → FirstKeeper (take index nodes) entity but found → index ≡ but → FirstKeeper (take (index + 1) nodes) entity but found
+passed_itself nodes entity but index None none same = none_stays nodes entity but index none (λ k apart. apart same)
+passed_itself nodes entity but index (Some number) first same = one_stays nodes entity but index number first (λ k apart. absurd (apart same))
+
+module _ (nodes : List State) (entity : List ℕ) (but index : ℕ) (n : State) (at : slice_get nodes index ≡ Some n) where
+  compared : (best : ℕ) (m : State) (b : Bool) → slice_get nodes best ≡ Some m → comes_first nodes index (Some best) ≡ b → is_lt (unique_cmp (me_of n) (me_of m)) ≡ b
+  compared best m b also is = sym (ap (comes_before (Some n)) also) ∙ sym (ap (λ o. comes_before o (slice_get nodes best)) at) ∙ is
+
+  pub keeper_next : (found : Option ℕ) → FirstKeeper (take index nodes) entity but found → index ≢ but → keeps entity n ≡ true → comes_first nodes index found ≡ true → FirstKeeper (take (index + 1) nodes) entity but (Some index)
+  keeper_next found first apart kept before =
+      let k = both_hold n.runs _ kept in
+      keeper_found nodes entity but index n found at first apart k.0 k.1
+      (λ best m is_best also. less_of (unique_cmp (me_of n) (me_of m)) (compared best m true also (subst (λ o. comes_first nodes index o ≡ true) is_best before)))
+
+  pub passed_idle : (found : Option ℕ) → FirstKeeper (take index nodes) entity but found → keeps entity n ≡ false → FirstKeeper (take (index + 1) nodes) entity but found
+  passed_idle found first idle = keeper_stays nodes entity but index n found at first (inr (inl (λ k. true≢false (sym (both_test n.runs _ k.0 k.1) ∙ idle))))
+
+  pub passed_later : (found : Option ℕ) → FirstKeeper (take index nodes) entity but found → comes_first nodes index found ≡ false → FirstKeeper (take (index + 1) nodes) entity but found
+  passed_later None first later = absurd (true≢false later)
+  passed_later (Some best) first later =
+      let k = (keeps_in nodes entity index best first.keeps).1 in
+      keeper_stays nodes entity but index n (Some best) at first
+      (inr (inr (best, k.node, refl, k.at, λ less. true≢false (sym (ap is_lt less) ∙ compared best k.node false k.at later))))
+
+-- ---- an action, and the first of a list of actions
+abbrev entity_in : Action → List ℕ
+entity_in (action.Entity entity) = entity
+entity_in _ = []
+
+-- no other node keeps what the action starts
+pub made_none : (nodes : List State) (x : List ℕ) (acting : ℕ) (a : Action) (found : Option ℕ) → a ≡ action.Entity x → found ≡ None → FirstKeeper nodes x acting found
+    → (y : List ℕ) → a ≡ action.Entity y → FirstKeeper nodes y acting None
+made_none nodes x acting a found is none first y also =
+    subst (λ e. FirstKeeper nodes e acting None) (ap entity_in (sym is ∙ also)) (subst (λ o. FirstKeeper nodes x acting o) none first)
+
+module _ (nodes : List State) (acting step : ℕ) (actions : List Action) where
+  pub starts_more : (index : ℕ) (a : Action) → slice_get actions index ≡ Some a → StartsNone nodes acting (take index actions) → MadeBy step nodes acting a None → StartsNone nodes acting (take (index + 1) actions)
+  starts_more index a at before here place x is =
+      let there = in_first actions (index + 1) place (action.Entity x) is in
+      elim (before_or_last place index (let lt = there.0 in omega (arith, lt))) [
+        | inl less ↦ before place x (first_in actions index place (action.Entity x) less there.1)
+        | inr same ↦ here x (same_Some a (action.Entity x) (sym at ∙ ap (slice_get actions) (sym same) ∙ there.1))
+      ]
+
+  pub starts_first : (index : ℕ) (a : Action) (d : Doubled) → slice_get actions index ≡ Some a → StartsNone nodes acting (take index actions) → MadeBy step nodes acting a (Some d) → DoublesAt step nodes acting actions (Some d)
+  starts_first index a d at before made = (
+    record {
+      place = index;
+      at = at ∙ ap (λ (x : Action). Some x) made.0;
+      keeper = made.1;
+      first = λ earlier other lt is. before earlier other (first_in actions index earlier (action.Entity other) lt is);
+    },
+    made.2,
+    made.3,
+  )
+
+  pub starts_none : (index : ℕ) → length actions ≤ index → StartsNone nodes acting (take index actions) → StartsNone nodes acting actions
+  starts_none index le before = subst (λ l. StartsNone nodes acting l) (take_all index actions le) before

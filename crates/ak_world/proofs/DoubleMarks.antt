@@ -25,11 +25,11 @@ use Rattle.ak_world.proofs.FoldRuns.{run_sound}
 use Rattle.ak_world.proofs.MarginRuns.{old_or_new, step_later, step_sooner, last_step, same_place, take_first}
 use Rattle.ak_world.proofs.Told.{world_then}
 
-no_later : (a b c d : ℕ) → IsBefore a b c d → a ≤ c
+pub no_later : (a b c d : ℕ) → IsBefore a b c d → a ≤ c
 no_later a b c d (inl lt) = omega (arith, lt)
 no_later a b c d (inr same) = let is = same.0 in omega (arith, is)
 
-not_less : (a b : ℕ) → (b < a → ⊥) → a ≤ b
+pub not_less : (a b : ℕ) → (b < a → ⊥) → a ≤ b
 not_less zero b never = omega arith
 not_less (suc a) zero never = absurd (never (omega arith))
 not_less (suc a) (suc b) never = let le = not_less a b (λ lt. never (omega (arith, lt))) in omega (arith, le)

@@ -8,6 +8,7 @@ pub mod Closed
 pub mod ClosedRuns
 pub mod DoubleKept
 pub mod DoubleLoops
+pub mod DoubleMargins
 pub mod DoubleMarks
 pub mod DoubleRuns
 pub mod FinishedRuns

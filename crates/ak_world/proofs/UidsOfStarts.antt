@@ -69,7 +69,7 @@ module _ (settings : SettingsModel) where
     happens_after (Tick u word) is = acts_after (event.Tick word) (node_of u w) w.founded
     happens_after (Leave u who) is = acts_after (event.Leave who) (node_of u w) w.founded
     happens_after (Down u who) is = acts_after (event.Down who) (node_of u w) w.founded
-    happens_after (Offer u entity payload) is = all
+    happens_after (Offer u entity payload) is = acts_after (event.Offer entity payload) (node_of u w) w.founded
     happens_after (Stop u) is = acts_after event.Stop (node_of u w) w.founded
 
   uids_from : (events : List Event) (w : WorldState) → HaveUids w → ((u : UniqueModel) → Contains events (Start u) → 1 ≤ u.uid) → HaveUids (run_from settings w events)

@@ -73,6 +73,11 @@ pub record IsBroken (settings : SettingsModel) (events : List Event) (step node 
   pub step_is : step ≡ time + 1
   pub member_is : HasNumber (run settings events).nodes member who
 
+-- it was broken at this step, or earlier
+abbrev pub IsBrokenBy : Margin → ℕ → Type 0
+IsBrokenBy Kept step = ⊥
+IsBrokenBy (Broken earlier node member) step = earlier ≤ step
+
 -- it is kept where there is none
 abbrev pub IsMargin : SettingsModel → List Event → Margin → Type 0
 IsMargin settings events Kept = (time place node : ℕ) (who : UniqueModel) → IsUntold settings events time place node who → ⊥

@@ -15,6 +15,7 @@ use Rattle.ak_node.specs.Node.{known, me_of}
 use Rattle.ak_world.specs.declared.margin.Margin.{Margin}
 use Rattle.ak_world.specs.declared.margin.Margin.TheVariants.{Kept, Broken}
 use Rattle.ak_world.specs.Margin.{IsMargin}
+use Rattle.ak_world.specs.Double.{Doubled, IsFirstDouble}
 use Rattle.ak_schedule.specs.Settings.{SettingsModel}
 use Rattle.ak_world.specs.World.{WorldState, Done, packet_at}
 
@@ -66,15 +67,22 @@ margin_text Kept nodes = codes "margin kept" ++ 10 ∷ []
 margin_text (Broken step node member) nodes =
     codes "margin broken step " ++ decimal step ++ codes " node " ++ name_text (slice_get nodes node) ++ codes " member " ++ name_text (slice_get nodes member) ++ 10 ∷ []
 
--- The summary. (An entity that is active on two nodes comes with later rules.)
-abbrev pub summary_text : ℕ → Margin → WorldState → List ℕ
-summary_text steps margin w =
+-- the first double: the entity, the node on which it was active, the node on which it became active too, and the step; or none
+abbrev pub double_text : Option Doubled → List State → List ℕ
+double_text None nodes = codes "doubles none" ++ 10 ∷ []
+double_text (Some d) nodes =
+    codes "double " ++ d.entity ++ codes " " ++ name_text (slice_get nodes d.active) ++ codes " " ++ name_text (slice_get nodes d.started) ++ codes " step " ++ decimal d.step ++ 10 ∷ []
+
+-- the summary
+abbrev pub summary_text : ℕ → Margin → Option Doubled → WorldState → List ℕ
+summary_text steps margin double w =
     codes "steps " ++ decimal steps ++ 10 ∷ []
     ++ codes "packets " ++ decimal (length w.packets) ++ 10 ∷ []
     ++ codes "history " ++ decimal (length w.history) ++ 10 ∷ []
     ++ margin_text margin w.nodes
-    ++ codes "doubles none" ++ 10 ∷ []
+    ++ double_text double w.nodes
 
--- a text is the summary of a run: its margin is that of its events
+-- a text is the summary of a run: its margin and its first double are those of its events
 abbrev pub IsSummary : SettingsModel → List Event → ℕ → WorldState → List ℕ → Type 0
-IsSummary settings events steps w text = (margin : Margin) × IsMargin settings events margin × (text ≡ summary_text steps margin w)
+IsSummary settings events steps w text =
+    (margin : Margin) × (double : Option Doubled) × IsMargin settings events margin × IsFirstDouble settings events double × (text ≡ summary_text steps margin double w)

@@ -14,6 +14,8 @@ use Rattle.ak_node.specs.declared.node.NodeEvent.{NodeEvent}
 use Rattle.ak_node.specs.NodeContracts.{NodeModel}
 use Rattle.ak_world.specs.World.{WorldState, Done, node_of, gives, acts, happens, recorded, run}
 use Rattle.ak_world.specs.Margin.{IsMargin}
+use Rattle.ak_world.specs.Double.{Doubled, IsFirstDouble}
+use Rattle.ak_world.specs.declared.double.Double.{Double}
 use Rattle.ak_world.specs.Uids.{HaveUids}
 use Rattle.ak_wire.specs.declared.action.Action.{Action}
 use Rattle.ak_wire.specs.Wire.{sent}
@@ -114,11 +116,16 @@ Applies event old (Ok step) new = Accepts event old step new
 Applies event old (Err (refused.TheVariants.Invalid why)) new = Refuses event old why new
 Applies event old (Err refused.TheVariants.NoMemory) new = Spends event old new
 
--- what is true of what a world keeps: it is the run of its events, unless it is spent; the mark is the margin of its events; and
--- each process that was started has a uid from 1 on, as the type of a process says
-pub record IsWorld (settings : SettingsModel) (w : WorldState) (events : List Event) (margin : Margin) (spent : Bool) : Type 0 where
+-- a double as the definitions know it
+abbrev pub doubled_of : Double → Doubled
+doubled_of d = record { entity = d.entity; active = d.first; started = d.second; step = d.step }
+
+-- what is true of what a world keeps: it is the run of its events, unless it is spent; the marks are the margin and the first double
+-- of its events; and each process that was started has a uid from 1 on, as the type of a process says
+pub record IsWorld (settings : SettingsModel) (w : WorldState) (events : List Event) (margin : Margin) (double : Option Doubled) (spent : Bool) : Type 0 where
   pub is_run : spent ≡ false → w ≡ run settings events
   pub is_margin : IsMargin settings events margin
+  pub is_double : IsFirstDouble settings events double
   pub uids : HaveUids (run settings events)
 
 -- The bytes of a packet are there exactly where the packet is, and spell it.

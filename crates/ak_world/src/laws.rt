@@ -32,7 +32,7 @@ ghost use Rattle.ak_world.specs.Uids.{HaveUids};
 ghost use Rattle.ak_world.specs.Double.{Doubled, IsFirstDouble};
 ghost use Rattle.ak_sharding.specs.Alive.{IsActive};
 ghost use Rattle.ak_world.specs.Homes.{HasOneHome};
-ghost use Rattle.ak_world.specs.Margin.{IsStep, Runs, IsTold, IsUntold, IsMargin};
+ghost use Rattle.ak_world.specs.Margin.{IsStep, Runs, IsTold, IsUntold, IsMargin, IsBrokenBy};
 ghost use Rattle.ak_world.specs.Worked.{alone, passing, rise, three};
 ghost use Rattle.ak_world.specs.InRun.{WasStarted, HasStopped, AllServe, RunAlone, IsConfirmed, IsNamedIn, IsSettled, HasNoted};
 
@@ -218,9 +218,11 @@ pub fn an_activity_can_pass_to_another_node()
 
 /// Where the strategy is a static quorum of more than half of the listed addresses: after each number of events through which the
 /// removal margin was kept no entity started at a node, by what nodes told, while it was active at another one (Akka's "Cluster
-/// Sharding"), also in a run that breaks the margin later. Each process has a uid from 1 on, as the type of a process says.
+/// Sharding"), also in a run that breaks the margin later; so where there is a double the margin was broken at its step, or
+/// earlier. Each process has a uid from 1 on, as the type of a process says.
 pub fn no_entity_starts_twice()
-    ensures { (settings : SettingsModel) (events : List Event) (quorum time : ℕ) → IsOverHalf settings quorum → 1 ≤ settings.margin → HaveUids (run settings events) → IsMargin settings (take time events) Kept → IsFirstDouble settings (take time events) None }
+    ensures kept { (settings : SettingsModel) (events : List Event) (quorum time : ℕ) → IsOverHalf settings quorum → 1 ≤ settings.margin → HaveUids (run settings events) → IsMargin settings (take time events) Kept → IsFirstDouble settings (take time events) None }
+    ensures broken { (settings : SettingsModel) (events : List Event) (quorum : ℕ) (double : Doubled) (margin : Margin) → IsOverHalf settings quorum → 1 ≤ settings.margin → HaveUids (run settings events) → IsFirstDouble settings events (Some double) → IsMargin settings events margin → IsBrokenBy margin double.step }
 {}
 
 /// Under the same premises no shard is hosted at two running nodes, and while a node is the active singleton its table has each

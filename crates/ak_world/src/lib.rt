@@ -1,12 +1,14 @@
 //! A recorded world: the nodes that were started, every packet that was ever sent, and the history of the cluster.
 #![tactic(auto)]
 
+mod double;
 mod kept;
 mod laws;
 mod margin;
 mod print;
 mod world;
 
+pub use double::Double;
 pub use laws::{
     a_node_can_become_active, a_run_gives_a_line, a_shard_has_one_home, active_ones_tell_it,
     an_activity_can_pass_to_another_node, an_entity_is_at_one_node, at_most_one_node_is_active,

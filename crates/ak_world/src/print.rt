@@ -2,12 +2,14 @@
 
 ghost use Rattle.std.specs.Prelude.{◌≡◌, ℕ, List, ◌++◌, ◌∷◌, [], slice_get, codes, OnOk, OnErr};
 ghost use Rattle.std.specs.Fmt.{decimal};
-ghost use Rattle.std.specs.Option.{option_and_then, option_map};
+ghost use Rattle.std.specs.Option.{option_and_then, option_copied, option_map};
 ghost use Rattle.ak_schedule.specs.Schedule.{event_text};
 ghost use Rattle.ak_report.specs.ActionText.{actions_text};
 ghost use Rattle.ak_world.specs.World.{packet_at};
 ghost use Rattle.ak_world.specs.StepText as text;
+ghost use Rattle.ak_world.specs.WorldContracts.{doubled_of};
 
+use crate::double::Double;
 use crate::margin::Margin;
 use crate::world::{Step, World};
 use ak_address::{Unique, print_number};
@@ -178,8 +180,26 @@ fn print_margin(world: &World, margin: Margin, out: &mut Vec<u8>) -> Result<(), 
     }
 }
 
-/// Appends the summary of a replay of so many steps. Its margin is that of the events that the world accepted. An error
-/// leaves the text as it was; only memory can fail.
+// The first double, or that there is none.
+fn print_double(world: &World, double: Option<&Double>, out: &mut Vec<u8>) -> Result<(), AllocError>
+    ensures { OnOk result (out.new.items ≡ out.old.items ++ text.double_text (option_map doubled_of (option_copied double.entry)) world.now.state.nodes) }
+{
+    let Some(double) = double else {
+        return print_bytes(b"doubles none\n", out);
+    };
+    print_bytes(b"double ", out)?;
+    print_bytes(double.entity.bytes(), out)?;
+    print_bytes(b" ", out)?;
+    print_name(world, double.first, out)?;
+    print_bytes(b" ", out)?;
+    print_name(world, double.second, out)?;
+    print_bytes(b" step ", out)?;
+    print_number(double.step, out)?;
+    print_bytes(b"\n", out)
+}
+
+/// Appends the summary of a replay of so many steps. Its margin and its first double are those of the events that the world
+/// accepted. An error leaves the text as it was; only memory can fail.
 pub fn print_summary(
     alloc: Global,
     world: &World,
@@ -194,6 +214,6 @@ pub fn print_summary(
     print_count(b"packets ", world.packets(), &mut text)?;
     print_count(b"history ", world.history().len() as u64, &mut text)?;
     print_margin(world, world.margin(), &mut text)?;
-    print_bytes(b"doubles none\n", &mut text)?;
+    print_double(world, world.first_double(), &mut text)?;
     print_bytes(&text, out)
 }

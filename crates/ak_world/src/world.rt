@@ -24,12 +24,15 @@ ghost use Rattle.ak_node.specs.Node as rules_of_nodes;
 ghost use Rattle.ak_node.specs.Sends.{AreValid, ComesValid};
 ghost use Rattle.ak_world.specs.Double.{IsFirstDouble};
 ghost use Rattle.ak_world.specs.Homes.{HasOneHome};
-ghost use Rattle.ak_world.specs.WorldContracts.{AreSpelled, Applies, Scenes, IsReady, Acts, Keeps, states, state_of};
+ghost use Rattle.ak_world.specs.WorldContracts.{AreSpelled, Applies, Scenes, IsReady, Acts, Keeps, states, state_of, doubled_of};
+ghost use Rattle.ak_world.specs.DoubleMark.{NextDouble};
 ghost use Rattle.ak_node.specs.NodeContracts.{NodeModel};
 
+use crate::double::{Double, first_made};
 use crate::kept::KeptEvent;
-use crate::margin::Margin;
+use crate::margin::{Margin, first_end};
 use ak_address::{Address, Unique};
+use ak_field::EntityId;
 use ak_history::History;
 use ak_node::{Node, NodeEvent, is_for};
 use ak_schedule::{Event, Settings};
@@ -58,8 +61,6 @@ pub enum Reason {
     TooManyPackets,
     /// As many processes were started as may be: 64.
     TooManyStarts,
-    /// Offers are not built into the world yet.
-    NotBuilt,
 }
 
 /// Why a world did not apply an event.
@@ -135,45 +136,6 @@ fn is_in_use(nodes: &[Node], address: &Address) -> bool
     ensures { result ≡ list_any (λ (n : NodeModel). rules.runs_at address.now n.state) nodes.now }
 {
     nodes.iter().any(|node| runs_at(node, address))
-}
-
-// The node is this process, and runs.
-fn runs_as(node: &Node, who: &Unique) -> bool
-    ensures { result ≡ mark.runs_as who.now node.now.state }
-{
-    if node.stopped() {
-        return false;
-    }
-    node.me().is(who)
-}
-
-// Which node the process is, where it runs.
-fn running_of(nodes: &[Node], who: &Unique) -> Option<usize>
-    ensures { result ≡ position (λ (n : NodeModel). mark.runs_as who.now n.state) nodes.now }
-{
-    nodes.iter().position(|node| runs_as(node, who))
-}
-
-// The process whose margin the action ends, where it runs.
-fn running_end(nodes: &[Node], action: &Action) -> Option<usize>
-    ensures { result ≡ mark.running_end (states nodes.now) action.now }
-{
-    match action {
-        Action::MarginEnd(who) => running_of(nodes, who),
-        _ => None,
-    }
-}
-
-// The first such process of the actions.
-fn first_end(nodes: &[Node], actions: &[Action]) -> Option<usize>
-    ensures { result ≡ mark.first_end (states nodes.now) actions.now }
-{
-    'actions: for action in actions {
-        if let Some(index) = running_end(nodes, action) {
-            return Some(index);
-        }
-    }
-    None
 }
 
 impl Scene {
@@ -278,6 +240,27 @@ impl Scene {
             return Err(Refused::NoMemory);
         };
         self.give(alloc, index, NodeEvent::Down(member))
+    }
+
+    fn offer(
+        &mut self,
+        alloc: Global,
+        who: &Unique,
+        entity: &EntityId,
+        payload: u64,
+    ) -> Result<Step, Refused>
+        requires ready { IsReady (state_of self.old) }
+        ensures settings { self.new.settings ≡ self.old.settings }
+        ensures scenes { Scenes (state_of self.old) (rules.happens self.old.settings (Event.Offer who.now entity.now payload) (state_of self.old)) result (state_of self.new) }
+    {
+        let index = match self.actor(who) {
+            Ok(index) => index,
+            Err(why) => return Err(Refused::Invalid(why)),
+        };
+        let Ok(entity) = entity.copy(alloc) else {
+            return Err(Refused::NoMemory);
+        };
+        self.give(alloc, index, NodeEvent::Offer(entity, payload))
     }
 
     fn deliver(&mut self, alloc: Global, number: u64) -> Result<Step, Refused>
@@ -390,7 +373,7 @@ impl Scene {
             Event::Deliver(number) => self.deliver(alloc, *number),
             Event::Leave(who, member) => self.leave(alloc, who, member),
             Event::Down(who, member) => self.down(alloc, who, member),
-            Event::Offer(_, _, _) => Err(Refused::Invalid(Reason::NotBuilt)),
+            Event::Offer(who, entity, payload) => self.offer(alloc, who, entity, *payload),
             Event::Stop(who) => self.act(alloc, who, NodeEvent::Stop),
         }
     }
@@ -419,6 +402,22 @@ impl Scene {
         }
     }
 
+    // The double of a step of this number, where none was before.
+    fn double_at(
+        &self,
+        alloc: Global,
+        number: u64,
+        step: &Step,
+    ) -> Result<Option<Double>, AllocError>
+        requires { length self.now.nodes.items ≤ 64 }
+        ensures { IfOk result (λ double. NextDouble None number (state_of self.now).nodes step.now.node step.now.actions (option_map doubled_of double)) }
+    {
+        match step.node {
+            Some(node) => first_made(alloc, &self.nodes, node, number, step.actions.as_slice()),
+            None => Ok(None),
+        }
+    }
+
     // The number of the next packet that is sent.
     fn next_packet(&self) -> u64
         ensures { result ≡ length self.now.packets.items + 1 }
@@ -439,7 +438,7 @@ fn packet_at(packets: &[Packet], number: u64) -> Option<&Packet>
 }
 
 // A start number: fewer processes are started than have a number.
-fn number_of(index: usize) -> Option<u32>
+pub(crate) fn number_of(index: usize) -> Option<u32>
     requires { index < 64 }
     ensures { result ≡ Some index }
 {
@@ -507,6 +506,42 @@ fn keep_event(alloc: Global, event: &Event, accepted: &mut Vec<KeptEvent>) -> Re
     Ok(())
 }
 
+// What a world keeps in mind of its events: whether the removal margin was kept, and the first double.
+#[derive(Drop)]
+struct Marks {
+    margin: Margin,
+    double: Option<Double>,
+}
+
+// An accepted event is kept, with what its step makes of the margin and of the first double. An error leaves all as it was.
+fn keep_step(
+    alloc: Global,
+    scene: &Scene,
+    event: &Event,
+    step: &Step,
+    accepted: &mut Vec<KeptEvent>,
+    marks: &mut Marks,
+) -> Result<(), AllocError>
+    requires nodes { length scene.now.nodes.items ≤ 64 }
+    requires events { length accepted.old.items < 2 ^ 62 }
+    ensures kept { OnOk result (accepted.new.items ≡ accepted.old.items ++ event.now ∷ []) }
+    ensures margin { OnOk result (marks.new.margin ≡ mark.marked marks.old.margin (length accepted.old.items + 1) (record { world = state_of scene.now; node = step.now.node; actions = step.now.actions })) }
+    ensures double { OnOk result (NextDouble (option_map doubled_of marks.old.double) (length accepted.old.items + 1) (state_of scene.now).nodes step.now.node step.now.actions (option_map doubled_of marks.new.double)) }
+    ensures left { OnErr result (accepted.new.items ≡ accepted.old.items) }
+    ensures same { OnErr result (marks.new ≡ marks.old) }
+{
+    let number = count_of(accepted) + 1;
+    if marks.double.is_none() {
+        let double = scene.double_at(alloc, number, step)?;
+        keep_event(alloc, event, accepted)?;
+        marks.double = double;
+    } else {
+        keep_event(alloc, event, accepted)?;
+    }
+    marks.margin = scene.marked(marks.margin, number, step);
+    Ok(())
+}
+
 // Each tells a proof what is true of every value of a type. They do nothing.
 fn process(who: &Unique)
     ensures { IsUnique who.now }
@@ -535,7 +570,7 @@ fn count_of(events: &[KeptEvent]) -> u64
 pub struct World {
     scene: Scene,
     accepted: Vec<KeptEvent>,
-    margin: Margin,
+    marks: Marks,
     is_spent: bool,
 }
 
@@ -550,7 +585,8 @@ impl Model for World {
     ghost use Rattle.ak_wire.specs.Stored.{coded_counts};
     ghost use Rattle.ak_singleton.specs.SingletonView.{coded_singleton};
     ghost use Rattle.ak_sharding.specs.ShardingView.{coded_sharding};
-    ghost use Rattle.ak_world.specs.WorldContracts.{WorldModel, state_of, IsWorld};
+    ghost use Rattle.std.specs.Option.{option_map};
+    ghost use Rattle.ak_world.specs.WorldContracts.{WorldModel, state_of, doubled_of, IsWorld};
 
     ghost Value = { WorldModel };
 
@@ -558,7 +594,7 @@ impl Model for World {
 
     ghost view = { λ w. record { settings = w.scene.settings; state = state_of w.scene; events = w.accepted.items; spent = w.is_spent } };
 
-    ghost invariant = { λ w. IsWorld w.scene.settings (state_of w.scene) w.accepted.items w.margin w.is_spent };
+    ghost invariant = { λ w. IsWorld w.scene.settings (state_of w.scene) w.accepted.items w.marks.margin (option_map doubled_of w.marks.double) w.is_spent };
 }
 
 impl World {
@@ -576,7 +612,10 @@ impl World {
         World {
             scene,
             accepted: Vec::new(alloc),
-            margin: Margin::Kept,
+            marks: Marks {
+                margin: Margin::Kept,
+                double: None,
+            },
             is_spent: false,
         }
     }
@@ -642,10 +681,15 @@ impl World {
         }
         match self.scene.happens(alloc, event) {
             Ok(step) => {
-                if keep_event(alloc, event, &mut self.accepted).is_ok() {
-                    let number = count_of(&self.accepted);
-                    let margin = self.scene.marked(self.margin, number, &step);
-                    self.margin = margin;
+                let kept = keep_step(
+                    alloc,
+                    &self.scene,
+                    event,
+                    &step,
+                    &mut self.accepted,
+                    &mut self.marks,
+                );
+                if kept.is_ok() {
                     return Ok(step);
                 }
                 self.is_spent = true;
@@ -681,7 +725,17 @@ impl World {
     pub fn margin(&self) -> Margin
         ensures { IsMargin self.now.settings self.now.events result }
     {
-        self.margin
+        self.marks.margin
+    }
+
+    /// The first double among the events that were accepted: the first step at which an entity became active on a second node
+    /// while it was active on a first one; and None exactly where there is none. An entity is active at a node from the action
+    /// that starts it there to the one that ends its shard there, or that the node stops (Akka's "Cluster Sharding": of each
+    /// entity one instance runs in the cluster). A spent world answers for the events that it accepted. Takes no memory.
+    pub fn first_double(&self) -> Option<&Double>
+        ensures { IsFirstDouble self.now.settings self.now.events (option_map doubled_of (option_copied result)) }
+    {
+        self.marks.double.as_ref()
     }
 
     /// How many packets were sent.

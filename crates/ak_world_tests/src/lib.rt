@@ -3,6 +3,8 @@
 #![tactic(auto)]
 
 #[cfg(test)]
+mod double;
+#[cfg(test)]
 mod fold;
 #[cfg(test)]
 mod life;

@@ -38,7 +38,7 @@ static IN_TIME: [&str; 3] = ["tick b:1#1 0", "stop a:1#1", "tick b:1#1 0"];
 static TOLD: [&str; 2] = ["deliver 5", "deliver 7"];
 
 // The margin after some more lines.
-fn margin_after(alloc: Global, world: &mut World, lines: &[&str]) -> Result<Margin, Fail>
+pub(crate) fn margin_after(alloc: Global, world: &mut World, lines: &[&str]) -> Result<Margin, Fail>
     requires { length world.old.events + length lines.now < 1000 }
     ensures { IfOk result (λ margin. length world.new.events ≤ length world.old.events + length lines.now) }
 {

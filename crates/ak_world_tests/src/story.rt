@@ -1,7 +1,7 @@
 ghost use Rattle.std.specs.Prelude.{◌+◌, ◌<◌, ◌≤◌, length, OnOk};
 
 // The stories of all tests of worlds, and how one goes.
-use crate::{fold, life, line, margin, seen};
+use crate::{double, fold, life, line, margin, seen};
 use ak_schedule::{Draft, Event, LineFault, Settings, read_line};
 use ak_world::{Reason, Refused, World};
 use std::alloc::Global;
@@ -149,6 +149,7 @@ pub(crate) enum Story {
     EndsTooEarly,
     StopsInTime,
     IsTold,
+    StartsTwice,
     FounderLeaves,
     BothRise,
     Leaves,
@@ -159,6 +160,7 @@ pub(crate) enum Story {
 fn headers(story: Story) -> Headers {
     match story {
         Story::EndsTooEarly | Story::StopsInTime | Story::IsTold => margin::HEADERS,
+        Story::StartsTwice => double::HEADERS,
         Story::FounderLeaves => line::ALONE,
         Story::BothRise => line::BOTH,
         Story::Leaves | Story::IsReplaced | Story::IsDowned => life::HEADERS,
@@ -178,6 +180,7 @@ fn goes_so(alloc: Global, world: &mut World, story: Story) -> Result<bool, Fail>
         Story::EndsTooEarly => margin::ends_too_early(alloc, world),
         Story::StopsInTime => margin::stops_in_time(alloc, world),
         Story::IsTold => margin::is_told(alloc, world),
+        Story::StartsTwice => double::starts_twice(alloc, world),
         Story::FounderLeaves => line::founder_leaves(alloc, world),
         Story::BothRise => line::both_rise(alloc, world),
         Story::Leaves => life::leaves(alloc, world),

@@ -1,9 +1,10 @@
-use Rattle.std.proofs.Common.{◌≡◌, false, ◌<◌, ◌≤◌, ◌^◌, ◌++◌, ◌∷◌, [], List, length, sym, subst, ap, ◌∙◌, arith}
+use Rattle.std.proofs.Common.{◌≡◌, false, ◌+◌, ◌<◌, ◌≤◌, ◌^◌, ◌++◌, ◌∷◌, [], List, length, length-append, refl, sym, subst, ap, ◌∙◌, arith}
+use Rattle.std.specs.Option.{option_map}
 use Rattle.std.proofs.lemmas.Grind.{common_steps}
 use Rattle.ak_schedule.specs.declared.event.Event.{Event}
 use Rattle.ak_schedule.specs.Settings.{SettingsModel}
 use Rattle.ak_world.specs.World.{WorldState, run}
-use Rattle.ak_world.specs.WorldContracts.{WorldModel, IsReady, state_of}
+use Rattle.ak_world.specs.WorldContracts.{WorldModel, IsReady, state_of, doubled_of}
 use Rattle.ak_world.proofs.FoldRuns.{folds-of_run, views_at_times}
 use Rattle.ak_world.proofs.SeenHeld.{seen-of_run}
 use Rattle.ak_world.proofs.MadeFrom.{closed-of_run}
@@ -15,6 +16,7 @@ use Rattle.ak_world.proofs.MarginRuns.{went_margin}
 use Rattle.ak_world.specs.Uids.{HaveUids}
 use Rattle.ak_world.proofs.OneActiveRuns.{finished-of_run, one_active-of_run}
 use Rattle.ak_world.proofs.OneHomeRuns.{one_home-of_run}
+use Rattle.ak_world.proofs.DoubleMarks.{went_double}
 use Rattle.ak_world.proofs.DoubleRuns.{no_double-of_run}
 use Rattle.ak_world.proofs.UidsOfStarts.{next_uids}
 use Rattle.ak_world.proofs.WorldLemmas.{ready_run, few_run, length-states, run-went, at-ok}
@@ -28,38 +30,44 @@ happens-requires c =
 
 pub invariant_of-self : goal.invariant_of-self
 invariant_of-self c =
-    let kept : c.keep_event.new.accepted.items ≡ c.self.inside.accepted.items ++ c.args.event.now ∷ [] =
-    at-ok c.keep_event.result _ (sym c.is_ok.ensures.value ∙ c.if-is_ok.true) c.keep_event.ensures.ok in
+    let is_kept = sym c.is_ok.ensures.value ∙ c.if-is_ok.true in
+    let kept : c.keep_step-kept.new.accepted.items ≡ c.self.inside.accepted.items ++ c.args.event.now ∷ [] = at-ok c.keep_step-kept.result _ is_kept c.keep_step-kept.ensures.kept in
+    let number : length c.self.inside.accepted.items + 1 ≡ length c.keep_step-kept.new.accepted.items = sym (ap length kept ∙ length-append c.self.inside.accepted.items (c.args.event.now ∷ [])) in
     record {
       is_run = λ alive.
           run-went c.self.inside.scene.settings _ _ _ c.self.inside.accepted.items _ c.args.event.now _ (c.self.invariant.is_run c.if-self.false) c.happens.ensures.settings kept c.in-Ok.ensures.scenes;
       is_margin =
-          went_margin c.self.inside.scene.settings _ _ _ c.self.inside.accepted.items _ c.args.event.now _ c.self.inside.margin _ _ (c.self.invariant.is_run c.if-self.false) c.happens.ensures.settings kept (c.count_of-number.ensures ∙ ap length c.deref.ensures.value) c.in-Ok.ensures.scenes
-          c.marked-margin.ensures c.self.invariant.is_margin;
+          went_margin c.self.inside.scene.settings _ _ _ c.self.inside.accepted.items _ c.args.event.now _ c.self.inside.marks.margin _ _ (c.self.invariant.is_run c.if-self.false) c.happens.ensures.settings kept number c.in-Ok.ensures.scenes
+          (at-ok c.keep_step-kept.result _ is_kept c.keep_step-kept.ensures.margin) c.self.invariant.is_margin;
+      is_double =
+          went_double c.self.inside.scene.settings _ _ _ c.self.inside.accepted.items _ c.args.event.now _ (option_map doubled_of c.self.inside.marks.double) _ _ (c.self.invariant.is_run c.if-self.false) c.happens.ensures.settings kept number c.in-Ok.ensures.scenes
+          (at-ok c.keep_step-kept.result _ is_kept c.keep_step-kept.ensures.double) c.self.invariant.is_double;
       uids =
-          subst (λ (s : SettingsModel). HaveUids (run s c.keep_event.new.accepted.items)) (sym c.happens.ensures.settings)
+          subst (λ (s : SettingsModel). HaveUids (run s c.keep_step-kept.new.accepted.items)) (sym c.happens.ensures.settings)
           (subst (λ (l : List Event). HaveUids (run c.self.inside.scene.settings l)) (sym kept) (next_uids c.self.inside.scene.settings c.self.inside.accepted.items c.args.event.now c.self.invariant.uids c.start_has_uid.ensures));
     }
 
-pub marked-margin-requires : goal.marked-margin-requires
-marked-margin-requires c =
-    let kept : c.keep_event.new.accepted.items ≡ c.self.inside.accepted.items ++ c.args.event.now ∷ [] =
-    at-ok c.keep_event.result _ (sym c.is_ok.ensures.value ∙ c.if-is_ok.true) c.keep_event.ensures.ok in
-    let is_run : state_of c.happens.new.self ≡ run c.happens.new.self.settings c.keep_event.new.accepted.items =
-    run-went c.self.inside.scene.settings _ _ _ c.self.inside.accepted.items _ c.args.event.now _ (c.self.invariant.is_run c.if-self.false) c.happens.ensures.settings kept c.in-Ok.ensures.scenes in
-    let few : length (state_of c.happens.new.self).nodes ≤ 64 = subst (λ (w : WorldState). length w.nodes ≤ 64) (sym is_run) (few_run c.happens.new.self.settings c.keep_event.new.accepted.items) in
-    omega (arith, few, length-states c.happens.new.self.nodes.items)
+pub keep_step-kept-requires : goal.keep_step-kept-requires
+keep_step-kept-requires c =
+    let is_run : state_of c.happens.new.self ≡ run c.happens.new.self.settings (c.self.inside.accepted.items ++ c.args.event.now ∷ []) =
+    run-went c.self.inside.scene.settings _ _ _ c.self.inside.accepted.items _ c.args.event.now _ (c.self.invariant.is_run c.if-self.false) c.happens.ensures.settings refl c.in-Ok.ensures.scenes in
+    let few : length (state_of c.happens.new.self).nodes ≤ 64 =
+    subst (λ (w : WorldState). length w.nodes ≤ 64) (sym is_run) (few_run c.happens.new.self.settings (c.self.inside.accepted.items ++ c.args.event.now ∷ [])) in
+    record {
+      nodes = omega (arith, few, length-states c.happens.new.self.nodes.items);
+      events = subst (λ (events : List Event). length events < 2 ^ 62) (sym (ap (λ (w : WorldModel). w.events) c.self.view_is)) c.requires;
+    }
 
 pub returns-then-is_ok-clause-run : goal.returns-then-is_ok-clause-run
 returns-then-is_ok-clause-run c =
-    let kept : c.keep_event.new.accepted.items ≡ c.self.inside.accepted.items ++ c.args.event.now ∷ [] =
-    at-ok c.keep_event.result _ (sym c.is_ok.ensures.value ∙ c.if-is_ok.true) c.keep_event.ensures.ok in
+    let kept : c.keep_step-kept.new.accepted.items ≡ c.self.inside.accepted.items ++ c.args.event.now ∷ [] =
+    at-ok c.keep_step-kept.result _ (sym c.is_ok.ensures.value ∙ c.if-is_ok.true) c.keep_step-kept.ensures.kept in
     λ alive.
     run-went c.self.inside.scene.settings _ _ _ c.self.inside.accepted.items _ c.args.event.now _ (c.self.invariant.is_run c.if-self.false) c.happens.ensures.settings kept c.in-Ok.ensures.scenes
 
 pub returns-then-is_ok-clause-folded : goal.returns-then-is_ok-clause-folded
 returns-then-is_ok-clause-folded c =
-    λ alive g is_in. folds-of_run c.happens.new.self.settings c.keep_event.new.accepted.items (state_of c.happens.new.self) (returns-then-is_ok-clause-run c alive) g is_in
+    λ alive g is_in. folds-of_run c.happens.new.self.settings c.keep_step-kept.new.accepted.items (state_of c.happens.new.self) (returns-then-is_ok-clause-run c alive) g is_in
 
 pub returns-in-Err-Invalid-clause-folded : goal.returns-in-Err-Invalid-clause-folded
 returns-in-Err-Invalid-clause-folded c =
@@ -68,7 +76,7 @@ returns-in-Err-Invalid-clause-folded c =
 
 pub returns-then-is_ok-clause-equal : goal.returns-then-is_ok-clause-equal
 returns-then-is_ok-clause-equal c =
-    λ alive. views_at_times c.happens.new.self.settings c.keep_event.new.accepted.items
+    λ alive. views_at_times c.happens.new.self.settings c.keep_step-kept.new.accepted.items
 
 pub returns-in-Err-Invalid-clause-equal : goal.returns-in-Err-Invalid-clause-equal
 returns-in-Err-Invalid-clause-equal c =
@@ -76,7 +84,7 @@ returns-in-Err-Invalid-clause-equal c =
 
 pub returns-then-is_ok-clause-seen : goal.returns-then-is_ok-clause-seen
 returns-then-is_ok-clause-seen c =
-    λ alive. seen-of_run c.happens.new.self.settings c.keep_event.new.accepted.items (state_of c.happens.new.self) (returns-then-is_ok-clause-run c alive)
+    λ alive. seen-of_run c.happens.new.self.settings c.keep_step-kept.new.accepted.items (state_of c.happens.new.self) (returns-then-is_ok-clause-run c alive)
 
 pub returns-in-Err-Invalid-clause-seen : goal.returns-in-Err-Invalid-clause-seen
 returns-in-Err-Invalid-clause-seen c =
@@ -85,7 +93,7 @@ returns-in-Err-Invalid-clause-seen c =
 
 pub returns-then-is_ok-clause-closed : goal.returns-then-is_ok-clause-closed
 returns-then-is_ok-clause-closed c =
-    λ alive. closed-of_run c.happens.new.self.settings c.keep_event.new.accepted.items (state_of c.happens.new.self) (returns-then-is_ok-clause-run c alive)
+    λ alive. closed-of_run c.happens.new.self.settings c.keep_step-kept.new.accepted.items (state_of c.happens.new.self) (returns-then-is_ok-clause-run c alive)
 
 pub returns-in-Err-Invalid-clause-closed : goal.returns-in-Err-Invalid-clause-closed
 returns-in-Err-Invalid-clause-closed c =
@@ -94,7 +102,7 @@ returns-in-Err-Invalid-clause-closed c =
 
 pub returns-then-is_ok-clause-ordered : goal.returns-then-is_ok-clause-ordered
 returns-then-is_ok-clause-ordered c =
-    λ alive. held_in_order c.happens.new.self.settings c.keep_event.new.accepted.items
+    λ alive. held_in_order c.happens.new.self.settings c.keep_step-kept.new.accepted.items
 
 pub returns-in-Err-Invalid-clause-ordered : goal.returns-in-Err-Invalid-clause-ordered
 returns-in-Err-Invalid-clause-ordered c =
@@ -102,7 +110,7 @@ returns-in-Err-Invalid-clause-ordered c =
 
 pub returns-then-is_ok-clause-serving : goal.returns-then-is_ok-clause-serving
 returns-then-is_ok-clause-serving c =
-    λ alive. serve-of_run c.happens.new.self.settings c.keep_event.new.accepted.items (state_of c.happens.new.self) (returns-then-is_ok-clause-run c alive)
+    λ alive. serve-of_run c.happens.new.self.settings c.keep_step-kept.new.accepted.items (state_of c.happens.new.self) (returns-then-is_ok-clause-run c alive)
 
 pub returns-in-Err-Invalid-clause-serving : goal.returns-in-Err-Invalid-clause-serving
 returns-in-Err-Invalid-clause-serving c =
@@ -111,7 +119,7 @@ returns-in-Err-Invalid-clause-serving c =
 
 pub returns-then-is_ok-clause-confirmed : goal.returns-then-is_ok-clause-confirmed
 returns-then-is_ok-clause-confirmed c =
-    λ alive. confirmed-of_run c.happens.new.self.settings c.keep_event.new.accepted.items (state_of c.happens.new.self) (returns-then-is_ok-clause-run c alive)
+    λ alive. confirmed-of_run c.happens.new.self.settings c.keep_step-kept.new.accepted.items (state_of c.happens.new.self) (returns-then-is_ok-clause-run c alive)
 
 pub returns-in-Err-Invalid-clause-confirmed : goal.returns-in-Err-Invalid-clause-confirmed
 returns-in-Err-Invalid-clause-confirmed c =
@@ -120,7 +128,7 @@ returns-in-Err-Invalid-clause-confirmed c =
 
 pub returns-then-is_ok-clause-alone : goal.returns-then-is_ok-clause-alone
 returns-then-is_ok-clause-alone c =
-    λ alive. alone-of_run c.happens.new.self.settings c.keep_event.new.accepted.items (state_of c.happens.new.self) (returns-then-is_ok-clause-run c alive)
+    λ alive. alone-of_run c.happens.new.self.settings c.keep_step-kept.new.accepted.items (state_of c.happens.new.self) (returns-then-is_ok-clause-run c alive)
 
 pub returns-in-Err-Invalid-clause-alone : goal.returns-in-Err-Invalid-clause-alone
 returns-in-Err-Invalid-clause-alone c =
@@ -129,7 +137,7 @@ returns-in-Err-Invalid-clause-alone c =
 
 pub returns-then-is_ok-clause-started : goal.returns-then-is_ok-clause-started
 returns-then-is_ok-clause-started c =
-    λ alive. started-of_run c.happens.new.self.settings c.keep_event.new.accepted.items (state_of c.happens.new.self) (returns-then-is_ok-clause-run c alive)
+    λ alive. started-of_run c.happens.new.self.settings c.keep_step-kept.new.accepted.items (state_of c.happens.new.self) (returns-then-is_ok-clause-run c alive)
 
 pub returns-in-Err-Invalid-clause-started : goal.returns-in-Err-Invalid-clause-started
 returns-in-Err-Invalid-clause-started c =
@@ -138,7 +146,7 @@ returns-in-Err-Invalid-clause-started c =
 
 pub returns-then-is_ok-clause-settled : goal.returns-then-is_ok-clause-settled
 returns-then-is_ok-clause-settled c =
-    λ alive. settled-of_run c.happens.new.self.settings c.keep_event.new.accepted.items (state_of c.happens.new.self) (returns-then-is_ok-clause-run c alive)
+    λ alive. settled-of_run c.happens.new.self.settings c.keep_step-kept.new.accepted.items (state_of c.happens.new.self) (returns-then-is_ok-clause-run c alive)
 
 pub returns-in-Err-Invalid-clause-settled : goal.returns-in-Err-Invalid-clause-settled
 returns-in-Err-Invalid-clause-settled c =
@@ -147,7 +155,7 @@ returns-in-Err-Invalid-clause-settled c =
 
 pub returns-then-is_ok-clause-grows : goal.returns-then-is_ok-clause-grows
 returns-then-is_ok-clause-grows c =
-    λ alive. noted_in_order c.happens.new.self.settings c.keep_event.new.accepted.items
+    λ alive. noted_in_order c.happens.new.self.settings c.keep_step-kept.new.accepted.items
 
 pub returns-in-Err-Invalid-clause-grows : goal.returns-in-Err-Invalid-clause-grows
 returns-in-Err-Invalid-clause-grows c =
@@ -155,7 +163,7 @@ returns-in-Err-Invalid-clause-grows c =
 
 pub returns-then-is_ok-clause-line : goal.returns-then-is_ok-clause-line
 returns-then-is_ok-clause-line c =
-    λ alive. in_line c.happens.new.self.settings c.keep_event.new.accepted.items
+    λ alive. in_line c.happens.new.self.settings c.keep_step-kept.new.accepted.items
 
 pub returns-in-Err-Invalid-clause-line : goal.returns-in-Err-Invalid-clause-line
 returns-in-Err-Invalid-clause-line c =
@@ -163,7 +171,7 @@ returns-in-Err-Invalid-clause-line c =
 
 pub returns-then-is_ok-clause-noted : goal.returns-then-is_ok-clause-noted
 returns-then-is_ok-clause-noted c =
-    λ alive. noted-of_run c.happens.new.self.settings c.keep_event.new.accepted.items (state_of c.happens.new.self) (returns-then-is_ok-clause-run c alive)
+    λ alive. noted-of_run c.happens.new.self.settings c.keep_step-kept.new.accepted.items (state_of c.happens.new.self) (returns-then-is_ok-clause-run c alive)
 
 pub returns-in-Err-Invalid-clause-noted : goal.returns-in-Err-Invalid-clause-noted
 returns-in-Err-Invalid-clause-noted c =
@@ -179,10 +187,10 @@ returns-then-self-clause-finished c = finished-of_run _ _ (subst (λ (w : WorldM
 
 pub returns-then-is_ok-clause-one_active : goal.returns-then-is_ok-clause-one_active
 returns-then-is_ok-clause-one_active c =
-    let kept : c.keep_event.new.accepted.items ≡ c.self.inside.accepted.items ++ c.args.event.now ∷ [] =
-    at-ok c.keep_event.result _ (sym c.is_ok.ensures.value ∙ c.if-is_ok.true) c.keep_event.ensures.ok in
+    let kept : c.keep_step-kept.new.accepted.items ≡ c.self.inside.accepted.items ++ c.args.event.now ∷ [] =
+    at-ok c.keep_step-kept.result _ (sym c.is_ok.ensures.value ∙ c.if-is_ok.true) c.keep_step-kept.ensures.kept in
     let uids =
-    subst (λ (s : SettingsModel). HaveUids (run s c.keep_event.new.accepted.items)) (sym c.happens.ensures.settings)
+    subst (λ (s : SettingsModel). HaveUids (run s c.keep_step-kept.new.accepted.items)) (sym c.happens.ensures.settings)
     (subst (λ (l : List Event). HaveUids (run c.self.inside.scene.settings l)) (sym kept) (next_uids c.self.inside.scene.settings c.self.inside.accepted.items c.args.event.now c.self.invariant.uids c.start_has_uid.ensures)) in
     one_active-of_run _ _ uids (subst (λ (s : SettingsModel). 1 ≤ s.margin) (sym c.happens.ensures.settings) c.invariant.ensures.margin.from)
 
@@ -191,9 +199,9 @@ returns-then-is_ok-clause-finished c = finished-of_run _ _ (subst (λ (s : Setti
 
 pub returns-else-is_ok-clause-one_active : goal.returns-else-is_ok-clause-one_active
 returns-else-is_ok-clause-one_active c =
-    let same : c.keep_event.new.accepted.items ≡ c.self.inside.accepted.items = grind (arith, common_steps) in
+    let same : c.keep_step-kept.new.accepted.items ≡ c.self.inside.accepted.items = grind (arith, common_steps) in
     let uids =
-    subst (λ (s : SettingsModel). HaveUids (run s c.keep_event.new.accepted.items)) (sym c.happens.ensures.settings)
+    subst (λ (s : SettingsModel). HaveUids (run s c.keep_step-kept.new.accepted.items)) (sym c.happens.ensures.settings)
     (subst (λ (l : List Event). HaveUids (run c.self.inside.scene.settings l)) (sym same) c.self.invariant.uids) in
     one_active-of_run _ _ uids (subst (λ (s : SettingsModel). 1 ≤ s.margin) (sym c.happens.ensures.settings) c.invariant.ensures.margin.from)
 
@@ -220,18 +228,18 @@ returns-then-self-clause-one_home c =
 
 pub returns-then-is_ok-clause-one_home : goal.returns-then-is_ok-clause-one_home
 returns-then-is_ok-clause-one_home c =
-    let kept : c.keep_event.new.accepted.items ≡ c.self.inside.accepted.items ++ c.args.event.now ∷ [] =
-    at-ok c.keep_event.result _ (sym c.is_ok.ensures.value ∙ c.if-is_ok.true) c.keep_event.ensures.ok in
+    let kept : c.keep_step-kept.new.accepted.items ≡ c.self.inside.accepted.items ++ c.args.event.now ∷ [] =
+    at-ok c.keep_step-kept.result _ (sym c.is_ok.ensures.value ∙ c.if-is_ok.true) c.keep_step-kept.ensures.kept in
     let uids =
-    subst (λ (s : SettingsModel). HaveUids (run s c.keep_event.new.accepted.items)) (sym c.happens.ensures.settings)
+    subst (λ (s : SettingsModel). HaveUids (run s c.keep_step-kept.new.accepted.items)) (sym c.happens.ensures.settings)
     (subst (λ (l : List Event). HaveUids (run c.self.inside.scene.settings l)) (sym kept) (next_uids c.self.inside.scene.settings c.self.inside.accepted.items c.args.event.now c.self.invariant.uids c.start_has_uid.ensures)) in
     one_home-of_run _ _ uids (subst (λ (s : SettingsModel). 1 ≤ s.margin) (sym c.happens.ensures.settings) c.invariant.ensures.margin.from)
 
 pub returns-else-is_ok-clause-one_home : goal.returns-else-is_ok-clause-one_home
 returns-else-is_ok-clause-one_home c =
-    let same : c.keep_event.new.accepted.items ≡ c.self.inside.accepted.items = grind (arith, common_steps) in
+    let same : c.keep_step-kept.new.accepted.items ≡ c.self.inside.accepted.items = grind (arith, common_steps) in
     let uids =
-    subst (λ (s : SettingsModel). HaveUids (run s c.keep_event.new.accepted.items)) (sym c.happens.ensures.settings)
+    subst (λ (s : SettingsModel). HaveUids (run s c.keep_step-kept.new.accepted.items)) (sym c.happens.ensures.settings)
     (subst (λ (l : List Event). HaveUids (run c.self.inside.scene.settings l)) (sym same) c.self.invariant.uids) in
     one_home-of_run _ _ uids (subst (λ (s : SettingsModel). 1 ≤ s.margin) (sym c.happens.ensures.settings) c.invariant.ensures.margin.from)
 
@@ -249,18 +257,18 @@ returns-then-self-clause-no_double c =
 
 pub returns-then-is_ok-clause-no_double : goal.returns-then-is_ok-clause-no_double
 returns-then-is_ok-clause-no_double c =
-    let kept : c.keep_event.new.accepted.items ≡ c.self.inside.accepted.items ++ c.args.event.now ∷ [] =
-    at-ok c.keep_event.result _ (sym c.is_ok.ensures.value ∙ c.if-is_ok.true) c.keep_event.ensures.ok in
+    let kept : c.keep_step-kept.new.accepted.items ≡ c.self.inside.accepted.items ++ c.args.event.now ∷ [] =
+    at-ok c.keep_step-kept.result _ (sym c.is_ok.ensures.value ∙ c.if-is_ok.true) c.keep_step-kept.ensures.kept in
     let uids =
-    subst (λ (s : SettingsModel). HaveUids (run s c.keep_event.new.accepted.items)) (sym c.happens.ensures.settings)
+    subst (λ (s : SettingsModel). HaveUids (run s c.keep_step-kept.new.accepted.items)) (sym c.happens.ensures.settings)
     (subst (λ (l : List Event). HaveUids (run c.self.inside.scene.settings l)) (sym kept) (next_uids c.self.inside.scene.settings c.self.inside.accepted.items c.args.event.now c.self.invariant.uids c.start_has_uid.ensures)) in
     no_double-of_run _ _ uids (subst (λ (s : SettingsModel). 1 ≤ s.margin) (sym c.happens.ensures.settings) c.invariant.ensures.margin.from)
 
 pub returns-else-is_ok-clause-no_double : goal.returns-else-is_ok-clause-no_double
 returns-else-is_ok-clause-no_double c =
-    let same : c.keep_event.new.accepted.items ≡ c.self.inside.accepted.items = grind (arith, common_steps) in
+    let same : c.keep_step-kept.new.accepted.items ≡ c.self.inside.accepted.items = grind (arith, common_steps) in
     let uids =
-    subst (λ (s : SettingsModel). HaveUids (run s c.keep_event.new.accepted.items)) (sym c.happens.ensures.settings)
+    subst (λ (s : SettingsModel). HaveUids (run s c.keep_step-kept.new.accepted.items)) (sym c.happens.ensures.settings)
     (subst (λ (l : List Event). HaveUids (run c.self.inside.scene.settings l)) (sym same) c.self.invariant.uids) in
     no_double-of_run _ _ uids (subst (λ (s : SettingsModel). 1 ≤ s.margin) (sym c.happens.ensures.settings) c.invariant.ensures.margin.from)
 

@@ -2,7 +2,7 @@ use Rattle.std.proofs.Common.{sym, ap, ◌∙◌}
 use Rattle.ak_world.specs.MarginMark as mark
 use Rattle.ak_world.specs.WorldContracts.{states}
 use Rattle.ak_world.proofs.WorldLemmas.{position-states}
-use Rattle.ak_world.proofs.world.running_end.Goals as goal
+use Rattle.ak_world.proofs.margin.running_end.Goals as goal
 
 pub returns-in-MarginEnd : goal.returns-in-MarginEnd
 returns-in-MarginEnd c =
