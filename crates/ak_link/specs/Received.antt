@@ -32,3 +32,11 @@ GotCause old new (Bad number) = new ≡ old
 GotCause old new Quiet = new ≡ old
 GotCause old new Failed = Rose old new
 GotCause old new NoMemory = new ≡ old
+
+-- whether or not it is known what comes: some bytes spell the envelope, or have this first fault
+abbrev pub GotSome : Got → Type 0
+GotSome (GotEnvelope envelope) = (bytes : List ℕ) × Spells bytes envelope
+GotSome (Bad number) = (bytes : List ℕ) × FirstFault bytes number
+GotSome Quiet = ⊤
+GotSome Failed = ⊤
+GotSome NoMemory = ⊤

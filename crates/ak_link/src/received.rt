@@ -1,6 +1,6 @@
 // A packet that is received, as an envelope.
 ghost use Rattle.std.specs.Prelude.{◌≡◌, ◌≤◌, length};
-ghost use Rattle.ak_link.specs.Received.{GotOf, GotCause, Receives};
+ghost use Rattle.ak_link.specs.Received.{GotOf, GotCause, GotSome, Receives};
 
 use ak_outside::{Heard, Link};
 use ak_wire::{Envelope, decode};
@@ -28,6 +28,7 @@ pub fn receive_envelope<L: Link>(alloc: Global, link: &mut L, buffer: &mut [u8])
     ensures losses { L.losses link.new ≡ L.losses link.old }
     ensures bound { L.bound link.new ≡ L.bound link.old }
     ensures sends { L.sends link.new ≡ L.sends link.old }
+    ensures some { GotSome result }
     ensures receives { Receives (L.coming link.old) (L.coming link.new) (length buffer.new) result }
 {
     match link.receive(buffer) {

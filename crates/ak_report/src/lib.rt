@@ -3,4 +3,4 @@
 
 mod report;
 
-pub use report::{append_actions, print_actions, print_bytes};
+pub use report::{append_action, append_actions, print_actions, print_bytes};

@@ -421,3 +421,18 @@ pub fn append_actions(
 {
     print_items(gossip, first_packet, actions.as_slice(), out)
 }
+
+/// Appends the item of one action, on a line after two spaces, as `append_actions` does for each: for whoever does something between
+/// two items. A packet that the action sends has this number. Where memory runs out, a part of the item may stand at the end.
+pub fn append_action(
+    gossip: &Gossip,
+    number: u128,
+    action: &Action,
+    out: &mut Vec<u8>,
+) -> Result<(), AllocError>
+    ensures { OnOk result (out.new.items ≡ out.old.items ++ text.item (text.action_text gossip.now number action.now)) }
+{
+    print_bytes(b"  ", out)?;
+    print_action(gossip, number, action, out)?;
+    print_bytes(b"\n", out)
+}

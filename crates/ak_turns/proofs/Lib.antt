@@ -1,0 +1,10 @@
+pub mod SendLemmas
+pub mod StepLemmas
+pub mod RunLemmas
+pub mod Counting
+pub mod BeginLemmas
+pub mod TurnsLemmas
+pub mod ControlLemmas
+pub mod EndLemmas
+pub mod NodeCauses
+pub mod Determined

@@ -1,0 +1,9 @@
+pub mod Timer
+pub mod Steps
+pub mod Turns
+pub mod Outside
+pub mod Endings
+pub mod NodeRun
+pub mod TurnsContracts
+pub mod Control
+pub mod NodePromise
