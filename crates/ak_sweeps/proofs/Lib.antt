@@ -1,0 +1,9 @@
+pub mod Answers
+pub mod Censuses
+pub mod Followed
+pub mod GeneratedRuns
+pub mod LineLaws
+pub mod RunLoop
+pub mod SightLemmas
+pub mod SweepLines
+pub mod WriteLoop

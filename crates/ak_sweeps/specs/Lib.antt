@@ -1,0 +1,4 @@
+pub mod GeneratedRun
+pub mod RunContracts
+pub mod SweepText
+pub mod SweepPromise
