@@ -268,5 +268,8 @@ past_replay bytes more status text past r =
 pub past_not_done : (bytes text : List ℕ) → IsPast bytes → IsReplay bytes 0 text → ⊥
 past_not_done bytes text past r = let e : ◌≡◌ {A = ℕ} 0 4 = (past_replay bytes [] 0 text past r).1 in omega arith
 
+pub past_not_double : (bytes text : List ℕ) → IsPast bytes → IsReplay bytes 1 text → ⊥
+past_not_double bytes text past r = let e : ◌≡◌ {A = ℕ} 1 4 = (past_replay bytes [] 1 text past r).1 in omega arith
+
 pub past_first : (bytes more text : List ℕ) → IsPast bytes → IsFirstSteps bytes text → IsFirstSteps (bytes ++ more) text
 past_first bytes more text past r = (r.0, r.1, (past_replays bytes more r.0 r.1 past r.2).0, r.3, r.4)

@@ -2,6 +2,7 @@ pub mod AskedCommands
 pub mod Completeness
 pub mod CutLemmas
 pub mod FinishLemmas
+pub mod HeadlineLemmas
 pub mod InputLemmas
 pub mod OneReplay
 pub mod PromiseLemmas

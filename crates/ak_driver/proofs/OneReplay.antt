@@ -1,5 +1,5 @@
 -- A schedule has one replay at most, and the world that it reaches is the run of its settings over the events that it accepted.
-use Rattle.std.proofs.Common.{◌≡◌, ℕ, ◌<◌, ◌≤◌, ◌⊎◌, List, [], ◌∷◌, ◌++◌, Result, Ok, Err, length, refl, sym, ap, subst, inl, inr, ◌∙◌, arith}
+use Rattle.std.proofs.Common.{◌≡◌, ℕ, ◌<◌, ◌≤◌, ◌⊎◌, List, [], ◌∷◌, ◌++◌, Option, None, Some, Result, Ok, Err, length, refl, sym, ap, subst, inl, inr, ◌∙◌, arith}
 use Rattle.std.specs.List.{concat}
 use Rattle.ak_schedule.specs.declared.event.Event.{Event}
 use Rattle.ak_schedule.specs.declared.settings.Header as header
@@ -14,6 +14,8 @@ use Rattle.ak_world.specs.World.{WorldState, Done, empty_world, happens, after, 
 use Rattle.ak_world.proofs.WorldLemmas.{run-push}
 use Rattle.ak_world.specs.declared.margin.Margin.{Margin}
 use Rattle.ak_world.proofs.MarginRuns.{one_margin}
+use Rattle.ak_world.specs.Double.{Doubled}
+use Rattle.ak_world.proofs.DoubleMarks.{one_first}
 use Rattle.ak_driver.specs.ReplayText.{Progress, Judgement, Passes, Sets, Steps, Ending, Finished, Stopped, Judged, IsRefused, WantsHeader, WantsEvent, HasRoom, SetsNext, EndsAs, Replays, ReplaysAs, IsReplay, turn, at_start, ending_text, ending_status, most_lines, most_events, header_count}
 
 -- ---- what a line is, from which its judgement or its code follows
@@ -116,7 +118,10 @@ abbrev Same : List (List ℕ) → Ending → List (List ℕ) → Ending → Type
 Same s x t y = (s ≡ t) × (x ≡ y)
 
 one_end : (p : Progress) (x y : Ending) → EndsAs p x → EndsAs p y → x ≡ y
-one_end p x y (inl h) (inl g) = h.3 ∙ ap (Finished p) (one_margin p.settings p.events h.1 g.1 h.2 g.2) ∙ sym g.3
+one_end p x y (inl h) (inl g) =
+    let margin = one_margin p.settings p.events h.1 g.1 h.3 g.3 in
+    let double = one_first p.settings p.events h.2 g.2 h.4 g.4 in
+    h.5 ∙ (λ i. Finished p (margin i) (double i)) ∙ sym g.5
 one_end p x y (inl h) (inr g) = absurd (omega arith)
 one_end p x y (inr h) (inl g) = absurd (omega arith)
 one_end p x y (inr h) (inr g) = h.1 ∙ sym g.1
@@ -138,12 +143,13 @@ one_replay bytes s t x y h g =
     let same = one_from (lines bytes) at_start h.0 g.0 h.1 g.1 h.2 g.2 in
     (h.3 ∙ ap ending_status same.1 ∙ sym g.3, h.4 ∙ (λ i. concat (same.0 i) ++ ending_text (same.1 i)) ∙ sym g.4)
 
-status_of : (ending : Ending) → (ending_status ending ≡ 0) ⊎ (ending_status ending ≡ 4)
-status_of (Finished p margin) = inl refl
-status_of (Stopped code line) = inr refl
+status_of : (ending : Ending) → (ending_status ending ≡ 0) ⊎ ((ending_status ending ≡ 1) ⊎ (ending_status ending ≡ 4))
+status_of (Finished p margin None) = inl refl
+status_of (Finished p margin (Some double)) = inr (inl refl)
+status_of (Stopped code line) = inr (inr refl)
 
-pub replay_status : (bytes : List ℕ) (s : ℕ) (x : List ℕ) → IsReplay bytes s x → (s ≡ 0) ⊎ (s ≡ 4)
-replay_status bytes s x h = subst (λ (k : ℕ). (k ≡ 0) ⊎ (k ≡ 4)) (sym h.3) (status_of h.1)
+pub replay_status : (bytes : List ℕ) (s : ℕ) (x : List ℕ) → IsReplay bytes s x → (s ≡ 0) ⊎ ((s ≡ 1) ⊎ (s ≡ 4))
+replay_status bytes s x h = subst (λ (k : ℕ). (k ≡ 0) ⊎ ((k ≡ 1) ⊎ (k ≡ 4))) (sym h.3) (status_of h.1)
 
 -- ---- the world that is reached
 -- while headers are read nothing has happened, and the world is the run of the settings over the accepted events
@@ -165,14 +171,14 @@ turn_run p line (Steps event done) j r = record {
 }
 
 abbrev progress_in : Ending → Progress
-progress_in (Finished p margin) = p
+progress_in (Finished p margin double) = p
 progress_in (Stopped code line) = at_start
 
-finished_run : (others : List (List ℕ)) (p q : Progress) (margin : Margin) (steps : List (List ℕ)) → Replays p others steps (Finished q margin) → IsRun p → IsRun q
-finished_run [] p q margin steps (none, inl h) r = subst IsRun (let same : Finished q margin ≡ Finished p h.1 = h.3 in sym (ap progress_in same)) r
-finished_run [] p q margin steps (none, inr h) r = absurd (cc)
-finished_run (line ∷ others) p q margin steps (inl h) r = absurd (cc)
-finished_run (line ∷ others) p q margin steps (inr h) r = finished_run others (turn p h.0).0 q margin h.2 h.3 (turn_run p line h.0 h.1 r)
+finished_run : (others : List (List ℕ)) (p q : Progress) (margin : Margin) (double : Option Doubled) (steps : List (List ℕ)) → Replays p others steps (Finished q margin double) → IsRun p → IsRun q
+finished_run [] p q margin double steps (none, inl h) r = subst IsRun (let same : Finished q margin double ≡ Finished p h.1 h.2 = h.5 in sym (ap progress_in same)) r
+finished_run [] p q margin double steps (none, inr h) r = absurd (cc)
+finished_run (line ∷ others) p q margin double steps (inl h) r = absurd (cc)
+finished_run (line ∷ others) p q margin double steps (inr h) r = finished_run others (turn p h.0).0 q margin double h.2 h.3 (turn_run p line h.0 h.1 r)
 
-pub reached : (bytes : List ℕ) (steps : List (List ℕ)) (p : Progress) (margin : Margin) → ReplaysAs bytes steps (Finished p margin) → p.world ≡ run p.settings p.events
-reached bytes steps p margin r = (finished_run (lines bytes) at_start p margin steps r (record { heading = λ _. refl; is_run = refl })).is_run
+pub reached : (bytes : List ℕ) (steps : List (List ℕ)) (p : Progress) (margin : Margin) (double : Option Doubled) → ReplaysAs bytes steps (Finished p margin double) → p.world ≡ run p.settings p.events
+reached bytes steps p margin double r = (finished_run (lines bytes) at_start p margin double steps r (record { heading = λ _. refl; is_run = refl })).is_run

@@ -8,7 +8,7 @@ use Rattle.ak_driver.specs.InputContracts.{IsPast, Reads}
 use Rattle.ak_driver.specs.ReplayText.{IsFirstSteps, at_start}
 use Rattle.ak_driver.specs.ReplayPromise.{MayPrint, Prints, Promises, EndsSource, read_line_text}
 use Rattle.ak_driver.specs.StatusContracts.{Written, memory_line}
-use Rattle.ak_driver.proofs.CutLemmas.{past_replay, past_not_done, past_first}
+use Rattle.ak_driver.proofs.CutLemmas.{past_replay, past_not_done, past_not_double, past_first}
 use Rattle.ak_driver.proofs.SomeReplay.{some_from}
 use Rattle.ak_schedule.specs.Line.{lines}
 
@@ -23,7 +23,7 @@ prints_more bytes more Memory old new past p = (p.0, past_first bytes more p.0 p
 prints_more bytes more Write old new past (text, inl may, prefix) = (text, inl (may_print_more bytes more text past may), prefix)
 prints_more bytes more Write old new past (text, inr is, prefix) = (text, inr is, prefix)
 prints_more bytes more Read old new past p = p
-prints_more bytes more Double old new past p = tt
+prints_more bytes more Double old new past p = absurd (past_not_double bytes p.0 past p.1)
 prints_more bytes more Usage old new past p = tt
 prints_more bytes more Configuration old new past p = tt
 prints_more bytes more Link old new past p = tt
@@ -42,7 +42,8 @@ ends bytes left Schedule old new e p = tt
 ends bytes left Memory old new e p = tt
 ends bytes left Write old new e p = tt
 ends bytes left Read old new e p = tt
-ends bytes left Double old new e p = tt
+ends bytes left Double old new (inl end) p = end
+ends bytes left Double old new (inr past) p = absurd (past_not_double bytes p.0 past p.1)
 ends bytes left Usage old new e p = tt
 ends bytes left Configuration old new e p = tt
 ends bytes left Link old new e p = tt

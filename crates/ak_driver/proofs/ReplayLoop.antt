@@ -1,5 +1,5 @@
 -- What a replay's output has written by its end, from what was written before.
-use Rattle.std.proofs.Common.{◌≡◌, ℕ, ◌⊎◌, List, [], ◌∷◌, ◌++◌, length, Option, Result, Ok, Err, refl, sym, ap, subst, inl, inr, ◌∙◌, append-nil, append_assoc}
+use Rattle.std.proofs.Common.{◌≡◌, ℕ, ◌⊎◌, List, [], ◌∷◌, ◌++◌, Bool, length, Option, None, Some, is_some, Result, Ok, Err, refl, sym, ap, subst, inl, inr, ◌∙◌, append-nil, append_assoc}
 use Rattle.std.specs.List.{concat}
 use Rattle.std.proofs.lemmas.List.Folds.{concat-append}
 use Rattle.std.specs.Io.KnownBytes.{Appends}
@@ -7,10 +7,12 @@ use Rattle.std.proofs.Math.Seq.{take-append_seam}
 use Rattle.std.proofs.KnownBytes.{Appends-trans, Appends-nil}
 use Rattle.ak_outside.specs.Outside.{Rose, AppendsPrefix}
 use Rattle.ak_outside.specs.declared.status.Status.{Status}
-use Rattle.ak_outside.specs.declared.status.Status.TheVariants.{Done, Schedule, Write, Memory}
+use Rattle.ak_outside.specs.declared.status.Status.TheVariants.{Done, Double, Schedule, Write, Memory}
 use Rattle.ak_outside.proofs.Prefixes.{AppendsPrefix-after, AppendsPrefix-more}
 use Rattle.ak_schedule.specs.Draft.{first_draft}
 use Rattle.ak_schedule.specs.Line.{lines}
+use Rattle.ak_world.specs.Double.{Doubled}
+use Rattle.ak_world.specs.declared.margin.Margin.{Margin}
 use Rattle.ak_driver.specs.declared.replay.Code.{Code}
 use Rattle.ak_driver.specs.declared.replay.Code.TheVariants.{Malformed, BadHeader, PastLimit, Invalid}
 use Rattle.ak_driver.specs.declared.replay.Replay.{Replay}
@@ -19,9 +21,9 @@ use Rattle.ak_driver.specs.declared.replay.Stage.TheVariants.{Heading, Running}
 use Rattle.ak_driver.specs.declared.replay.Stop.{Stop}
 use Rattle.ak_driver.specs.declared.replay.Stop.TheVariants.{Refused, NoMemory}
 use Rattle.ak_driver.specs.StatusContracts.{Written, memory_line}
-use Rattle.ak_driver.specs.ReplayText.{Progress, Ending, Finished, Stopped, Replays, ReplaysAs, IsReplay, IsFirstSteps, turn, ending_text, at_start, refusal_text}
+use Rattle.ak_driver.specs.ReplayText.{Progress, Ending, Finished, Stopped, Replays, ReplaysAs, IsReplay, IsFirstSteps, turn, ending_text, ending_status, at_start, refusal_text}
 use Rattle.ak_driver.specs.ReplayPromise.{Prints}
-use Rattle.ak_driver.specs.ReplayContracts.{progress, progress_of, Turns, TurnAnswers, FinishAnswers, Ended}
+use Rattle.ak_driver.specs.ReplayContracts.{progress, progress_of, Turns, TurnAnswers, FinishAnswers, finished_status, Ended}
 use Rattle.ak_driver.proofs.SomeReplay.{some_from}
 
 -- one whole text, and then the last one
@@ -39,12 +41,12 @@ refusal_starved text same refusal answer w0 w1 old new s w =
     inr (subst (λ (t : List ℕ). Written Memory (t ++ memory_line) answer w0 w1 old new) s w)
 
 -- an end that is a refusal
-pub refused_end : (end : Result (Unit {0}) Stop) (stop : Stop) (code : Code) (line : ℕ) (text : List ℕ) (answer : Status) (w0 w1 : ℕ) (old new : Option (List ℕ))
+pub refused_end : (end : Result Bool Stop) (stop : Stop) (code : Code) (line : ℕ) (text : List ℕ) (answer : Status) (w0 w1 : ℕ) (old new : Option (List ℕ))
     → end ≡ Err stop → stop ≡ Refused code
     → Written Schedule (text ++ refusal_text code line) answer w0 w1 old new ⊎ Written Memory (text ++ memory_line) answer w0 w1 old new
     → Ended end line text answer w0 w1 old new
 refused_end end stop code line text answer w0 w1 old new e f w =
-    subst (λ (r : Result (Unit {0}) Stop). Ended r line text answer w0 w1 old new) (sym e)
+    subst (λ (r : Result Bool Stop). Ended r line text answer w0 w1 old new) (sym e)
     (subst (λ (t : Stop). Ended (Err t) line text answer w0 w1 old new) (sym f) w)
 
 -- How far a replay of these bytes has come: these steps were taken, which a replay of the lines that are left completes; their
@@ -122,12 +124,27 @@ along_fails bytes old now later p rest out a f = (
   AppendsPrefix-more old later (a.text ++ out) memory_line (AppendsPrefix-after old now later a.text out a.written f),
 )
 
+prints_doubled : (bytes : List ℕ) (old now later : Option (List ℕ)) (prefix text : List ℕ) (answer : Status) (w0 w1 : ℕ)
+    → IsReplay bytes 1 (prefix ++ text) → Appends old now prefix → Written Double text answer w0 w1 now later → Prints bytes answer old later
+prints_doubled bytes old now later prefix text answer w0 w1 i a (inl w) =
+    subst (λ (s : Status). Prints bytes s old later) (sym w.0) (prefix ++ text, i, Appends-trans old now later prefix text a w.2)
+prints_doubled bytes old now later prefix text answer w0 w1 i a (inr w) =
+    subst (λ (s : Status). Prints bytes s old later) (sym w.0) (prefix ++ text, inl (inl (1, i)), AppendsPrefix-after old now later prefix text a w.2)
+
 prints_done : (bytes : List ℕ) (old now later : Option (List ℕ)) (prefix text : List ℕ) (answer : Status) (w0 w1 : ℕ)
     → IsReplay bytes 0 (prefix ++ text) → Appends old now prefix → Written Done text answer w0 w1 now later → Prints bytes answer old later
 prints_done bytes old now later prefix text answer w0 w1 i a (inl w) =
     subst (λ (s : Status). Prints bytes s old later) (sym w.0) (prefix ++ text, i, Appends-trans old now later prefix text a w.2)
 prints_done bytes old now later prefix text answer w0 w1 i a (inr w) =
     subst (λ (s : Status). Prints bytes s old later) (sym w.0) (prefix ++ text, inl (inl (0, i)), AppendsPrefix-after old now later prefix text a w.2)
+
+-- all lines were accepted, with this double or none
+prints_finished : (bytes : List ℕ) (old now later : Option (List ℕ)) (p : Progress) (margin : Margin) (double : Option Doubled) (doubled : Bool) (prefix text : List ℕ) (answer : Status) (w0 w1 : ℕ) → doubled ≡ is_some double
+    → IsReplay bytes (ending_status (Finished p margin double)) (prefix ++ text) → Appends old now prefix → Written (finished_status doubled) text answer w0 w1 now later → Prints bytes answer old later
+prints_finished bytes old now later p margin None doubled prefix text answer w0 w1 is i a w =
+    prints_done bytes old now later prefix text answer w0 w1 i a (subst (λ (b : Bool). Written (finished_status b) text answer w0 w1 now later) is w)
+prints_finished bytes old now later p margin (Some double) doubled prefix text answer w0 w1 is i a w =
+    prints_doubled bytes old now later prefix text answer w0 w1 i a (subst (λ (b : Bool). Written (finished_status b) text answer w0 w1 now later) is w)
 
 prints_refusal : (bytes : List ℕ) (old now later : Option (List ℕ)) (prefix text : List ℕ) (answer : Status) (w0 w1 : ℕ)
     → IsReplay bytes 4 (prefix ++ text) → Appends old now prefix → Written Schedule text answer w0 w1 now later → Prints bytes answer old later
@@ -182,13 +199,14 @@ progress_line (Heading draft) line = refl
 progress_line (Running world) line = refl
 
 -- the end of the lines
-pub along_finish : (r : Result (Unit {0}) Stop) (bytes : List ℕ) (old now later : Option (List ℕ)) (p : Progress) (rest : List (List ℕ)) (out after : List ℕ)
+pub along_finish : (r : Result Bool Stop) (bytes : List ℕ) (old now later : Option (List ℕ)) (p : Progress) (rest : List (List ℕ)) (out after : List ℕ)
     (number : ℕ) (answer : Status) (w0 w1 : ℕ) → Along bytes old now p rest out → rest ≡ [] → FinishAnswers r p out after
     → number ≡ p.line → Ended r number after answer w0 w1 now later → Prints bytes answer old later
-along_finish (Ok u) bytes old now later p rest out after number answer w0 w1 a e f n w =
-    let whole = along_whole bytes old now p rest out a (Finished p f.1) (subst (λ (ls : List (List ℕ)). Replays p ls [] (Finished p f.1)) (sym e) (refl, inl (f.0, f.1, f.2, refl))) in
-    prints_done bytes old now later a.text (out ++ ending_text (Finished p f.1)) answer w0 w1 (a.steps, Finished p f.1, whole.0, refl, whole.1) a.written
-    (subst (λ (t : List ℕ). Written Done t answer w0 w1 now later) f.3 w)
+along_finish (Ok doubled) bytes old now later p rest out after number answer w0 w1 a e f n w =
+    let ending = Finished p f.1 f.2 in
+    let whole = along_whole bytes old now p rest out a ending (subst (λ (ls : List (List ℕ)). Replays p ls [] ending) (sym e) (refl, inl (f.0, f.1, f.2, f.3, f.4, refl))) in
+    prints_finished bytes old now later p f.1 f.2 doubled a.text (out ++ ending_text ending) answer w0 w1 f.5 (a.steps, ending, whole.0, refl, whole.1) a.written
+    (subst (λ (t : List ℕ). Written (finished_status doubled) t answer w0 w1 now later) f.6 w)
 along_finish (Err (Refused Malformed)) bytes old now later p rest out after number answer w0 w1 a e f n w = absurd f
 along_finish (Err (Refused PastLimit)) bytes old now later p rest out after number answer w0 w1 a e f n w = absurd f
 along_finish (Err (Refused (Invalid why))) bytes old now later p rest out after number answer w0 w1 a e f n w = absurd f

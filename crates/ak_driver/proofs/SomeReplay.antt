@@ -12,6 +12,7 @@ use Rattle.ak_world.specs.World.{Done, happens}
 use Rattle.ak_driver.specs.declared.replay.Code.{Code}
 use Rattle.ak_driver.specs.declared.replay.Code.TheVariants.{Malformed, BadHeader, PastLimit, Invalid}
 use Rattle.ak_world.proofs.MarginRuns.{some_margin}
+use Rattle.ak_world.proofs.SomeDouble.{some_double}
 use Rattle.ak_driver.specs.ReplayText.{Progress, Judgement, Passes, Sets, Steps, Ending, Finished, Stopped, Judged, IsRefused, WantsHeader, WantsEvent, HasRoom, SetsNext, Replays, IsReplay, turn, at_start, ending_status, most_lines, most_events, header_count}
 
 -- ---- each line is accepted or refused
@@ -62,7 +63,10 @@ SomeEnd p lines = (steps : List (List ℕ)) × (ending : Ending) × Replays p li
 
 end_from : (p : Progress) → Tells (p.headers < header_count) → SomeEnd p []
 end_from p (inl few) = ([], Stopped BadHeader p.line, (refl, inr (few, refl)))
-end_from p (inr all) = let m = some_margin p.settings p.events in ([], Finished p m.0, (refl, inl (omega arith, m.0, m.1, refl)))
+end_from p (inr all) =
+    let m = some_margin p.settings p.events in
+    let d = some_double p.settings p.events in
+    ([], Finished p m.0 d.0, (refl, inl (omega arith, m.0, d.0, m.1, d.1, refl)))
 
 goes : (p : Progress) (line : List ℕ) (others : List (List ℕ)) → Found p line → ((q : Progress) → SomeEnd q others) → SomeEnd p (line ∷ others)
 goes p line others (inl refused) rest = ([], Stopped refused.0 p.line, inl (refused.0, refused.1, refl, refl))

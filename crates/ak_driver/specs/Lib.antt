@@ -1,3 +1,4 @@
+pub mod Headline
 pub mod InputContracts
 pub mod ReplayPromise
 pub mod ReplayText

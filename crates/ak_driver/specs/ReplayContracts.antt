@@ -1,5 +1,5 @@
 -- Words of the contracts of a replay's calls.
-use Rattle.std.specs.Prelude.{◌≡◌, ℕ, ◌+◌, ◌<◌, ◌≤◌, ◌⊎◌, ◌↔◌, Option, List, [], ◌∷◌, ◌++◌, Bool, false, IsTrue, length, Result, Ok, Err}
+use Rattle.std.specs.Prelude.{◌≡◌, ℕ, ◌+◌, ◌<◌, ◌≤◌, ◌⊎◌, ◌↔◌, Option, is_some, List, [], ◌∷◌, ◌++◌, Bool, true, false, IsTrue, length, Result, Ok, Err}
 use Rattle.std.specs.List.{concat}
 use Rattle.ak_schedule.specs.Draft.{Drafted, ReadsHeader}
 use Rattle.ak_schedule.specs.Schedule.{SpellsEvent}
@@ -17,6 +17,7 @@ use Rattle.ak_outside.specs.declared.status.Status.{Status}
 use Rattle.ak_outside.specs.declared.status.Status as status
 use Rattle.ak_world.specs.declared.margin.Margin.{Margin}
 use Rattle.ak_world.specs.Margin.{IsMargin}
+use Rattle.ak_world.specs.Double.{Doubled, IsFirstDouble}
 use Rattle.ak_driver.specs.ReplayText.{Progress, Judgement, Judged, IsRefused, WantsEvent, HasRoom, Finished, turn, header_count, ending_text, refusal_text}
 use Rattle.ak_driver.specs.StatusContracts.{Written, memory_line}
 use Rattle.ak_world.specs.StepText.{step_text}
@@ -95,18 +96,25 @@ TurnAnswers (Ok u) line p q before after = (text : List ℕ) × Turns p line q t
 TurnAnswers (Err (Refused code)) line p q before after = IsRefused p line code × (after ≡ before)
 TurnAnswers (Err NoMemory) line p q before after = MayRunOut p line × (after ≡ before)
 
--- what comes after the last line: the summary, or a header is missing
-abbrev pub FinishAnswers : Result (Unit {0}) Stop → Progress → List ℕ → List ℕ → Type 0
-FinishAnswers (Ok u) p before after = (header_count ≤ p.headers) × (margin : Margin) × IsMargin p.settings p.events margin × (after ≡ before ++ ending_text (Finished p margin))
+-- what comes after the last line: the summary, and whether there is a double; or a header is missing
+abbrev pub FinishAnswers : Result Bool Stop → Progress → List ℕ → List ℕ → Type 0
+FinishAnswers (Ok doubled) p before after =
+    (header_count ≤ p.headers) × (margin : Margin) × (double : Option Doubled) × IsMargin p.settings p.events margin × IsFirstDouble p.settings p.events double
+    × (doubled ≡ is_some double) × (after ≡ before ++ ending_text (Finished p margin double))
 FinishAnswers (Err (Refused BadHeader)) p before after = (p.headers < header_count) × (after ≡ before)
 FinishAnswers (Err (Refused Malformed)) p before after = ⊥
 FinishAnswers (Err (Refused PastLimit)) p before after = ⊥
 FinishAnswers (Err (Refused (Invalid why))) p before after = ⊥
 FinishAnswers (Err NoMemory) p before after = (header_count ≤ p.headers) × (after ≡ before)
 
+-- the status of a replay whose lines were all accepted, by whether there is a double
+abbrev pub finished_status : Bool → Status
+finished_status true = status.TheVariants.Double
+finished_status false = status.TheVariants.Done
+
 -- how a replay ends in the output, after the text that it has printed, by the sink's counts of faults
-abbrev pub Ended : Result (Unit {0}) Stop → ℕ → List ℕ → Status → ℕ → ℕ → Option (List ℕ) → Option (List ℕ) → Type 0
-Ended (Ok u) line text answer w0 w1 old new = Written status.TheVariants.Done text answer w0 w1 old new
+abbrev pub Ended : Result Bool Stop → ℕ → List ℕ → Status → ℕ → ℕ → Option (List ℕ) → Option (List ℕ) → Type 0
+Ended (Ok doubled) line text answer w0 w1 old new = Written (finished_status doubled) text answer w0 w1 old new
 Ended (Err (Refused code)) line text answer w0 w1 old new =
     Written status.TheVariants.Schedule (text ++ refusal_text code line) answer w0 w1 old new
     ⊎ Written status.TheVariants.Memory (text ++ memory_line) answer w0 w1 old new

@@ -20,11 +20,11 @@ read_line_text = codes "error 5 read" ++ 10 ∷ []
 -- What was written, from old to new, by a replay of these bytes that ended so.
 abbrev pub Prints : List ℕ → Status → Option (List ℕ) → Option (List ℕ) → Type 0
 Prints bytes Done old new = (text : List ℕ) × IsReplay bytes 0 text × Appends old new text
+Prints bytes Double old new = (text : List ℕ) × IsReplay bytes 1 text × Appends old new text
 Prints bytes Schedule old new = (text : List ℕ) × IsReplay bytes 4 text × Appends old new text
 Prints bytes Memory old new = (prefix : List ℕ) × IsFirstSteps bytes prefix × Appends old new (prefix ++ memory_line)
 Prints bytes Write old new = (text : List ℕ) × (MayPrint bytes text ⊎ (text ≡ read_line_text)) × AppendsPrefix old new text
 Prints bytes Read old new = Appends old new read_line_text
-Prints bytes Double old new = ⊤
 Prints bytes Usage old new = ⊤
 Prints bytes Configuration old new = ⊤
 Prints bytes Link old new = ⊤
@@ -38,7 +38,7 @@ Promises (Some bytes) status old new = Prints bytes status old new
 -- a source was read to its end by a replay that accepted each line
 abbrev pub EndsSource : Status → Option (List ℕ) → Type 0
 EndsSource Done remaining = IsAtEnd remaining
-EndsSource Double remaining = ⊤
+EndsSource Double remaining = IsAtEnd remaining
 EndsSource Usage remaining = ⊤
 EndsSource Configuration remaining = ⊤
 EndsSource Schedule remaining = ⊤

@@ -1,5 +1,5 @@
 -- What a replay of a recorded schedule prints, and its status: by the grammar of a line and the rules of the world.
-use Rattle.std.specs.Prelude.{◌≡◌, ℕ, ◌+◌, ◌<◌, ◌≤◌, ◌⊎◌, List, [], ◌∷◌, ◌++◌, codes, length, take, Ok, Err}
+use Rattle.std.specs.Prelude.{◌≡◌, ℕ, ◌+◌, ◌<◌, ◌≤◌, ◌⊎◌, List, [], ◌∷◌, ◌++◌, codes, length, take, Option, None, Some, Ok, Err}
 use Rattle.std.specs.List.{concat}
 use Rattle.std.specs.Fmt.{decimal}
 use Rattle.ak_schedule.specs.Line.{lines, IsPassedOver}
@@ -8,11 +8,12 @@ use Rattle.ak_schedule.specs.Schedule.{SpellsEvent}
 use Rattle.ak_schedule.specs.Draft.{first_draft, ReadsHeader}
 use Rattle.ak_schedule.specs.declared.event.Event.{Event}
 use Rattle.ak_world.specs.declared.world.Reason.{Reason}
-use Rattle.ak_world.specs.declared.world.Reason.TheVariants.{Unlisted, UniqueUsed, AddressInUse, SecondFound, UnknownNode, NodeStopped, NoPacket, TooManyPackets, TooManyStarts, NotBuilt}
+use Rattle.ak_world.specs.declared.world.Reason.TheVariants.{Unlisted, UniqueUsed, AddressInUse, SecondFound, UnknownNode, NodeStopped, NoPacket, TooManyPackets, TooManyStarts}
 use Rattle.ak_driver.specs.declared.replay.Code.{Code}
 use Rattle.ak_driver.specs.declared.replay.Code.TheVariants.{Malformed, BadHeader, PastLimit, Invalid}
 use Rattle.ak_world.specs.declared.margin.Margin.{Margin}
 use Rattle.ak_world.specs.Margin.{IsMargin}
+use Rattle.ak_world.specs.Double.{Doubled, IsFirstDouble}
 use Rattle.ak_world.specs.World.{WorldState, Done, empty_world, happens}
 use Rattle.ak_world.specs.StepText.{step_text, summary_text}
 
@@ -51,7 +52,6 @@ reason_text NodeStopped = codes "S8"
 reason_text (NoPacket sent) = codes "S9"
 reason_text TooManyPackets = codes "S10"
 reason_text TooManyStarts = codes "S11"
-reason_text NotBuilt = codes "S13"
 
 abbrev pub code_text : Code → List ℕ
 code_text Malformed = codes "S1"
@@ -110,14 +110,16 @@ turn p (Steps event done) = (
   step_text (length p.world.packets + 1) (length p.events + 1) event done ∷ [],
 )
 
--- how a replay ends: after its last line, with the margin of its events, or at a line that is refused
+-- how a replay ends: after its last line, with the margin and the first double of its events, or at a line that is refused
 pub data Ending : Type 0 where
-  Finished : Progress → Margin → Ending
+  Finished : Progress → Margin → Option Doubled → Ending
   Stopped : Code → ℕ → Ending
 
 -- after the last line a replay is finished, or a header is missing
 abbrev pub EndsAs : Progress → Ending → Type 0
-EndsAs p ending = ((header_count ≤ p.headers) × (margin : Margin) × IsMargin p.settings p.events margin × (ending ≡ Finished p margin)) ⊎ ((p.headers < header_count) × (ending ≡ Stopped BadHeader p.line))
+EndsAs p ending =
+    ((header_count ≤ p.headers) × (margin : Margin) × (double : Option Doubled) × IsMargin p.settings p.events margin × IsFirstDouble p.settings p.events double × (ending ≡ Finished p margin double))
+    ⊎ ((p.headers < header_count) × (ending ≡ Stopped BadHeader p.line))
 
 -- From here a replay of these lines takes steps with these texts, and ends so.
 abbrev pub Replays : Progress → List (List ℕ) → List (List ℕ) → Ending → Type 0
@@ -129,11 +131,12 @@ Replays p (line ∷ lines) steps ending =
 
 -- what is printed at the end, and the status
 abbrev pub ending_text : Ending → List ℕ
-ending_text (Finished p margin) = summary_text (length p.events) margin p.world
+ending_text (Finished p margin double) = summary_text (length p.events) margin double p.world
 ending_text (Stopped code line) = refusal_text code line
 
 abbrev pub ending_status : Ending → ℕ
-ending_status (Finished p margin) = 0
+ending_status (Finished p margin None) = 0
+ending_status (Finished p margin (Some double)) = 1
 ending_status (Stopped code line) = 4
 
 -- the bytes of a schedule have these texts of steps and this end

@@ -1,16 +1,21 @@
 -- Words of how a run ends.
 use Rattle.std.specs.Prelude.{◌≡◌, ◌≢◌, ◌⊎◌, List, ℕ, [], ◌∷◌, ◌++◌, Option, codes}
 use Rattle.std.specs.Io.KnownBytes.{Appends}
+use Rattle.ak_options.specs.CommandLine.{AsksFor}
+use Rattle.ak_options.specs.declared.command.Command.TheVariants.{Sweep}
 use Rattle.ak_outside.specs.Outside.{Rose, AppendsPrefix}
+use Rattle.ak_sweep.specs.declared.line.Line.{Line}
+use Rattle.ak_sweeps.specs.SweepPromise.{Sweeps, IsCompleted, EachKeepsApart}
+use Rattle.ak_sweeps.specs.SweepText.{AreLines}
 use Rattle.ak_outside.specs.declared.status.Status.{Status}
 use Rattle.ak_outside.specs.declared.status.Status.TheVariants.{Done, Double, Usage, Configuration, Schedule, Read, Write, Memory, Link, Turns}
 
--- A replay ends in one of five ways, by the counts of faults of its source and of its sink before and after: where it is
--- done, at a refused line and out of memory neither count rose; a failed read is the source's and the sink's did not rise;
+-- A replay ends in one of six ways, by the counts of faults of its source and of its sink before and after: where it is
+-- done, with a double or without, at a refused line and out of memory neither count rose; a failed read is the source's and the sink's did not rise;
 -- a failed write is the sink's.
 abbrev pub ReplayCause : Status → ℕ → ℕ → ℕ → ℕ → Type 0
 ReplayCause Done r0 r1 w0 w1 = (r1 ≡ r0) × (w1 ≡ w0)
-ReplayCause Double r0 r1 w0 w1 = ⊥
+ReplayCause Double r0 r1 w0 w1 = (r1 ≡ r0) × (w1 ≡ w0)
 ReplayCause Usage r0 r1 w0 w1 = ⊥
 ReplayCause Configuration r0 r1 w0 w1 = ⊥
 ReplayCause Schedule r0 r1 w0 w1 = (r1 ≡ r0) × (w1 ≡ w0)
@@ -24,6 +29,23 @@ ReplayCause Turns r0 r1 w0 w1 = ⊥
 abbrev pub AsksReplay : List (List ℕ) → Type 0
 AsksReplay words = words ≡ codes "replay" ∷ []
 
+-- the words ask for a sweep: of so many seeds from the first one on, with so many events of each, by so many workers
+abbrev pub AsksSweep : List (List ℕ) → ℕ → ℕ → ℕ → ℕ → Type 0
+AsksSweep words first count events workers = AsksFor words (Sweep first count events workers)
+
+-- the words ask for no command that is built
+pub record AsksOther (words : List (List ℕ)) : Type 0 where
+  pub no_replay : AsksReplay words → ⊥
+  pub no_sweep : (first count events workers : ℕ) → AsksSweep words first count events workers → ⊥
+
+-- A sweep ended so, by its sink's count of faults before and after and by what was written: with the text of its lines; each of them
+-- says that there is no double where it says that the margin was kept; and where the sink does not fail the text is whole, or memory
+-- ran out.
+pub record Swept (first count events : ℕ) (answer : Status) (w0 w1 : ℕ) (old new : Option (List ℕ)) : Type 0 where
+  pub sweep : Sweeps first count events answer w0 w1 old new
+  pub apart : (lines : List Line) → AreLines first count events lines → EachKeepsApart lines
+  pub complete : (Rose w0 w1 → ⊥) → IsCompleted first count events answer old new
+
 abbrev pub memory_line : List ℕ
 memory_line = codes "error 7 memory" ++ 10 ∷ []
 
@@ -36,7 +58,7 @@ abbrev pub Written : Status → List ℕ → Status → ℕ → ℕ → Option (
 Written status text answer w0 w1 old new =
     ((answer ≡ status) × (w1 ≡ w0) × Appends old new text) ⊎ ((answer ≡ Write) × Rose w0 w1 × AppendsPrefix old new text)
 
--- These words, other than the one that asks for a replay, ended so: the line on usage was written; or the words themselves, of
+-- These words, which ask for no command that is built, ended so: the line on usage was written; or the words themselves, of
 -- which there are some, found no memory, and the line on memory was written; or the sink failed on the way.
 abbrev pub RefusesWords : List (List ℕ) → Status → ℕ → ℕ → Option (List ℕ) → Option (List ℕ) → Type 0
 RefusesWords words answer w0 w1 old new =

@@ -1,20 +1,21 @@
-ghost use Rattle.std.specs.Prelude.{◌≡◌, ℕ, ◌⊎◌, List};
+ghost use Rattle.std.specs.Prelude.{◌≡◌, ℕ, ◌⊎◌, List, Option};
 ghost use Rattle.ak_driver.specs.ReplayText.{IsReplay, ReplaysAs, Progress, Finished};
 ghost use Rattle.ak_world.specs.declared.margin.Margin.{Margin};
+ghost use Rattle.ak_world.specs.Double.{Doubled};
 ghost use Rattle.ak_world.specs.World.{run};
 ghost use Rattle.ak_driver.specs.Worked.{empty_schedule, empty_text, founding_schedule, founding_text};
 
-/// A schedule has exactly one replay text and one status, and the status is 0 or 4. (Which line is refused, with which
+/// A schedule has exactly one replay text and one status, and the status is 0, 1 or 4. (Which line is refused, with which
 /// code, the steps before it and the summary are all determined by the bytes.)
 pub fn replays_are_determined()
     ensures one { (bytes : List ℕ) (s t : ℕ) (x y : List ℕ) → IsReplay bytes s x → IsReplay bytes t y → (s ≡ t) × (x ≡ y) }
-    ensures status { (bytes : List ℕ) (s : ℕ) (x : List ℕ) → IsReplay bytes s x → (s ≡ 0) ⊎ (s ≡ 4) }
+    ensures status { (bytes : List ℕ) (s : ℕ) (x : List ℕ) → IsReplay bytes s x → (s ≡ 0) ⊎ ((s ≡ 1) ⊎ (s ≡ 4)) }
     ensures some { (bytes : List ℕ) → (s : ℕ) × (x : List ℕ) × IsReplay bytes s x }
 {}
 
 /// The world that a replay has reached after its last line is the run of the settings over the events that it accepted.
 pub fn replays_reach_runs()
-    ensures { (bytes : List ℕ) (steps : List (List ℕ)) (end : Progress) (margin : Margin) → ReplaysAs bytes steps (Finished end margin) → end.world ≡ run end.settings end.events }
+    ensures { (bytes : List ℕ) (steps : List (List ℕ)) (end : Progress) (margin : Margin) (double : Option Doubled) → ReplaysAs bytes steps (Finished end margin double) → end.world ≡ run end.settings end.events }
 {}
 
 /// What the definitions say that two small schedules print: one without an event, and one in which two nodes start and

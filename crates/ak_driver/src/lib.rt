@@ -10,14 +10,16 @@ ghost use Rattle.std.specs.Prelude.{◌≡◌, ◌≤◌, ℕ, List, Some, IfSom
 ghost use Rattle.std.specs.Process.{exit_status};
 ghost use Rattle.ak_outside.specs.Codes.{exit_code};
 ghost use Rattle.ak_outside.specs.Outside.{Rose};
+ghost use Rattle.ak_driver.specs.Headline.{KeepsEntitiesApart};
 ghost use Rattle.ak_driver.specs.ReplayPromise.{Promises, EndsSource, IsCompleted};
-ghost use Rattle.ak_driver.specs.StatusContracts.{AsksReplay, ReplayCause, Written, RefusesWords, usage_line};
+ghost use Rattle.ak_driver.specs.StatusContracts.{AsksReplay, AsksSweep, AsksOther, ReplayCause, Swept, Written, RefusesWords, usage_line};
 ghost use Rattle.ak_driver.specs.WordsContracts.{words_of};
 
 use ak_address::Text;
 use ak_options::{Command, read_command};
 pub use ak_outside::Status;
 use ak_outside::{Arguments, Clock, Folder, Link, Sink, Source};
+use ak_sweeps::run_sweep;
 pub use laws::{replays_are_determined, replays_reach_runs, worked_schedules};
 pub use replay::run_replay;
 use replay::written;
@@ -26,9 +28,10 @@ use std::process::ExitCode;
 use std::thread::Threads;
 pub use words::collect_words;
 
-// Does what the words after the program's name ask for: `replay` alone replays. The other commands are not built yet: the words
-// that ask for one are refused as those are that ask for none, and nothing is read.
-fn run_words<S: Source, W: Sink>(
+// Does what the words after the program's name ask for: `replay` replays, and `sweep` sweeps. The other commands are not built
+// yet: the words that ask for one are refused as those are that ask for none. Nothing but a replay reads.
+fn run_words<R: Threads + Sync, S: Source, W: Sink>(
+    rt: &R,
     alloc: Global,
     words: &[Text],
     input: &mut S,
@@ -39,13 +42,25 @@ fn run_words<S: Source, W: Sink>(
     ensures replay { AsksReplay words.now → ReplayCause result (S.faults input.old) (S.faults input.new) (W.faults output.old) (W.faults output.new) }
     ensures promise { AsksReplay words.now → Promises (S.remaining input.old) result (W.written output.old) (W.written output.new) }
     ensures end { AsksReplay words.now → IfSome (S.remaining input.old) (λ all. EndsSource result (S.remaining input.new)) }
+    ensures headline { AsksReplay words.now → IfSome (S.remaining input.old) (λ bytes. KeepsEntitiesApart bytes result (W.written output.old) (W.written output.new)) }
     ensures complete { AsksReplay words.now → (bytes : List ℕ) → S.remaining input.old ≡ Some bytes → (Rose (S.faults input.old) (S.faults input.new) → ⊥) → (Rose (W.faults output.old) (W.faults output.new) → ⊥)
         → IsCompleted bytes result (W.written output.old) (W.written output.new) }
-    ensures usage { (AsksReplay words.now → ⊥) → Written Status.Usage usage_line result (W.faults output.old) (W.faults output.new) (W.written output.old) (W.written output.new) }
+    ensures sweep { (first count events workers : ℕ) → AsksSweep words.now first count events workers → Swept first count events result (W.faults output.old) (W.faults output.new) (W.written output.old) (W.written output.new) }
+    ensures usage { AsksOther words.now → Written Status.Usage usage_line result (W.faults output.old) (W.faults output.new) (W.written output.old) (W.written output.new) }
     ensures unread { (AsksReplay words.now → ⊥) → input.new ≡ input.old }
 {
     match read_command(alloc, words) {
         Ok(Some(Command::Replay)) => run_replay(alloc, input, output),
+        Ok(
+            Some(
+                Command::Sweep {
+                    first,
+                    count,
+                    events,
+                    workers,
+                },
+            ),
+        ) => run_sweep(rt, alloc, first, count, events, workers, output),
         Ok(Some(_)) => refuse(output),
         Ok(None) => refuse(output),
         Err(_) => refuse(output),
@@ -60,13 +75,18 @@ fn refuse<W: Sink>(output: &mut W) -> Status
     written(output, b"error 2 usage\n", Status::Usage)
 }
 
-/// Does what the words after the program's name ask for: `replay` alone replays the schedule in the input. Any other
-/// words, those among them that ask for a command that is not built yet, read nothing, and answer `Usage` after one line
-/// that says so, or `Write` where the sink failed. Where there is no memory for the words themselves the answer is
+/// Does what the words after the program's name ask for: `replay` alone replays the schedule in the input, and `sweep` with its
+/// options runs generated schedules, and prints the same text by however many workers. Any other words, those among them that
+/// ask for a command that is not built yet, answer `Usage` after one line that says so, and nothing but a replay reads, or `Write` where the sink failed. Where there is no memory for the words themselves the answer is
 /// `Memory` after one line that says so, or `Write`; a program started without words needs none for them.
 ///
-/// Where neither the input nor the output fails, a schedule whose lines are all accepted gives `Done` and its whole
-/// text, and one with a refused line gives `Schedule` and its whole text, unless memory ends.
+/// Where neither the input nor the output fails, a schedule whose lines are all accepted gives its whole text, with `Done` where
+/// no entity was active on two nodes at once and `Double` where one was, and one with a refused line gives `Schedule` and its
+/// whole text, unless memory ends.
+///
+/// Under a static quorum, with fewer listed addresses than twice its size and the margin kept, no entity is ever active on two
+/// nodes at once in a replayed schedule: a replay whose run kept the margin says `doubles none` after `margin kept`, and does not
+/// answer `Double`.
 ///
 /// The folder, the link and the clock are for commands that are not built yet, and stay as they are.
 pub fn run<R: Threads + Sync, A: Arguments, F: Folder, S: Source, W: Sink, L: Link, C: Clock>(
@@ -84,16 +104,18 @@ pub fn run<R: Threads + Sync, A: Arguments, F: Folder, S: Source, W: Sink, L: Li
     ensures replay { IfSome (A.arguments arguments.now) (λ all. AsksReplay (words_of all) → ReplayCause result (S.faults input.old) (S.faults input.new) (W.faults output.old) (W.faults output.new)) }
     ensures promise { IfSome (A.arguments arguments.now) (λ all. AsksReplay (words_of all) → Promises (S.remaining input.old) result (W.written output.old) (W.written output.new)) }
     ensures end { IfSome (A.arguments arguments.now) (λ all. AsksReplay (words_of all) → IfSome (S.remaining input.old) (λ bytes. EndsSource result (S.remaining input.new))) }
+    ensures headline { IfSome (A.arguments arguments.now) (λ all. AsksReplay (words_of all) → IfSome (S.remaining input.old) (λ bytes. KeepsEntitiesApart bytes result (W.written output.old) (W.written output.new))) }
     ensures complete { IfSome (A.arguments arguments.now) (λ all. AsksReplay (words_of all) → (bytes : List ℕ) → S.remaining input.old ≡ Some bytes → (Rose (S.faults input.old) (S.faults input.new) → ⊥) → (Rose (W.faults output.old) (W.faults output.new) → ⊥)
         → IsCompleted bytes result (W.written output.old) (W.written output.new)) }
-    ensures usage { IfSome (A.arguments arguments.now) (λ all. (AsksReplay (words_of all) → ⊥) → RefusesWords (words_of all) result (W.faults output.old) (W.faults output.new) (W.written output.old) (W.written output.new)) }
+    ensures sweep { IfSome (A.arguments arguments.now) (λ all. (first count events workers : ℕ) → AsksSweep (words_of all) first count events workers → Swept first count events result (W.faults output.old) (W.faults output.new) (W.written output.old) (W.written output.new)) }
+    ensures usage { IfSome (A.arguments arguments.now) (λ all. AsksOther (words_of all) → RefusesWords (words_of all) result (W.faults output.old) (W.faults output.new) (W.written output.old) (W.written output.new)) }
     ensures unread { IfSome (A.arguments arguments.now) (λ all. (AsksReplay (words_of all) → ⊥) → input.new ≡ input.old) }
     ensures folder { folder.new ≡ folder.old }
     ensures link { link.new ≡ link.old }
     ensures clock { clock.new ≡ clock.old }
 {
     match collect_words(alloc, arguments) {
-        Ok(words) => run_words(alloc, &words, input, output),
+        Ok(words) => run_words(rt, alloc, &words, input, output),
         Err(_) => written(output, b"error 7 memory\n", Status::Memory),
     }
 }

@@ -4,9 +4,10 @@ ghost use Rattle.std.specs.Prelude.{◌≡◌, ◌⊎◌, ◌+◌, ◌≤◌, �
 ghost use Rattle.ak_outside.specs.Outside.{Rose};
 ghost use Rattle.ak_schedule.specs.Draft.{first_draft};
 ghost use Rattle.ak_schedule.specs.Line.{IsPassedOver};
+ghost use Rattle.ak_driver.specs.Headline.{KeepsEntitiesApart};
 ghost use Rattle.ak_driver.specs.ReplayPromise.{Prints, Promises, EndsSource, IsCompleted};
 ghost use Rattle.ak_driver.specs.ReplayText.{refusal_text, code_text, reason_text};
-ghost use Rattle.ak_driver.specs.ReplayContracts.{stop_of, IsReady, IsWhole, opened, progress, progress_of, HeadingAnswers, RunningAnswers, TurnAnswers, FinishAnswers, Ended};
+ghost use Rattle.ak_driver.specs.ReplayContracts.{stop_of, IsReady, IsWhole, opened, progress, progress_of, HeadingAnswers, RunningAnswers, TurnAnswers, FinishAnswers, finished_status, Ended};
 ghost use Rattle.ak_driver.specs.StatusContracts.{ReplayCause, Written, memory_line};
 ghost use Rattle.ak_outside.specs.declared.status.Status.TheVariants.{Schedule, Memory};
 
@@ -65,7 +66,6 @@ fn reason_text(why: Reason) -> &'static [u8]
         Reason::NoPacket { sent: _ } => b"S9",
         Reason::TooManyPackets => b"S10",
         Reason::TooManyStarts => b"S11",
-        Reason::NotBuilt => b"S13",
     }
 }
 
@@ -192,8 +192,8 @@ impl Replay {
         };
     }
 
-    // After the last line: the summary, or a header is missing.
-    fn finish(&self, alloc: Global, out: &mut Vec<u8>) -> Result<(), Stop>
+    // After the last line: the summary, and whether there is a double; or a header is missing.
+    fn finish(&self, alloc: Global, out: &mut Vec<u8>) -> Result<bool, Stop>
         requires { IsReady self.now.stage self.now.steps }
         ensures { FinishAnswers result (progress_of self.now) out.old.items out.new.items }
     {
@@ -201,7 +201,7 @@ impl Replay {
             Stage::Heading(_) => Err(Stop::Refused(Code::BadHeader)),
             Stage::Running(world) => {
                 print_summary(alloc, world, self.steps, out)?;
-                Ok(())
+                Ok(world.first_double().is_some())
             }
         }
     }
@@ -304,10 +304,21 @@ fn refused<W: Sink>(
     }
 }
 
+// The status of a replay whose lines were all accepted.
+fn finished_status(doubled: bool) -> Status
+    ensures { result ≡ finished_status doubled }
+{
+    if doubled {
+        Status::Double
+    } else {
+        Status::Done
+    }
+}
+
 // Writes what was printed and how the replay ended.
 fn ended<W: Sink>(
     alloc: Global,
-    end: Result<(), Stop>,
+    end: Result<bool, Stop>,
     line: u64,
     out: &mut Vec<u8>,
     output: &mut W,
@@ -317,7 +328,7 @@ fn ended<W: Sink>(
     ensures ended { Ended end line out.old.items result (W.faults output.old) (W.faults output.new) (W.written output.old) (W.written output.new) }
 {
     match end {
-        Ok(()) => written(output, out, Status::Done),
+        Ok(doubled) => written(output, out, finished_status(doubled)),
         Err(Stop::NoMemory) => out_of_memory(output, out),
         Err(Stop::Refused(code)) => refused(alloc, code, line, out, output),
     }
@@ -351,22 +362,28 @@ fn replay_bytes<W: Sink>(alloc: Global, bytes: &[u8], output: &mut W) -> Status
 
 /// Replays a recorded schedule: reads the whole input, prints each step and then the summary.
 ///
-/// Answers `Done` where every line is accepted; `Schedule` where a line is refused, after the steps before it and a
+/// Answers `Done` where every line is accepted and no entity was active on two nodes at once, and `Double` where one was, after
+/// the same text, whose last line names it; `Schedule` where a line is refused, after the steps before it and a
 /// line that says which and why; `Read` where the source failed, and nothing else is read then; `Write` where the sink
 /// failed, and nothing else is written then; and `Memory`, after whole steps. `Read` and `Write` come exactly where a
 /// fault came first: at each other status no count of faults rose.
 ///
 /// Where the bytes of the source are known, the sink took what the rules say of all of them, also where reading stopped at a
-/// limit before their end. After `Done` the source is at its end.
+/// limit before their end. After `Done` and `Double` the source is at its end.
 ///
-/// Where neither the source nor the sink fails, the replay is complete: a schedule whose lines are all accepted gives
-/// `Done` and its whole text, and one with a refused line gives `Schedule` and its whole text, unless memory ends.
+/// Where neither the source nor the sink fails, the replay is complete: a schedule whose lines are all accepted gives `Done` or
+/// `Double` and its whole text, and one with a refused line gives `Schedule` and its whole text, unless memory ends.
+///
+/// Where the strategy is a static quorum of more than half of the listed addresses and the margin of the run was kept, no entity
+/// was active on two nodes at once: the text says `margin kept` and `doubles none`, and the status is not `Double`. Where an
+/// entity was, the margin was broken at the step at which it started the second time, or earlier.
 pub fn run_replay<S: Source, W: Sink>(alloc: Global, input: &mut S, output: &mut W) -> Status
     ensures read { S.faults input.old ≤ S.faults input.new }
     ensures written { W.faults output.old ≤ W.faults output.new }
     ensures cause { ReplayCause result (S.faults input.old) (S.faults input.new) (W.faults output.old) (W.faults output.new) }
     ensures promise { Promises (S.remaining input.old) result (W.written output.old) (W.written output.new) }
     ensures end { IfSome (S.remaining input.old) (λ all. EndsSource result (S.remaining input.new)) }
+    ensures headline { IfSome (S.remaining input.old) (λ bytes. KeepsEntitiesApart bytes result (W.written output.old) (W.written output.new)) }
     ensures complete { (bytes : List ℕ) → S.remaining input.old ≡ Some bytes → (Rose (S.faults input.old) (S.faults input.new) → ⊥) → (Rose (W.faults output.old) (W.faults output.new) → ⊥)
         → IsCompleted bytes result (W.written output.old) (W.written output.new) }
 {

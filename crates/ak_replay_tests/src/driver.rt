@@ -100,24 +100,25 @@ fn comes_to<R: Threads + Sync>(
     ends_at_writes(rt, alloc, arguments, &mut input, failing.1, wanted)
 }
 
-static OTHERS: [&[&[u8]]; 9] = [
+static OTHERS: [&[&[u8]]; 10] = [
     &[],
     &[b"replay"],
     &[b"akka"],
     &[b"akka", b"watch"],
     &[b"akka", b"replay", b"extra"],
     &[b"akka", b"replay", b""],
-    // accepted, and not built yet
+    &[b"akka", b"sweep"],
     &[
         b"akka",
         b"sweep",
         b"--first",
         b"0",
         b"--count",
-        b"1",
+        b"0",
         b"--events",
         b"1",
     ],
+    // accepted, and not built yet
     &[b"akka", b"node", b"--config", b"F", b"--ticks", b"0"],
     &[b"akka", b"ctl", b"--to", b"a:1", b"--say", b"leave a:1#1"],
 ];
@@ -129,6 +130,32 @@ fn other_words_are_refused(rt: HostRuntime) -> Result<(), Fail> {
     for arguments in &OTHERS {
         assert!(rt; comes_to(&rt, rt.alloc(), arguments, b"", (&[1], &[]), wanted)?);
     }
+    Ok(())
+}
+
+static SWEEP: [&[u8]; 10] = [
+    b"akka",
+    b"sweep",
+    b"--workers",
+    b"2",
+    b"--first",
+    b"0",
+    b"--count",
+    b"2",
+    b"--events",
+    b"30",
+];
+
+const SWEPT: &[u8] =
+    b"seed 0 steps 30 packets 26 history 6 margin kept doubles none\nseed 1 steps 30 packets 30 history 6 margin kept doubles none\nseeds 2 kept 2 doubles 0\n";
+
+// A sweep reads nothing: the first read would fail.
+#[test]
+fn seeds_are_swept(rt: HostRuntime) -> Result<(), Fail> {
+    let done: Wanted = (Status::Done, SWEPT, 0, 0);
+    assert!(rt; comes_to(&rt, rt.alloc(), &SWEEP, b"", (&[1], &[]), done)?);
+    let failed: Wanted = (Status::Write, b"", 0, 1);
+    assert!(rt; comes_to(&rt, rt.alloc(), &SWEEP, b"", (&[1], &[1]), failed)?);
     Ok(())
 }
 

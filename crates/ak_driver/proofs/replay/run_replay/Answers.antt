@@ -2,6 +2,7 @@ use Rattle.std.proofs.Common.{List, ℕ, subst}
 use Rattle.ak_outside.specs.Outside.{Rose}
 use Rattle.ak_driver.specs.ReplayPromise.{Prints}
 use Rattle.ak_driver.proofs.Completeness.{caused, completed, starved}
+use Rattle.ak_driver.proofs.HeadlineLemmas.{promised_apart}
 use Rattle.ak_driver.proofs.PromiseLemmas.{promised, ended_source, no_input, no_memory}
 use Rattle.ak_driver.proofs.replay.run_replay.Goals as goal
 
@@ -52,3 +53,16 @@ returns-in-Err-NoMemory-clause-complete g c =
 
 pub returns-in-Ok-clause-cause : goal.returns-in-Ok-clause-cause
 returns-in-Ok-clause-cause g c = caused c.replay_bytes.result _ _ _ _ c.in-Ok.ensures.cause c.replay_bytes.ensures.cause
+
+pub returns-in-Ok-clause-headline : goal.returns-in-Ok-clause-headline
+returns-in-Ok-clause-headline g c =
+    promised_apart (g.S.Source.remaining c.args.input.now) c.replay_bytes.result (g.W.Sink.written c.args.output.now) (g.W.Sink.written c.replay_bytes.new.output) (returns-in-Ok-clause-promise g c)
+
+pub returns-in-Err-Failed-clause-headline : goal.returns-in-Err-Failed-clause-headline
+returns-in-Err-Failed-clause-headline g c =
+    promised_apart (g.S.Source.remaining c.args.input.now) c.written.result (g.W.Sink.written c.args.output.now) (g.W.Sink.written c.written.new.output) (returns-in-Err-Failed-clause-promise g c)
+
+pub returns-in-Err-NoMemory-clause-headline : goal.returns-in-Err-NoMemory-clause-headline
+returns-in-Err-NoMemory-clause-headline g c =
+    promised_apart (g.S.Source.remaining c.args.input.now) c.written-in-Err-NoMemory.result (g.W.Sink.written c.args.output.now) (g.W.Sink.written c.written-in-Err-NoMemory.new.output)
+    (returns-in-Err-NoMemory-clause-promise g c)
