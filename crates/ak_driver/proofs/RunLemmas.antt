@@ -1,11 +1,17 @@
 -- What is so of the words that were collected is so of the words of known arguments.
-use Rattle.std.proofs.Common.{◌≡◌, ℕ, List, Option, None, Some, subst, sym, inl, inr}
+use Rattle.std.proofs.Common.{◌≡◌, ℕ, List, Option, None, Some, refl, subst, sym, inl, inr}
 use Rattle.std.specs.Prelude.{IfSome}
 use Rattle.ak_outside.specs.declared.status.Status.{Status}
 use Rattle.ak_outside.specs.declared.status.Status.TheVariants.{Usage, Memory}
+use Rattle.ak_address.specs.Unique.{AddressModel}
+use Rattle.ak_options.specs.declared.command.Request.{Request}
+use Rattle.ak_outside.specs.declared.folder.MemoryFile.{MemoryFile}
+use Rattle.ak_turns.specs.Control.{WritesLine, ControlCause}
+use Rattle.ak_turns.specs.NodePromise.{NodeCause}
+use Rattle.ak_turns.specs.Outside.{Output, Wire}
 use Rattle.ak_sweeps.proofs.LineLaws.{keeps_apart}
 use Rattle.ak_sweeps.proofs.WriteLoop.{starved, completed}
-use Rattle.ak_driver.specs.StatusContracts.{AsksReplay, AsksSweep, AsksOther, Swept, Written, RefusesWords, usage_line, memory_line}
+use Rattle.ak_driver.specs.StatusContracts.{AsksReplay, AsksSweep, AsksOther, Swept, RanNode, Asked, Written, RefusesWords, usage_line, memory_line}
 use Rattle.ak_driver.specs.WordsContracts.{words_of, HasWords}
 
 -- by what is so where they ask for a replay
@@ -31,6 +37,15 @@ pub where_swept : (known : Option (List (List ℕ))) (words : List (List ℕ)) (
 where_swept None words P are so = tt
 where_swept (Some all) words P are so = λ first count events workers asks. so first count events workers (subst (λ ws. AsksSweep ws first count events workers) (sym are) asks)
 
+-- whatever the words are, by what is so of them
+pub where_words : (known : Option (List (List ℕ))) (words : List (List ℕ)) (P : List (List ℕ) → Type 0) → IfSome known (λ all. words ≡ words_of all) → P words → IfSome known (λ all. P (words_of all))
+where_words None words P are so = tt
+where_words (Some all) words P are so = subst P are so
+
+pub whichever : (known : Option (List (List ℕ))) (P : List (List ℕ) → Type 0) → ((words : List (List ℕ)) → P words) → IfSome known (λ all. P (words_of all))
+whichever None P so = tt
+whichever (Some all) P so = so (words_of all)
+
 -- there was no memory for the words of a sweep
 pub unswept : (known : Option (List (List ℕ))) (answer : Status) (w0 w1 : ℕ) (old new : Option (List ℕ)) → Written Memory memory_line answer w0 w1 old new
     → IfSome known (λ all. (first count events workers : ℕ) → AsksSweep (words_of all) first count events workers → Swept first count events answer w0 w1 old new)
@@ -53,3 +68,27 @@ pub not_held : (known : Option (List (List ℕ))) (answer : Status) (w0 w1 : ℕ
     IfSome known (λ all. AsksOther (words_of all) → RefusesWords (words_of all) answer w0 w1 old new)
 not_held None answer w0 w1 old new has so = tt
 not_held (Some all) answer w0 w1 old new has so = λ other. inr (has, so)
+
+-- ---- there was no memory for a text in the words, or for the words
+-- a node that found none
+pub no_texts_node : (files : Option (List MemoryFile)) (config : List ℕ) (ticks : ℕ) (answer : Status) (f : ℕ) (o0 o1 : Output) (w : Wire) (l : ℕ) (readings : Option (ℕ → ℕ)) → WritesLine Memory memory_line answer o0 o1
+    → RanNode files config ticks answer f f o0 o1 w w l l readings
+no_texts_node files config ticks answer f o0 o1 w l readings (inl done) = record {
+  cause = subst (λ (s : Status). NodeCause s f f o0.faults o1.faults l l) (sym done.0) (refl, done.1, refl);
+  runs = inr (inl done, refl);
+}
+no_texts_node files config ticks answer f o0 o1 w l readings (inr failed) = record {
+  cause = subst (λ (s : Status). NodeCause s f f o0.faults o1.faults l l) (sym failed.0) failed.1;
+  runs = inr (inr failed, refl);
+}
+
+-- what asks one and found none
+pub no_texts_control : (to : AddressModel) (say : Request) (answer : Status) (o0 o1 : Output) (w : Wire) (l : ℕ) → WritesLine Memory memory_line answer o0 o1 → Asked to say answer o0 o1 w w l l
+no_texts_control to say answer o0 o1 w l (inl done) = record {
+  cause = subst (λ (s : Status). ControlCause s o0.faults o1.faults l l) (sym done.0) (done.1, refl);
+  controls = inr (inl done, refl);
+}
+no_texts_control to say answer o0 o1 w l (inr failed) = record {
+  cause = subst (λ (s : Status). ControlCause s o0.faults o1.faults l l) (sym failed.0) failed.1;
+  controls = inr (inr failed, refl);
+}

@@ -1,12 +1,19 @@
 -- Words of how a run ends.
 use Rattle.std.specs.Prelude.{◌≡◌, ◌≢◌, ◌⊎◌, List, ℕ, [], ◌∷◌, ◌++◌, Option, codes}
 use Rattle.std.specs.Io.KnownBytes.{Appends}
+use Rattle.ak_address.specs.Unique.{AddressModel}
 use Rattle.ak_options.specs.CommandLine.{AsksFor}
-use Rattle.ak_options.specs.declared.command.Command.TheVariants.{Sweep}
+use Rattle.ak_options.specs.declared.command.Command.TheVariants.{Sweep, Node, Ctl}
+use Rattle.ak_options.specs.declared.command.Request.{Request}
+use Rattle.ak_outside.specs.declared.folder.MemoryFile.{MemoryFile}
 use Rattle.ak_outside.specs.Outside.{Rose, AppendsPrefix}
 use Rattle.ak_sweep.specs.declared.line.Line.{Line}
 use Rattle.ak_sweeps.specs.SweepPromise.{Sweeps, IsCompleted, EachKeepsApart}
 use Rattle.ak_sweeps.specs.SweepText.{AreLines}
+use Rattle.ak_turns.specs.Control.{WritesLine, Controls, ControlCause}
+pub use Rattle.ak_turns.specs.Endings.{Written, memory_line}
+use Rattle.ak_turns.specs.NodePromise.{RunsNode, NodeCause}
+use Rattle.ak_turns.specs.Outside.{Output, Wire}
 use Rattle.ak_outside.specs.declared.status.Status.{Status}
 use Rattle.ak_outside.specs.declared.status.Status.TheVariants.{Done, Double, Usage, Configuration, Schedule, Read, Write, Memory, Link, Turns}
 
@@ -33,10 +40,28 @@ AsksReplay words = words ≡ codes "replay" ∷ []
 abbrev pub AsksSweep : List (List ℕ) → ℕ → ℕ → ℕ → ℕ → Type 0
 AsksSweep words first count events workers = AsksFor words (Sweep first count events workers)
 
--- the words ask for no command that is built
+-- the words ask for a node with the configuration of this name, and so many ticks
+abbrev pub AsksNode : List (List ℕ) → List ℕ → ℕ → Type 0
+AsksNode words config ticks = AsksFor words (Node config ticks)
+
+-- the words ask to ask the node at an address this
+abbrev pub AsksControl : List (List ℕ) → AddressModel → Request → Type 0
+AsksControl words to say = AsksFor words (Ctl to say)
+
+-- the words ask for no node
+abbrev pub NoNode : List (List ℕ) → Type 0
+NoNode words = (config : List ℕ) (ticks : ℕ) → AsksNode words config ticks → ⊥
+
+-- nor to ask one
+abbrev pub NoControl : List (List ℕ) → Type 0
+NoControl words = (to : AddressModel) (say : Request) → AsksControl words to say → ⊥
+
+-- the words ask for no command
 pub record AsksOther (words : List (List ℕ)) : Type 0 where
   pub no_replay : AsksReplay words → ⊥
   pub no_sweep : (first count events workers : ℕ) → AsksSweep words first count events workers → ⊥
+  pub no_node : NoNode words
+  pub no_control : NoControl words
 
 -- A sweep ended so, by its sink's count of faults before and after and by what was written: with the text of its lines; each of them
 -- says that there is no double where it says that the margin was kept; and where the sink does not fail the text is whole, or memory
@@ -46,17 +71,19 @@ pub record Swept (first count events : ℕ) (answer : Status) (w0 w1 : ℕ) (old
   pub apart : (lines : List Line) → AreLines first count events lines → EachKeepsApart lines
   pub complete : (Rose w0 w1 → ⊥) → IsCompleted first count events answer old new
 
-abbrev pub memory_line : List ℕ
-memory_line = codes "error 7 memory" ++ 10 ∷ []
+-- A node ran so, by the counts of faults of its folder, sink and link before and after, and by what these and its clock show; or there
+-- was no memory for the words, and the link was left alone.
+pub record RanNode (files : Option (List MemoryFile)) (config : List ℕ) (ticks : ℕ) (answer : Status) (f0 f1 : ℕ) (o0 o1 : Output) (w0 w1 : Wire) (l0 l1 : ℕ) (readings : Option (ℕ → ℕ)) : Type 0 where
+  pub cause : NodeCause answer f0 f1 o0.faults o1.faults l0 l1
+  pub runs : RunsNode files config ticks answer o0 o1 w0 w1 readings ⊎ (WritesLine Memory memory_line answer o0 o1 × (w1 ≡ w0))
+
+-- A node was asked so; or there was no memory for the words, and the link was left alone.
+pub record Asked (to : AddressModel) (say : Request) (answer : Status) (o0 o1 : Output) (w0 w1 : Wire) (l0 l1 : ℕ) : Type 0 where
+  pub cause : ControlCause answer o0.faults o1.faults l0 l1
+  pub controls : Controls answer to say o0 o1 w0 w1 ⊎ (WritesLine Memory memory_line answer o0 o1 × (w1 ≡ w0))
 
 abbrev pub usage_line : List ℕ
 usage_line = codes "error 2 usage" ++ 10 ∷ []
-
--- By the sink's count of faults before and after: the whole text was written, the status is the given one and the count did
--- not rise; or the sink failed after a prefix of the text, and its count rose.
-abbrev pub Written : Status → List ℕ → Status → ℕ → ℕ → Option (List ℕ) → Option (List ℕ) → Type 0
-Written status text answer w0 w1 old new =
-    ((answer ≡ status) × (w1 ≡ w0) × Appends old new text) ⊎ ((answer ≡ Write) × Rose w0 w1 × AppendsPrefix old new text)
 
 -- These words, which ask for no command that is built, ended so: the line on usage was written; or the words themselves, of
 -- which there are some, found no memory, and the line on memory was written; or the sink failed on the way.

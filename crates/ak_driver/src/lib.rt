@@ -12,7 +12,11 @@ ghost use Rattle.ak_outside.specs.Codes.{exit_code};
 ghost use Rattle.ak_outside.specs.Outside.{Rose};
 ghost use Rattle.ak_driver.specs.Headline.{KeepsEntitiesApart};
 ghost use Rattle.ak_driver.specs.ReplayPromise.{Promises, EndsSource, IsCompleted};
-ghost use Rattle.ak_driver.specs.StatusContracts.{AsksReplay, AsksSweep, AsksOther, ReplayCause, Swept, Written, RefusesWords, usage_line};
+ghost use Rattle.ak_driver.specs.StatusContracts.{AsksReplay, AsksSweep, AsksNode, AsksControl, AsksOther, NoNode, NoControl, ReplayCause, Swept, RanNode, Asked, RefusesWords, usage_line};
+ghost use Rattle.ak_turns.specs.Endings.{Written};
+ghost use Rattle.ak_turns.specs.Outside.{sink, wire};
+ghost use Rattle.ak_address.specs.Unique.{AddressModel};
+ghost use Rattle.ak_options.specs.declared.command.Request.{Request};
 ghost use Rattle.ak_driver.specs.WordsContracts.{words_of};
 
 use ak_address::Text;
@@ -20,6 +24,7 @@ use ak_options::{Command, read_command};
 pub use ak_outside::Status;
 use ak_outside::{Arguments, Clock, Folder, Link, Sink, Source};
 use ak_sweeps::run_sweep;
+use ak_turns::{run_ctl, run_node};
 pub use laws::{replays_are_determined, replays_reach_runs, worked_schedules};
 pub use replay::run_replay;
 use replay::written;
@@ -28,17 +33,22 @@ use std::process::ExitCode;
 use std::thread::Threads;
 pub use words::collect_words;
 
-// Does what the words after the program's name ask for: `replay` replays, and `sweep` sweeps. The other commands are not built
-// yet: the words that ask for one are refused as those are that ask for none. Nothing but a replay reads.
-fn run_words<R: Threads + Sync, S: Source, W: Sink>(
+// Does what the words after the program's name ask for. Words that ask for nothing are refused, and where there is no memory for a
+// text in them the line on memory is written.
+fn run_words<R: Threads + Sync, F: Folder, S: Source, W: Sink, L: Link, C: Clock>(
     rt: &R,
     alloc: Global,
     words: &[Text],
+    folder: &mut F,
     input: &mut S,
     output: &mut W,
+    link: &mut L,
+    clock: &mut C,
 ) -> Status
+    ensures loaded { F.faults folder.old ≤ F.faults folder.new }
     ensures read { S.faults input.old ≤ S.faults input.new }
     ensures written { W.faults output.old ≤ W.faults output.new }
+    ensures linked { L.faults link.old ≤ L.faults link.new }
     ensures replay { AsksReplay words.now → ReplayCause result (S.faults input.old) (S.faults input.new) (W.faults output.old) (W.faults output.new) }
     ensures promise { AsksReplay words.now → Promises (S.remaining input.old) result (W.written output.old) (W.written output.new) }
     ensures end { AsksReplay words.now → IfSome (S.remaining input.old) (λ all. EndsSource result (S.remaining input.new)) }
@@ -46,8 +56,13 @@ fn run_words<R: Threads + Sync, S: Source, W: Sink>(
     ensures complete { AsksReplay words.now → (bytes : List ℕ) → S.remaining input.old ≡ Some bytes → (Rose (S.faults input.old) (S.faults input.new) → ⊥) → (Rose (W.faults output.old) (W.faults output.new) → ⊥)
         → IsCompleted bytes result (W.written output.old) (W.written output.new) }
     ensures sweep { (first count events workers : ℕ) → AsksSweep words.now first count events workers → Swept first count events result (W.faults output.old) (W.faults output.new) (W.written output.old) (W.written output.new) }
+    ensures node { (config : List ℕ) (ticks : ℕ) → AsksNode words.now config ticks → RanNode (F.files folder.old) config ticks result (F.faults folder.old) (F.faults folder.new) (sink (W.written output.old) (W.faults output.old)) (sink (W.written output.new) (W.faults output.new)) (wire (L.bound link.old) (L.sends link.old) (L.losses link.old) (L.coming link.old)) (wire (L.bound link.new) (L.sends link.new) (L.losses link.new) (L.coming link.new)) (L.faults link.old) (L.faults link.new) (C.readings clock.old) }
+    ensures control { (to : AddressModel) (say : Request) → AsksControl words.now to say → Asked to say result (sink (W.written output.old) (W.faults output.old)) (sink (W.written output.new) (W.faults output.new)) (wire (L.bound link.old) (L.sends link.old) (L.losses link.old) (L.coming link.old)) (wire (L.bound link.new) (L.sends link.new) (L.losses link.new) (L.coming link.new)) (L.faults link.old) (L.faults link.new) }
     ensures usage { AsksOther words.now → Written Status.Usage usage_line result (W.faults output.old) (W.faults output.new) (W.written output.old) (W.written output.new) }
     ensures unread { (AsksReplay words.now → ⊥) → input.new ≡ input.old }
+    ensures folder { NoNode words.now → folder.new ≡ folder.old }
+    ensures link { NoNode words.now → NoControl words.now → link.new ≡ link.old }
+    ensures clock { NoNode words.now → clock.new ≡ clock.old }
 {
     match read_command(alloc, words) {
         Ok(Some(Command::Replay)) => run_replay(alloc, input, output),
@@ -61,9 +76,12 @@ fn run_words<R: Threads + Sync, S: Source, W: Sink>(
                 },
             ),
         ) => run_sweep(rt, alloc, first, count, events, workers, output),
-        Ok(Some(_)) => refuse(output),
+        Ok(Some(Command::Node { config, ticks })) => {
+            run_node(alloc, &config, ticks, folder, output, link, clock)
+        }
+        Ok(Some(Command::Ctl { to, say })) => run_ctl(alloc, to, say, output, link),
         Ok(None) => refuse(output),
-        Err(_) => refuse(output),
+        Err(_) => written(output, b"error 7 memory\n", Status::Memory),
     }
 }
 
@@ -75,10 +93,11 @@ fn refuse<W: Sink>(output: &mut W) -> Status
     written(output, b"error 2 usage\n", Status::Usage)
 }
 
-/// Does what the words after the program's name ask for: `replay` alone replays the schedule in the input, and `sweep` with its
-/// options runs generated schedules, and prints the same text by however many workers. Any other words, those among them that
-/// ask for a command that is not built yet, answer `Usage` after one line that says so, and nothing but a replay reads, or `Write` where the sink failed. Where there is no memory for the words themselves the answer is
-/// `Memory` after one line that says so, or `Write`; a program started without words needs none for them.
+/// Does what the words after the program's name ask for: `replay` alone replays the schedule in the input; `sweep` with its options
+/// runs generated schedules, and prints the same text by however many workers; `node` runs a node on the network, and `ctl` asks
+/// one. Any other words answer `Usage` after one line that says so, or `Write` where the sink failed. Where there is no memory for
+/// the words themselves the answer is `Memory` after one line that says so, or `Write`; a program started without words needs none
+/// for them. Nothing but a replay reads, nothing but a node loads, and nothing but a node and what asks one uses the link.
 ///
 /// Where neither the input nor the output fails, a schedule whose lines are all accepted gives its whole text, with `Done` where
 /// no entity was active on two nodes at once and `Double` where one was, and one with a refused line gives `Schedule` and its
@@ -86,9 +105,7 @@ fn refuse<W: Sink>(output: &mut W) -> Status
 ///
 /// Under a static quorum, with fewer listed addresses than twice its size and the margin kept, no entity is ever active on two
 /// nodes at once in a replayed schedule: a replay whose run kept the margin says `doubles none` after `margin kept`, and does not
-/// answer `Double`.
-///
-/// The folder, the link and the clock are for commands that are not built yet, and stay as they are.
+/// answer `Double`. Of a node on a network nothing is said of members or entities, since a network may give anything.
 pub fn run<R: Threads + Sync, A: Arguments, F: Folder, S: Source, W: Sink, L: Link, C: Clock>(
     rt: &R,
     alloc: Global,
@@ -99,8 +116,10 @@ pub fn run<R: Threads + Sync, A: Arguments, F: Folder, S: Source, W: Sink, L: Li
     link: &mut L,
     clock: &mut C,
 ) -> Status
+    ensures loaded { F.faults folder.old ≤ F.faults folder.new }
     ensures read { S.faults input.old ≤ S.faults input.new }
     ensures written { W.faults output.old ≤ W.faults output.new }
+    ensures linked { L.faults link.old ≤ L.faults link.new }
     ensures replay { IfSome (A.arguments arguments.now) (λ all. AsksReplay (words_of all) → ReplayCause result (S.faults input.old) (S.faults input.new) (W.faults output.old) (W.faults output.new)) }
     ensures promise { IfSome (A.arguments arguments.now) (λ all. AsksReplay (words_of all) → Promises (S.remaining input.old) result (W.written output.old) (W.written output.new)) }
     ensures end { IfSome (A.arguments arguments.now) (λ all. AsksReplay (words_of all) → IfSome (S.remaining input.old) (λ bytes. EndsSource result (S.remaining input.new))) }
@@ -108,14 +127,16 @@ pub fn run<R: Threads + Sync, A: Arguments, F: Folder, S: Source, W: Sink, L: Li
     ensures complete { IfSome (A.arguments arguments.now) (λ all. AsksReplay (words_of all) → (bytes : List ℕ) → S.remaining input.old ≡ Some bytes → (Rose (S.faults input.old) (S.faults input.new) → ⊥) → (Rose (W.faults output.old) (W.faults output.new) → ⊥)
         → IsCompleted bytes result (W.written output.old) (W.written output.new)) }
     ensures sweep { IfSome (A.arguments arguments.now) (λ all. (first count events workers : ℕ) → AsksSweep (words_of all) first count events workers → Swept first count events result (W.faults output.old) (W.faults output.new) (W.written output.old) (W.written output.new)) }
+    ensures node { IfSome (A.arguments arguments.now) (λ all. (config : List ℕ) (ticks : ℕ) → AsksNode (words_of all) config ticks → RanNode (F.files folder.old) config ticks result (F.faults folder.old) (F.faults folder.new) (sink (W.written output.old) (W.faults output.old)) (sink (W.written output.new) (W.faults output.new)) (wire (L.bound link.old) (L.sends link.old) (L.losses link.old) (L.coming link.old)) (wire (L.bound link.new) (L.sends link.new) (L.losses link.new) (L.coming link.new)) (L.faults link.old) (L.faults link.new) (C.readings clock.old)) }
+    ensures control { IfSome (A.arguments arguments.now) (λ all. (to : AddressModel) (say : Request) → AsksControl (words_of all) to say → Asked to say result (sink (W.written output.old) (W.faults output.old)) (sink (W.written output.new) (W.faults output.new)) (wire (L.bound link.old) (L.sends link.old) (L.losses link.old) (L.coming link.old)) (wire (L.bound link.new) (L.sends link.new) (L.losses link.new) (L.coming link.new)) (L.faults link.old) (L.faults link.new)) }
     ensures usage { IfSome (A.arguments arguments.now) (λ all. AsksOther (words_of all) → RefusesWords (words_of all) result (W.faults output.old) (W.faults output.new) (W.written output.old) (W.written output.new)) }
     ensures unread { IfSome (A.arguments arguments.now) (λ all. (AsksReplay (words_of all) → ⊥) → input.new ≡ input.old) }
-    ensures folder { folder.new ≡ folder.old }
-    ensures link { link.new ≡ link.old }
-    ensures clock { clock.new ≡ clock.old }
+    ensures folder { IfSome (A.arguments arguments.now) (λ all. NoNode (words_of all) → folder.new ≡ folder.old) }
+    ensures link { IfSome (A.arguments arguments.now) (λ all. NoNode (words_of all) → NoControl (words_of all) → link.new ≡ link.old) }
+    ensures clock { IfSome (A.arguments arguments.now) (λ all. NoNode (words_of all) → clock.new ≡ clock.old) }
 {
     match collect_words(alloc, arguments) {
-        Ok(words) => run_words(rt, alloc, &words, input, output),
+        Ok(words) => run_words(rt, alloc, &words, folder, input, output, link, clock),
         Err(_) => written(output, b"error 7 memory\n", Status::Memory),
     }
 }

@@ -100,7 +100,7 @@ fn comes_to<R: Threads + Sync>(
     ends_at_writes(rt, alloc, arguments, &mut input, failing.1, wanted)
 }
 
-static OTHERS: [&[&[u8]]; 10] = [
+static OTHERS: [&[&[u8]]; 8] = [
     &[],
     &[b"replay"],
     &[b"akka"],
@@ -118,12 +118,9 @@ static OTHERS: [&[&[u8]]; 10] = [
         b"--events",
         b"1",
     ],
-    // accepted, and not built yet
-    &[b"akka", b"node", b"--config", b"F", b"--ticks", b"0"],
-    &[b"akka", b"ctl", b"--to", b"a:1", b"--say", b"leave a:1#1"],
 ];
 
-// Other words, and commands that are not built, answer one line, and read nothing: the first read would fail.
+// Other words answer one line, and read nothing: the first read would fail.
 #[test]
 fn other_words_are_refused(rt: HostRuntime) -> Result<(), Fail> {
     let wanted: Wanted = (Status::Usage, b"error 2 usage\n", 0, 0);
@@ -156,6 +153,20 @@ fn seeds_are_swept(rt: HostRuntime) -> Result<(), Fail> {
     assert!(rt; comes_to(&rt, rt.alloc(), &SWEEP, b"", (&[1], &[]), done)?);
     let failed: Wanted = (Status::Write, b"", 0, 1);
     assert!(rt; comes_to(&rt, rt.alloc(), &SWEEP, b"", (&[1], &[1]), failed)?);
+    Ok(())
+}
+
+static NODE: [&[u8]; 6] = [b"akka", b"node", b"--config", b"F", b"--ticks", b"0"];
+
+static CONTROL: [&[u8]; 6] = [b"akka", b"ctl", b"--to", b"a:1", b"--say", b"leave a:1#1"];
+
+// A node without its file is refused, and what asks one sends; neither reads.
+#[test]
+fn nodes_are_run_and_asked(rt: HostRuntime) -> Result<(), Fail> {
+    let refused: Wanted = (Status::Configuration, b"error 3 C9\n", 0, 0);
+    assert!(rt; comes_to(&rt, rt.alloc(), &NODE, b"", (&[1], &[]), refused)?);
+    let sent: Wanted = (Status::Done, b"sent\n", 0, 0);
+    assert!(rt; comes_to(&rt, rt.alloc(), &CONTROL, b"", (&[1], &[]), sent)?);
     Ok(())
 }
 

@@ -1,8 +1,11 @@
-use Rattle.std.proofs.Common.{rules}
-use Rattle.ak_driver.specs.StatusContracts.{Swept}
+use Rattle.std.proofs.Common.{rules, ◌≡◌, ℕ, List}
+use Rattle.ak_address.specs.Unique.{AddressModel}
+use Rattle.ak_options.specs.declared.command.Request.{Request}
+use Rattle.ak_turns.specs.Outside.{sink, wire}
+use Rattle.ak_driver.specs.StatusContracts.{Swept, RanNode, Asked, AsksNode, AsksControl, NoNode, NoControl}
 use Rattle.ak_driver.proofs.HeadlineLemmas.{promised_apart}
 use Rattle.ak_driver.proofs.PromiseLemmas.{no_memory}
-use Rattle.ak_driver.proofs.RunLemmas.{where_asked, where_not_asked, where_swept, always, unswept, refused, not_held}
+use Rattle.ak_driver.proofs.RunLemmas.{where_asked, where_not_asked, where_swept, where_words, whichever, always, unswept, refused, not_held, no_texts_node, no_texts_control}
 use Rattle.ak_driver.proofs.run.Goals as goal
 
 pub returns-in-Ok-clause-complete : goal.returns-in-Ok-clause-complete
@@ -41,3 +44,33 @@ returns-in-Ok-clause-sweep g c =
 pub returns-in-Err-clause-sweep : goal.returns-in-Err-clause-sweep
 returns-in-Err-clause-sweep g c =
     unswept (g.A.Arguments.arguments c.args.arguments.now) c.written.result _ _ _ _ c.written.ensures.written
+
+pub returns-in-Ok-clause-node : goal.returns-in-Ok-clause-node
+returns-in-Ok-clause-node g c =
+    where_words (g.A.Arguments.arguments c.args.arguments.now) c.deref.result.now (λ ws. (config : List ℕ) (ticks : ℕ) → AsksNode ws config ticks → RanNode (g.F.Folder.files c.args.folder.now) config ticks c.run_words.result (g.F.Folder.faults c.args.folder.now) (g.F.Folder.faults c.run_words.new.folder) (sink (g.W.Sink.written c.args.output.now) (g.W.Sink.faults c.args.output.now)) (sink (g.W.Sink.written c.run_words.new.output) (g.W.Sink.faults c.run_words.new.output)) (wire (g.L.Link.bound c.args.link.now) (g.L.Link.sends c.args.link.now) (g.L.Link.losses c.args.link.now) (g.L.Link.coming c.args.link.now)) (wire (g.L.Link.bound c.run_words.new.link) (g.L.Link.sends c.run_words.new.link) (g.L.Link.losses c.run_words.new.link) (g.L.Link.coming c.run_words.new.link)) (g.L.Link.faults c.args.link.now) (g.L.Link.faults c.run_words.new.link) (g.C.Clock.readings c.args.clock.now)) (search rules) c.run_words.ensures.node
+
+pub returns-in-Ok-clause-control : goal.returns-in-Ok-clause-control
+returns-in-Ok-clause-control g c =
+    where_words (g.A.Arguments.arguments c.args.arguments.now) c.deref.result.now (λ ws. (to : AddressModel) (say : Request) → AsksControl ws to say → Asked to say c.run_words.result (sink (g.W.Sink.written c.args.output.now) (g.W.Sink.faults c.args.output.now)) (sink (g.W.Sink.written c.run_words.new.output) (g.W.Sink.faults c.run_words.new.output)) (wire (g.L.Link.bound c.args.link.now) (g.L.Link.sends c.args.link.now) (g.L.Link.losses c.args.link.now) (g.L.Link.coming c.args.link.now)) (wire (g.L.Link.bound c.run_words.new.link) (g.L.Link.sends c.run_words.new.link) (g.L.Link.losses c.run_words.new.link) (g.L.Link.coming c.run_words.new.link)) (g.L.Link.faults c.args.link.now) (g.L.Link.faults c.run_words.new.link)) (search rules) c.run_words.ensures.control
+
+pub returns-in-Ok-clause-folder : goal.returns-in-Ok-clause-folder
+returns-in-Ok-clause-folder g c =
+    where_words (g.A.Arguments.arguments c.args.arguments.now) c.deref.result.now (λ ws. NoNode ws → c.run_words.new.folder ≡ c.args.folder.now) (search rules) c.run_words.ensures.folder
+
+pub returns-in-Ok-clause-link : goal.returns-in-Ok-clause-link
+returns-in-Ok-clause-link g c =
+    where_words (g.A.Arguments.arguments c.args.arguments.now) c.deref.result.now (λ ws. NoNode ws → NoControl ws → c.run_words.new.link ≡ c.args.link.now) (search rules) c.run_words.ensures.link
+
+pub returns-in-Ok-clause-clock : goal.returns-in-Ok-clause-clock
+returns-in-Ok-clause-clock g c =
+    where_words (g.A.Arguments.arguments c.args.arguments.now) c.deref.result.now (λ ws. NoNode ws → c.run_words.new.clock ≡ c.args.clock.now) (search rules) c.run_words.ensures.clock
+
+pub returns-in-Err-clause-node : goal.returns-in-Err-clause-node
+returns-in-Err-clause-node g c =
+    whichever (g.A.Arguments.arguments c.args.arguments.now) (λ ws. (config : List ℕ) (ticks : ℕ) → AsksNode ws config ticks → RanNode (g.F.Folder.files c.args.folder.now) config ticks c.written.result (g.F.Folder.faults c.args.folder.now) (g.F.Folder.faults c.args.folder.now) (sink (g.W.Sink.written c.args.output.now) (g.W.Sink.faults c.args.output.now)) (sink (g.W.Sink.written c.written.new.output) (g.W.Sink.faults c.written.new.output)) (wire (g.L.Link.bound c.args.link.now) (g.L.Link.sends c.args.link.now) (g.L.Link.losses c.args.link.now) (g.L.Link.coming c.args.link.now)) (wire (g.L.Link.bound c.args.link.now) (g.L.Link.sends c.args.link.now) (g.L.Link.losses c.args.link.now) (g.L.Link.coming c.args.link.now)) (g.L.Link.faults c.args.link.now) (g.L.Link.faults c.args.link.now) (g.C.Clock.readings c.args.clock.now))
+    (λ ws config ticks asks. no_texts_node (g.F.Folder.files c.args.folder.now) config ticks c.written.result (g.F.Folder.faults c.args.folder.now) (sink (g.W.Sink.written c.args.output.now) (g.W.Sink.faults c.args.output.now)) (sink (g.W.Sink.written c.written.new.output) (g.W.Sink.faults c.written.new.output)) (wire (g.L.Link.bound c.args.link.now) (g.L.Link.sends c.args.link.now) (g.L.Link.losses c.args.link.now) (g.L.Link.coming c.args.link.now)) (g.L.Link.faults c.args.link.now) (g.C.Clock.readings c.args.clock.now) c.written.ensures.written)
+
+pub returns-in-Err-clause-control : goal.returns-in-Err-clause-control
+returns-in-Err-clause-control g c =
+    whichever (g.A.Arguments.arguments c.args.arguments.now) (λ ws. (to : AddressModel) (say : Request) → AsksControl ws to say → Asked to say c.written.result (sink (g.W.Sink.written c.args.output.now) (g.W.Sink.faults c.args.output.now)) (sink (g.W.Sink.written c.written.new.output) (g.W.Sink.faults c.written.new.output)) (wire (g.L.Link.bound c.args.link.now) (g.L.Link.sends c.args.link.now) (g.L.Link.losses c.args.link.now) (g.L.Link.coming c.args.link.now)) (wire (g.L.Link.bound c.args.link.now) (g.L.Link.sends c.args.link.now) (g.L.Link.losses c.args.link.now) (g.L.Link.coming c.args.link.now)) (g.L.Link.faults c.args.link.now) (g.L.Link.faults c.args.link.now))
+    (λ ws to say asks. no_texts_control to say c.written.result (sink (g.W.Sink.written c.args.output.now) (g.W.Sink.faults c.args.output.now)) (sink (g.W.Sink.written c.written.new.output) (g.W.Sink.faults c.written.new.output)) (wire (g.L.Link.bound c.args.link.now) (g.L.Link.sends c.args.link.now) (g.L.Link.losses c.args.link.now) (g.L.Link.coming c.args.link.now)) (g.L.Link.faults c.args.link.now) c.written.ensures.written)
