@@ -4,6 +4,7 @@ pub mod CutLemmas
 pub mod FinishLemmas
 pub mod HeadlineLemmas
 pub mod InputLemmas
+pub mod NamedCommands
 pub mod OneReplay
 pub mod PromiseLemmas
 pub mod ReplayLemmas

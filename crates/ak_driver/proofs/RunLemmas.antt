@@ -12,7 +12,7 @@ use Rattle.ak_turns.specs.Outside.{Output, Wire}
 use Rattle.ak_sweeps.proofs.LineLaws.{keeps_apart}
 use Rattle.ak_sweeps.proofs.WriteLoop.{starved, completed}
 use Rattle.ak_driver.specs.StatusContracts.{AsksReplay, AsksSweep, AsksOther, Swept, RanNode, Asked, Written, RefusesWords, usage_line, memory_line}
-use Rattle.ak_driver.specs.WordsContracts.{words_of, HasWords}
+use Rattle.ak_driver.specs.WordsContracts.{words_of, NamesCommand}
 
 -- by what is so where they ask for a replay
 pub where_asked : (known : Option (List (List ℕ))) (words : List (List ℕ)) (P : Type 0) →
@@ -63,11 +63,17 @@ pub refused : (known : Option (List (List ℕ))) (words : List (List ℕ)) (answ
 refused None words answer w0 w1 old new are so = tt
 refused (Some all) words answer w0 w1 old new are so = λ other. inl (so (other_too words (words_of all) are other))
 
-pub not_held : (known : Option (List (List ℕ))) (answer : Status) (w0 w1 : ℕ) (old new : Option (List ℕ)) →
-    IfSome known HasWords → Written Memory memory_line answer w0 w1 old new →
+-- the words were not looked at but for the first one
+pub refused_at_once : (known : Option (List (List ℕ))) (answer : Status) (w0 w1 : ℕ) (old new : Option (List ℕ)) → Written Usage usage_line answer w0 w1 old new →
     IfSome known (λ all. AsksOther (words_of all) → RefusesWords (words_of all) answer w0 w1 old new)
-not_held None answer w0 w1 old new has so = tt
-not_held (Some all) answer w0 w1 old new has so = λ other. inr (has, so)
+refused_at_once None answer w0 w1 old new so = tt
+refused_at_once (Some all) answer w0 w1 old new so = λ other. inl so
+
+pub not_held : (known : Option (List (List ℕ))) (answer : Status) (w0 w1 : ℕ) (old new : Option (List ℕ)) →
+    IfSome known (λ all. NamesCommand (words_of all)) → Written Memory memory_line answer w0 w1 old new →
+    IfSome known (λ all. AsksOther (words_of all) → RefusesWords (words_of all) answer w0 w1 old new)
+not_held None answer w0 w1 old new names so = tt
+not_held (Some all) answer w0 w1 old new names so = λ other. inr (names, so)
 
 -- ---- there was no memory for a text in the words, or for the words
 -- a node that found none

@@ -1,11 +1,12 @@
 -- Words of how a run ends.
-use Rattle.std.specs.Prelude.{◌≡◌, ◌≢◌, ◌⊎◌, List, ℕ, [], ◌∷◌, ◌++◌, Option, codes}
+use Rattle.std.specs.Prelude.{◌≡◌, ◌⊎◌, List, ℕ, [], ◌∷◌, ◌++◌, Option, codes}
 use Rattle.std.specs.Io.KnownBytes.{Appends}
 use Rattle.ak_address.specs.Unique.{AddressModel}
 use Rattle.ak_options.specs.CommandLine.{AsksFor}
 use Rattle.ak_options.specs.declared.command.Command.TheVariants.{Sweep, Node, Ctl}
 use Rattle.ak_options.specs.declared.command.Request.{Request}
 use Rattle.ak_outside.specs.declared.folder.MemoryFile.{MemoryFile}
+use Rattle.ak_driver.specs.WordsContracts.{NamesCommand}
 use Rattle.ak_outside.specs.Outside.{Rose, AppendsPrefix}
 use Rattle.ak_sweep.specs.declared.line.Line.{Line}
 use Rattle.ak_sweeps.specs.SweepPromise.{Sweeps, IsCompleted, EachKeepsApart}
@@ -85,8 +86,8 @@ pub record Asked (to : AddressModel) (say : Request) (answer : Status) (o0 o1 : 
 abbrev pub usage_line : List ℕ
 usage_line = codes "error 2 usage" ++ 10 ∷ []
 
--- These words, which ask for no command that is built, ended so: the line on usage was written; or the words themselves, of
--- which there are some, found no memory, and the line on memory was written; or the sink failed on the way.
+-- These words, which ask for no command, ended so: the line on usage was written; or the first of them is the name of a command, the
+-- words found no memory, and the line on memory was written; or the sink failed on the way.
 abbrev pub RefusesWords : List (List ℕ) → Status → ℕ → ℕ → Option (List ℕ) → Option (List ℕ) → Type 0
 RefusesWords words answer w0 w1 old new =
-    Written Usage usage_line answer w0 w1 old new ⊎ ((words ≢ []) × Written Memory memory_line answer w0 w1 old new)
+    Written Usage usage_line answer w0 w1 old new ⊎ (NamesCommand words × Written Memory memory_line answer w0 w1 old new)

@@ -11,8 +11,10 @@ ghost use Rattle.ak_driver.specs.ReplayContracts.{stop_of, IsReady, IsWhole, ope
 ghost use Rattle.ak_driver.specs.StatusContracts.{ReplayCause, Written, memory_line};
 ghost use Rattle.ak_outside.specs.declared.status.Status.TheVariants.{Schedule, Memory};
 
+use crate::explain::{explain, explain_end};
 use crate::input::{MOST_LINES, Unread, read_all};
 use ak_address::print_number;
+use ak_notes::{NoNotes, Notes, warn_of_quorum};
 use ak_outside::{Sink, Source, Status, write_all};
 use ak_report::print_bytes;
 use ak_schedule::{Draft, Event, LineFault, is_passed_over, next_line, read_line};
@@ -28,7 +30,7 @@ const PIECE: usize = 1 << 16;
 
 // Why a line is refused. It shows as its code.
 #[derive(Clone, Copy, Debug, PartialEq, Eq)]
-enum Code {
+pub(crate) enum Code {
     // It spells no event.
     Malformed,
     // It is not the next header, or there is none.
@@ -71,7 +73,7 @@ fn reason_text(why: Reason) -> &'static [u8]
 
 // Why a replay goes no further.
 #[derive(Clone, Copy, Debug, PartialEq, Eq)]
-enum Stop {
+pub(crate) enum Stop {
     Refused(Code),
     NoMemory,
 }
@@ -123,12 +125,13 @@ impl Replay {
     }
 
     // What one line does.
-    fn turn(
+    fn turn<N: Notes>(
         &mut self,
         alloc: Global,
         line: &[u8],
         text: &mut Vec<u8>,
         out: &mut Vec<u8>,
+        notes: &mut N,
     ) -> Result<(), Stop>
         requires { IsReady self.old.stage self.old.steps }
         ensures ready { OnOk result (IsReady self.new.stage self.new.steps) }
@@ -139,18 +142,19 @@ impl Replay {
             return Err(Stop::Refused(Code::PastLimit));
         }
         if !is_passed_over(line) {
-            self.advance(alloc, line, text, out)?;
+            self.advance(alloc, line, text, out, notes)?;
         }
         self.line += 1;
         Ok(())
     }
 
-    fn advance(
+    fn advance<N: Notes>(
         &mut self,
         alloc: Global,
         line: &[u8],
         text: &mut Vec<u8>,
         out: &mut Vec<u8>,
+        notes: &mut N,
     ) -> Result<(), Stop>
         requires ready { IsReady self.old.stage self.old.steps }
         requires few { self.old.line ≤ 200_000 }
@@ -162,7 +166,7 @@ impl Replay {
         match &mut self.stage {
             Stage::Heading(draft) => {
                 if heading(alloc, draft, line)? {
-                    self.open(alloc);
+                    self.open(alloc, notes);
                 }
                 Ok(())
             }
@@ -178,14 +182,17 @@ impl Replay {
     }
 
     // The headers are whole: the world begins.
-    fn open(&mut self, alloc: Global)
+    fn open<N: Notes>(&mut self, alloc: Global, notes: &mut N)
         requires { IsWhole self.old.stage }
         ensures { self.new ≡ record { stage = opened self.old.stage; line = self.old.line; steps = self.old.steps } }
     {
         let stage = mem::replace(&mut self.stage, Stage::Heading(Draft::new(alloc)));
         self.stage = match stage {
             Stage::Heading(draft) => match draft.finish() {
-                Ok(settings) => Stage::Running(World::new(alloc, settings)),
+                Ok(settings) => {
+                    warn_of_quorum(alloc, notes, &settings);
+                    Stage::Running(World::new(alloc, settings))
+                }
                 Err(draft) => Stage::Heading(draft),
             },
             Stage::Running(world) => Stage::Running(world),
@@ -335,7 +342,12 @@ fn ended<W: Sink>(
 }
 
 // Replays these bytes.
-fn replay_bytes<W: Sink>(alloc: Global, bytes: &[u8], output: &mut W) -> Status
+fn replay_bytes<W: Sink, N: Notes>(
+    alloc: Global,
+    bytes: &[u8],
+    output: &mut W,
+    notes: &mut N,
+) -> Status
     ensures count { W.faults output.old ≤ W.faults output.new }
     ensures cause { ReplayCause result 0 0 (W.faults output.old) (W.faults output.new) }
     ensures prints { Prints bytes.now result (W.written output.old) (W.written output.new) }
@@ -345,7 +357,8 @@ fn replay_bytes<W: Sink>(alloc: Global, bytes: &[u8], output: &mut W) -> Status
     let mut out = Vec::new(alloc);
     let mut rest = bytes;
     'lines: while let Some((line, after_it)) = next_line(rest) {
-        if let Err(stop) = replay.turn(alloc, line, &mut text, &mut out) {
+        if let Err(stop) = replay.turn(alloc, line, &mut text, &mut out, notes) {
+            explain(alloc, &stop, bytes, replay.line, line, notes);
             return ended(alloc, Err(stop), replay.line, &mut out, output);
         }
         rest = after_it;
@@ -357,6 +370,7 @@ fn replay_bytes<W: Sink>(alloc: Global, bytes: &[u8], output: &mut W) -> Status
         }
     }
     let end = replay.finish(alloc, &mut out);
+    explain_end(alloc, &end, bytes, replay.line, notes);
     ended(alloc, end, replay.line, &mut out, output)
 }
 
@@ -387,9 +401,31 @@ pub fn run_replay<S: Source, W: Sink>(alloc: Global, input: &mut S, output: &mut
     ensures complete { (bytes : List ℕ) → S.remaining input.old ≡ Some bytes → (Rose (S.faults input.old) (S.faults input.new) → ⊥) → (Rose (W.faults output.old) (W.faults output.new) → ⊥)
         → IsCompleted bytes result (W.written output.old) (W.written output.new) }
 {
+    replay_with_notes(alloc, input, output, &mut NoNotes)
+}
+
+/// The same, and the notes are told why a line is refused.
+pub(crate) fn replay_with_notes<S: Source, W: Sink, N: Notes>(
+    alloc: Global,
+    input: &mut S,
+    output: &mut W,
+    notes: &mut N,
+) -> Status
+    ensures read { S.faults input.old ≤ S.faults input.new }
+    ensures written { W.faults output.old ≤ W.faults output.new }
+    ensures cause { ReplayCause result (S.faults input.old) (S.faults input.new) (W.faults output.old) (W.faults output.new) }
+    ensures promise { Promises (S.remaining input.old) result (W.written output.old) (W.written output.new) }
+    ensures end { IfSome (S.remaining input.old) (λ all. EndsSource result (S.remaining input.new)) }
+    ensures headline { IfSome (S.remaining input.old) (λ bytes. KeepsEntitiesApart bytes result (W.written output.old) (W.written output.new)) }
+    ensures complete { (bytes : List ℕ) → S.remaining input.old ≡ Some bytes → (Rose (S.faults input.old) (S.faults input.new) → ⊥) → (Rose (W.faults output.old) (W.faults output.new) → ⊥)
+        → IsCompleted bytes result (W.written output.old) (W.written output.new) }
+{
     match read_all(alloc, input) {
-        Ok(bytes) => replay_bytes(alloc, &bytes, output),
-        Err(Unread::Failed) => written(output, b"error 5 read\n", Status::Read),
+        Ok(bytes) => replay_bytes(alloc, &bytes, output, notes),
+        Err(Unread::Failed) => {
+            notes.say(b"standard input could not be read\n");
+            written(output, b"error 5 read\n", Status::Read)
+        }
         Err(Unread::NoMemory) => written(output, b"error 7 memory\n", Status::Memory),
     }
 }

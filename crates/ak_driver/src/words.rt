@@ -1,9 +1,10 @@
 //! The words that the program was started with.
 
-ghost use Rattle.std.specs.Prelude.{◌≡◌, IfOk, IfSome, OnErr};
-ghost use Rattle.ak_driver.specs.WordsContracts.{IsArgument, HasWords, words_of};
+ghost use Rattle.std.specs.Prelude.{◌≡◌, ◌↔◌, IfOk, IfSome, IsTrue, OnErr};
+ghost use Rattle.ak_driver.specs.WordsContracts.{IsArgument, HasWords, NamesCommand, words_of};
 
 use ak_address::Text;
+use ak_options::is_command_name;
 use ak_outside::Arguments;
 use std::alloc::{AllocError, Global};
 use std::env::FillError;
@@ -32,6 +33,17 @@ fn argument<A: Arguments>(
         }
     }
     Err(AllocError)
+}
+
+// Whether the first word is the name of a command, none of which is longer than the buffer. It takes no memory.
+pub(crate) fn names_command<A: Arguments>(arguments: &A) -> bool
+    ensures { IfSome (A.arguments arguments.now) (λ all. IsTrue result ↔ NamesCommand (words_of all)) }
+{
+    let mut buffer = [0; 6];
+    match arguments.argument(1, &mut buffer) {
+        Ok(length) => is_command_name(&buffer[..length]),
+        Err(_) => false,
+    }
 }
 
 /// The words after the program's name: all of them, in order, each whole, as bytes: one that is not UTF-8 is a word like

@@ -1,5 +1,5 @@
 -- Which command lines are accepted, and what each asks for. This project's choice.
-use Rattle.std.specs.Prelude.{◌≡◌, ℕ, List, [], ◌∷◌, codes}
+use Rattle.std.specs.Prelude.{◌≡◌, ◌⊎◌, ℕ, List, [], ◌∷◌, codes}
 use Rattle.ak_address.specs.Unique.{AddressModel}
 use Rattle.ak_address.specs.Spelling.{SpellsAddress}
 use Rattle.ak_options.specs.declared.command.Command.{Command}
@@ -48,6 +48,10 @@ command_name Replay = codes "replay"
 command_name (Sweep first count events workers) = codes "sweep"
 command_name (Node config ticks) = codes "node"
 command_name (Ctl to say) = codes "ctl"
+
+-- a word is the name of a command
+abbrev pub IsCommandName : List ℕ → Type 0
+IsCommandName word = (word ≡ codes "replay") ⊎ (word ≡ codes "sweep") ⊎ (word ≡ codes "node") ⊎ (word ≡ codes "ctl")
 
 -- the options
 abbrev pub Says : List Pair → Command → Type 0

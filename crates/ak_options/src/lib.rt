@@ -9,4 +9,4 @@ mod request;
 
 pub use command::{Command, Request};
 pub use laws::{pairs_come_in_any_order, requests_are_lines, words_ask_for_one_command};
-pub use read::read_command;
+pub use read::{is_command_name, read_command};

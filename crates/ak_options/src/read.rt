@@ -1,7 +1,8 @@
 // A command line, as the command that it asks for.
-ghost use Rattle.std.specs.Prelude.{◌∷◌, Ok, codes};
+ghost use Rattle.std.specs.Prelude.{◌↔◌, ◌∷◌, Ok, codes, IsTrue};
 ghost use Rattle.ak_address.specs.Spelling.{SomeAddress};
 ghost use Rattle.ak_options.specs.Answers.{Answers, AnswersCtl};
+ghost use Rattle.ak_options.specs.CommandLine.{IsCommandName};
 
 use crate::command::{Command, Request};
 use crate::options::{are_options, number_or, only_number, only_value};
@@ -42,6 +43,16 @@ pub fn read_command(alloc: Global, words: &[Text]) -> Result<Option<Command>, Al
         return ctl(alloc, options);
     }
     Ok(None)
+}
+
+/// Whether a word is the name of a command. Takes no memory.
+pub fn is_command_name(word: &[u8]) -> bool
+    ensures { IsTrue result ↔ IsCommandName word.now }
+{
+    is_text(word, b"replay")
+        || is_text(word, b"sweep")
+        || is_text(word, b"node")
+        || is_text(word, b"ctl")
 }
 
 fn replay(options: &[Text]) -> Option<Command>

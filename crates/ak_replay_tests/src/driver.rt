@@ -1,5 +1,6 @@
 use ak_address::Text;
-use ak_driver::{collect_words, exit, run};
+use ak_driver::{collect_words, exit, run_with_notes};
+use ak_notes::SinkNotes;
 use ak_outside::{
     MemoryArguments, MemoryClock, MemoryFolder, MemoryLink, MemorySink, MemorySource, Status,
 };
@@ -54,9 +55,36 @@ fn runs_over_link<R: Threads + Sync>(
     link: &mut MemoryLink,
     clock: &mut MemoryClock,
 ) -> Result<Status, AllocError> {
+    let mut notes = SinkNotes {
+        sink: MemorySink::new(alloc, &[1])?,
+    };
+    runs_with_notes(rt, alloc, arguments, input, output, link, clock, &mut notes)
+}
+
+// What people are told makes no difference: here the first note fails, so that each run below comes to what is wanted all the same.
+fn runs_with_notes<R: Threads + Sync>(
+    rt: &R,
+    alloc: Global,
+    arguments: &[&[u8]],
+    input: &mut MemorySource,
+    output: &mut MemorySink,
+    link: &mut MemoryLink,
+    clock: &mut MemoryClock,
+    notes: &mut SinkNotes<MemorySink>,
+) -> Result<Status, AllocError> {
     let words = MemoryArguments::new(arguments);
     let mut folder = MemoryFolder::new(alloc, Vec::new(alloc), &[])?;
-    Ok(run(rt, alloc, &words, &mut folder, input, output, link, clock))
+    Ok(run_with_notes(
+        rt,
+        alloc,
+        &words,
+        &mut folder,
+        input,
+        output,
+        link,
+        clock,
+        notes,
+    ))
 }
 
 // Whether a run with these arguments comes to what is wanted.

@@ -11,10 +11,14 @@ ghost use Rattle.ak_sweeps.specs.SweepText.{AreLines};
 
 use crate::print::{is_doubled, print_line, print_totals};
 use crate::run::line_of;
+use ak_notes::Notes;
 use ak_outside::{Sink, Status, write_all};
 use ak_sweep::{Line, OpenGate, sweep};
 use std::alloc::{AllocError, Global};
 use std::thread::Threads;
+
+// So many seeds are run before it is told how far the sweep is.
+const BLOCK: u32 = 1000;
 
 // Text is written in pieces of about this many bytes.
 const PIECE: usize = 1 << 16;
@@ -79,8 +83,8 @@ pub fn write_lines<W: Sink>(alloc: Global, lines: &[Line], output: &mut W) -> St
     written(output, &out, status_of(lines))
 }
 
-// The lines of the seeds, by so many workers.
-fn lines_of<R: Threads + Sync>(
+// The lines of a block of seeds, by so many workers.
+fn lines_of_block<R: Threads + Sync>(
     rt: &R,
     alloc: Global,
     first: u64,
@@ -101,6 +105,34 @@ fn lines_of<R: Threads + Sync>(
     sweep(rt, alloc, first, count, workers, &job, &OpenGate)
 }
 
+// The lines of the seeds, block by block.
+fn lines_of<R: Threads + Sync, N: Notes>(
+    rt: &R,
+    alloc: Global,
+    first: u64,
+    count: u32,
+    events: u64,
+    workers: u32,
+    notes: &mut N,
+) -> Result<Vec<Line>, AllocError>
+    requires seeds { first + count < 2 ^ 64 }
+    requires events { events < 2 ^ 62 }
+    requires some { 1 ≤ workers }
+    requires few { workers ≤ 64 }
+    ensures { IfOk result (λ lines. AreLines first count events lines.items) }
+{
+    let mut lines = Vec::new(alloc);
+    let mut done = 0;
+    'blocks: while done < count {
+        let size = (count - done).min(BLOCK);
+        let block = lines_of_block(rt, alloc, first + u64::from(done), size, events, workers)?;
+        lines.extend_from_slice(&block)?;
+        done += size;
+        notes.progress(alloc, u64::from(done), u64::from(count));
+    }
+    Ok(lines)
+}
+
 /// Runs the generated schedules of so many seeds, from the first one on, each of at most so many events, by so many workers, and
 /// writes a line for each in the order of the seeds, and the totals. (This project's choice.)
 ///
@@ -111,8 +143,8 @@ fn lines_of<R: Threads + Sync>(
 ///
 /// Where the sink does not fail the sweep is complete: it gives its whole text, with `Done` or `Double`, unless memory ends.
 ///
-/// A line that says that the margin was kept says that there is no double.
-pub fn run_sweep<R: Threads + Sync, W: Sink>(
+/// A line that says that the margin was kept says that there is no double. The notes are told how far the sweep is.
+pub fn run_sweep<R: Threads + Sync, W: Sink, N: Notes>(
     rt: &R,
     alloc: Global,
     first: u64,
@@ -120,6 +152,7 @@ pub fn run_sweep<R: Threads + Sync, W: Sink>(
     events: u64,
     workers: u32,
     output: &mut W,
+    notes: &mut N,
 ) -> Status
     requires first { first ≤ 9_000_000_000_000_000_000 }
     requires seeds { count ≤ 100_000 }
@@ -131,7 +164,7 @@ pub fn run_sweep<R: Threads + Sync, W: Sink>(
     ensures apart { (lines : List Line) → AreLines first count events lines → EachKeepsApart lines }
     ensures complete { (Rose (W.faults output.old) (W.faults output.new) → ⊥) → IsCompleted first count events result (W.written output.old) (W.written output.new) }
 {
-    match lines_of(rt, alloc, first, count as u32, events, workers) {
+    match lines_of(rt, alloc, first, count as u32, events, workers, notes) {
         Ok(lines) => write_lines(alloc, &lines, output),
         Err(_) => written(output, b"error 7 memory\n", Status::Memory),
     }

@@ -1,3 +1,4 @@
+use ak_notes::NoNotes;
 use ak_outside::{MemorySink, Status};
 use ak_sweeps::run_sweep;
 use std::test::Fail;
@@ -10,7 +11,7 @@ const SMALL: &[u8] =
 #[test]
 fn a_failed_write_ends_a_sweep(rt: HostRuntime) -> Result<(), Fail> {
     let mut output = MemorySink::new(rt.alloc(), &[1])?;
-    let answer = run_sweep(&rt, rt.alloc(), 1, 2, 10, 2, &mut output);
+    let answer = run_sweep(&rt, rt.alloc(), 1, 2, 10, 2, &mut output, &mut NoNotes);
     assert!(rt; answer == Status::Write);
     assert!(rt; output.bytes().is_empty());
     assert!(rt; output.faults() == 1);
@@ -21,7 +22,7 @@ fn a_failed_write_ends_a_sweep(rt: HostRuntime) -> Result<(), Fail> {
 #[test]
 fn small_sweeps(rt: HostRuntime) -> Result<(), Fail> {
     let mut output = MemorySink::new(rt.alloc(), &[])?;
-    let none = run_sweep(&rt, rt.alloc(), 0, 0, 1, 1, &mut output);
+    let none = run_sweep(&rt, rt.alloc(), 0, 0, 1, 1, &mut output, &mut NoNotes);
     assert!(rt; none == Status::Done);
     let one = run_sweep(
         &rt,
@@ -31,6 +32,7 @@ fn small_sweeps(rt: HostRuntime) -> Result<(), Fail> {
         1,
         64,
         &mut output,
+        &mut NoNotes,
     );
     assert!(rt; one == Status::Done);
     assert!(rt; output.bytes() == SMALL);

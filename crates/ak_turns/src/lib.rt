@@ -5,6 +5,7 @@
 mod control;
 mod end;
 mod ending;
+mod explain;
 mod happening;
 mod laws;
 mod node;

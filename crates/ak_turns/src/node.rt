@@ -8,11 +8,13 @@ ghost use Rattle.ak_turns.specs.TurnsContracts.{progress_of};
 
 use crate::end::End;
 use crate::ending::written;
+use crate::explain::explain;
 use crate::process::Process;
 use crate::turns::take_turns;
 use ak_address::{Text, print_number, print_wide_number};
 use ak_config::{Config, ConfigFault, read_config};
 use ak_node::Node;
+use ak_notes::{Notes, warn_of_quorum};
 use ak_outside::{Bound, Clock, Folder, Link, Loaded, Sink, Status};
 use ak_report::print_bytes;
 use std::alloc::{AllocError, Global};
@@ -219,8 +221,10 @@ fn run_config<W: Sink, L: Link, C: Clock>(
 /// where the sink failed, and nothing else is written then; and `Memory`, after whole steps. A send that fails is none of these: it
 /// is printed as lost.
 ///
+/// The notes are told what is wrong with the configuration, and are warned of a quorum that cannot be reached.
+///
 /// Nothing is said of members or entities: a network may give anything.
-pub fn run_node<F: Folder, W: Sink, L: Link, C: Clock>(
+pub fn run_node<F: Folder, W: Sink, L: Link, C: Clock, N: Notes>(
     alloc: Global,
     config: &Text,
     ticks: u64,
@@ -228,6 +232,7 @@ pub fn run_node<F: Folder, W: Sink, L: Link, C: Clock>(
     output: &mut W,
     link: &mut L,
     clock: &mut C,
+    notes: &mut N,
 ) -> Status
     requires { ticks ≤ 1_000_000_000 }
     ensures read { F.faults folder.old ≤ F.faults folder.new }
@@ -237,7 +242,13 @@ pub fn run_node<F: Folder, W: Sink, L: Link, C: Clock>(
     ensures runs { RunsNode (F.files folder.old) config.now ticks result (sink (W.written output.old) (W.faults output.old)) (sink (W.written output.new) (W.faults output.new)) (wire (L.bound link.old) (L.sends link.old) (L.losses link.old) (L.coming link.old)) (wire (L.bound link.new) (L.sends link.new) (L.losses link.new) (L.coming link.new)) (C.readings clock.old) }
 {
     match load(alloc, config, folder) {
-        Ok(config) => run_config(alloc, &config, ticks, output, link, clock),
-        Err(why) => refuse(alloc, &why, output),
+        Ok(config) => {
+            warn_of_quorum(alloc, notes, &config.settings);
+            run_config(alloc, &config, ticks, output, link, clock)
+        }
+        Err(why) => {
+            explain(alloc, config, &why, notes);
+            refuse(alloc, &why, output)
+        }
     }
 }

@@ -1,5 +1,6 @@
 // Ends in memory.
 use ak_address::Text;
+use ak_notes::NoNotes;
 use ak_outside::{MemoryClock, MemoryFile, MemoryFolder, MemoryLink, MemorySink, Status};
 use ak_turns::run_node;
 use std::alloc::{AllocError, Global};
@@ -75,6 +76,7 @@ pub(crate) fn comes_to(
         &mut output,
         &mut link,
         &mut clock,
+        &mut NoNotes,
     );
     let printed = output.bytes() == wanted.text;
     let sent = link.asked() == wanted.asked && link.sent_len() == wanted.taken;

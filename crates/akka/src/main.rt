@@ -1,13 +1,14 @@
-//! `akka`: the command line, the files, the standard streams, a socket and a clock, handed to `ak_driver::run`.
+//! `akka`: the command line, the files, the standard streams, a socket and a clock, handed to `ak_driver::run_with_notes`.
 #![tactic(auto)]
 
-use ak_driver::{exit, run};
+use ak_driver::{exit, run_with_notes};
 use ak_link::UdpLink;
+use ak_notes::StdNotes;
 use ak_outside::{StdArguments, StdClock, StdFolder, StdSink, StdSource};
 use std::process::ExitCode;
 
 fn main(rt: HostRuntime) -> ExitCode {
-    exit(run(
+    exit(run_with_notes(
         &rt,
         rt.alloc(),
         &StdArguments::new(&rt),
@@ -16,5 +17,6 @@ fn main(rt: HostRuntime) -> ExitCode {
         &mut StdSink::new(&rt),
         &mut UdpLink::new(&rt),
         &mut StdClock::new(&rt),
+        &mut StdNotes::new(&rt, rt.stderr()),
     ))
 }

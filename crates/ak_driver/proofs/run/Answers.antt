@@ -1,76 +1,41 @@
-use Rattle.std.proofs.Common.{rules, ◌≡◌, ℕ, List}
-use Rattle.ak_address.specs.Unique.{AddressModel}
-use Rattle.ak_options.specs.declared.command.Request.{Request}
-use Rattle.ak_turns.specs.Outside.{sink, wire}
-use Rattle.ak_driver.specs.StatusContracts.{Swept, RanNode, Asked, AsksNode, AsksControl, NoNode, NoControl}
-use Rattle.ak_driver.proofs.HeadlineLemmas.{promised_apart}
-use Rattle.ak_driver.proofs.PromiseLemmas.{no_memory}
-use Rattle.ak_driver.proofs.RunLemmas.{where_asked, where_not_asked, where_swept, where_words, whichever, always, unswept, refused, not_held, no_texts_node, no_texts_control}
+-- the same clauses
 use Rattle.ak_driver.proofs.run.Goals as goal
 
-pub returns-in-Ok-clause-complete : goal.returns-in-Ok-clause-complete
-returns-in-Ok-clause-complete g c =
-    where_asked (g.A.Arguments.arguments c.args.arguments.now) c.deref.result.now _ (search rules) c.run_words.ensures.complete
+pub returns-clause-replay : goal.returns-clause-replay
+returns-clause-replay g c = c.run_with_notes.ensures.replay
 
-pub returns-in-Ok-clause-usage : goal.returns-in-Ok-clause-usage
-returns-in-Ok-clause-usage g c =
-    refused (g.A.Arguments.arguments c.args.arguments.now) c.deref.result.now c.run_words.result _ _ _ _ (search rules) c.run_words.ensures.usage
+pub returns-clause-promise : goal.returns-clause-promise
+returns-clause-promise g c = c.run_with_notes.ensures.promise
 
-pub returns-in-Ok-clause-unread : goal.returns-in-Ok-clause-unread
-returns-in-Ok-clause-unread g c =
-    where_not_asked (g.A.Arguments.arguments c.args.arguments.now) c.deref.result.now _ (search rules) c.run_words.ensures.unread
+pub returns-clause-end : goal.returns-clause-end
+returns-clause-end g c = c.run_with_notes.ensures.end
 
-pub returns-in-Err-clause-promise : goal.returns-in-Err-clause-promise
-returns-in-Err-clause-promise g c =
-    always (g.A.Arguments.arguments c.args.arguments.now) _
-    (no_memory (g.S.Source.remaining c.args.input.now) c.written.result _ _ (g.W.Sink.written c.args.output.now) (g.W.Sink.written c.written.new.output) c.written.ensures.written)
+pub returns-clause-headline : goal.returns-clause-headline
+returns-clause-headline g c = c.run_with_notes.ensures.headline
 
-pub returns-in-Err-clause-usage : goal.returns-in-Err-clause-usage
-returns-in-Err-clause-usage g c =
-    not_held (g.A.Arguments.arguments c.args.arguments.now) c.written.result _ _ _ _ (search rules) c.written.ensures.written
+pub returns-clause-complete : goal.returns-clause-complete
+returns-clause-complete g c = c.run_with_notes.ensures.complete
 
-pub returns-in-Err-clause-headline : goal.returns-in-Err-clause-headline
-returns-in-Err-clause-headline g c =
-    always (g.A.Arguments.arguments c.args.arguments.now) _
-    (promised_apart (g.S.Source.remaining c.args.input.now) c.written.result (g.W.Sink.written c.args.output.now) (g.W.Sink.written c.written.new.output)
-    (no_memory (g.S.Source.remaining c.args.input.now) c.written.result _ _ (g.W.Sink.written c.args.output.now) (g.W.Sink.written c.written.new.output) c.written.ensures.written))
+pub returns-clause-sweep : goal.returns-clause-sweep
+returns-clause-sweep g c = c.run_with_notes.ensures.sweep
 
-pub returns-in-Ok-clause-sweep : goal.returns-in-Ok-clause-sweep
-returns-in-Ok-clause-sweep g c =
-    where_swept (g.A.Arguments.arguments c.args.arguments.now) c.deref.result.now
-    (λ first count events. Swept first count events c.run_words.result (g.W.Sink.faults c.args.output.now) (g.W.Sink.faults c.run_words.new.output) (g.W.Sink.written c.args.output.now) (g.W.Sink.written c.run_words.new.output)) (search rules)
-    c.run_words.ensures.sweep
+pub returns-clause-node : goal.returns-clause-node
+returns-clause-node g c = c.run_with_notes.ensures.node
 
-pub returns-in-Err-clause-sweep : goal.returns-in-Err-clause-sweep
-returns-in-Err-clause-sweep g c =
-    unswept (g.A.Arguments.arguments c.args.arguments.now) c.written.result _ _ _ _ c.written.ensures.written
+pub returns-clause-control : goal.returns-clause-control
+returns-clause-control g c = c.run_with_notes.ensures.control
 
-pub returns-in-Ok-clause-node : goal.returns-in-Ok-clause-node
-returns-in-Ok-clause-node g c =
-    where_words (g.A.Arguments.arguments c.args.arguments.now) c.deref.result.now (λ ws. (config : List ℕ) (ticks : ℕ) → AsksNode ws config ticks → RanNode (g.F.Folder.files c.args.folder.now) config ticks c.run_words.result (g.F.Folder.faults c.args.folder.now) (g.F.Folder.faults c.run_words.new.folder) (sink (g.W.Sink.written c.args.output.now) (g.W.Sink.faults c.args.output.now)) (sink (g.W.Sink.written c.run_words.new.output) (g.W.Sink.faults c.run_words.new.output)) (wire (g.L.Link.bound c.args.link.now) (g.L.Link.sends c.args.link.now) (g.L.Link.losses c.args.link.now) (g.L.Link.coming c.args.link.now)) (wire (g.L.Link.bound c.run_words.new.link) (g.L.Link.sends c.run_words.new.link) (g.L.Link.losses c.run_words.new.link) (g.L.Link.coming c.run_words.new.link)) (g.L.Link.faults c.args.link.now) (g.L.Link.faults c.run_words.new.link) (g.C.Clock.readings c.args.clock.now)) (search rules) c.run_words.ensures.node
+pub returns-clause-usage : goal.returns-clause-usage
+returns-clause-usage g c = c.run_with_notes.ensures.usage
 
-pub returns-in-Ok-clause-control : goal.returns-in-Ok-clause-control
-returns-in-Ok-clause-control g c =
-    where_words (g.A.Arguments.arguments c.args.arguments.now) c.deref.result.now (λ ws. (to : AddressModel) (say : Request) → AsksControl ws to say → Asked to say c.run_words.result (sink (g.W.Sink.written c.args.output.now) (g.W.Sink.faults c.args.output.now)) (sink (g.W.Sink.written c.run_words.new.output) (g.W.Sink.faults c.run_words.new.output)) (wire (g.L.Link.bound c.args.link.now) (g.L.Link.sends c.args.link.now) (g.L.Link.losses c.args.link.now) (g.L.Link.coming c.args.link.now)) (wire (g.L.Link.bound c.run_words.new.link) (g.L.Link.sends c.run_words.new.link) (g.L.Link.losses c.run_words.new.link) (g.L.Link.coming c.run_words.new.link)) (g.L.Link.faults c.args.link.now) (g.L.Link.faults c.run_words.new.link)) (search rules) c.run_words.ensures.control
+pub returns-clause-unread : goal.returns-clause-unread
+returns-clause-unread g c = c.run_with_notes.ensures.unread
 
-pub returns-in-Ok-clause-folder : goal.returns-in-Ok-clause-folder
-returns-in-Ok-clause-folder g c =
-    where_words (g.A.Arguments.arguments c.args.arguments.now) c.deref.result.now (λ ws. NoNode ws → c.run_words.new.folder ≡ c.args.folder.now) (search rules) c.run_words.ensures.folder
+pub returns-clause-folder : goal.returns-clause-folder
+returns-clause-folder g c = c.run_with_notes.ensures.folder
 
-pub returns-in-Ok-clause-link : goal.returns-in-Ok-clause-link
-returns-in-Ok-clause-link g c =
-    where_words (g.A.Arguments.arguments c.args.arguments.now) c.deref.result.now (λ ws. NoNode ws → NoControl ws → c.run_words.new.link ≡ c.args.link.now) (search rules) c.run_words.ensures.link
+pub returns-clause-link : goal.returns-clause-link
+returns-clause-link g c = c.run_with_notes.ensures.link
 
-pub returns-in-Ok-clause-clock : goal.returns-in-Ok-clause-clock
-returns-in-Ok-clause-clock g c =
-    where_words (g.A.Arguments.arguments c.args.arguments.now) c.deref.result.now (λ ws. NoNode ws → c.run_words.new.clock ≡ c.args.clock.now) (search rules) c.run_words.ensures.clock
-
-pub returns-in-Err-clause-node : goal.returns-in-Err-clause-node
-returns-in-Err-clause-node g c =
-    whichever (g.A.Arguments.arguments c.args.arguments.now) (λ ws. (config : List ℕ) (ticks : ℕ) → AsksNode ws config ticks → RanNode (g.F.Folder.files c.args.folder.now) config ticks c.written.result (g.F.Folder.faults c.args.folder.now) (g.F.Folder.faults c.args.folder.now) (sink (g.W.Sink.written c.args.output.now) (g.W.Sink.faults c.args.output.now)) (sink (g.W.Sink.written c.written.new.output) (g.W.Sink.faults c.written.new.output)) (wire (g.L.Link.bound c.args.link.now) (g.L.Link.sends c.args.link.now) (g.L.Link.losses c.args.link.now) (g.L.Link.coming c.args.link.now)) (wire (g.L.Link.bound c.args.link.now) (g.L.Link.sends c.args.link.now) (g.L.Link.losses c.args.link.now) (g.L.Link.coming c.args.link.now)) (g.L.Link.faults c.args.link.now) (g.L.Link.faults c.args.link.now) (g.C.Clock.readings c.args.clock.now))
-    (λ ws config ticks asks. no_texts_node (g.F.Folder.files c.args.folder.now) config ticks c.written.result (g.F.Folder.faults c.args.folder.now) (sink (g.W.Sink.written c.args.output.now) (g.W.Sink.faults c.args.output.now)) (sink (g.W.Sink.written c.written.new.output) (g.W.Sink.faults c.written.new.output)) (wire (g.L.Link.bound c.args.link.now) (g.L.Link.sends c.args.link.now) (g.L.Link.losses c.args.link.now) (g.L.Link.coming c.args.link.now)) (g.L.Link.faults c.args.link.now) (g.C.Clock.readings c.args.clock.now) c.written.ensures.written)
-
-pub returns-in-Err-clause-control : goal.returns-in-Err-clause-control
-returns-in-Err-clause-control g c =
-    whichever (g.A.Arguments.arguments c.args.arguments.now) (λ ws. (to : AddressModel) (say : Request) → AsksControl ws to say → Asked to say c.written.result (sink (g.W.Sink.written c.args.output.now) (g.W.Sink.faults c.args.output.now)) (sink (g.W.Sink.written c.written.new.output) (g.W.Sink.faults c.written.new.output)) (wire (g.L.Link.bound c.args.link.now) (g.L.Link.sends c.args.link.now) (g.L.Link.losses c.args.link.now) (g.L.Link.coming c.args.link.now)) (wire (g.L.Link.bound c.args.link.now) (g.L.Link.sends c.args.link.now) (g.L.Link.losses c.args.link.now) (g.L.Link.coming c.args.link.now)) (g.L.Link.faults c.args.link.now) (g.L.Link.faults c.args.link.now))
-    (λ ws to say asks. no_texts_control to say c.written.result (sink (g.W.Sink.written c.args.output.now) (g.W.Sink.faults c.args.output.now)) (sink (g.W.Sink.written c.written.new.output) (g.W.Sink.faults c.written.new.output)) (wire (g.L.Link.bound c.args.link.now) (g.L.Link.sends c.args.link.now) (g.L.Link.losses c.args.link.now) (g.L.Link.coming c.args.link.now)) (g.L.Link.faults c.args.link.now) c.written.ensures.written)
+pub returns-clause-clock : goal.returns-clause-clock
+returns-clause-clock g c = c.run_with_notes.ensures.clock

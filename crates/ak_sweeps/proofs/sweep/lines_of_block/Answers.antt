@@ -1,7 +1,7 @@
 use Rattle.ak_sweep.specs.Lines as job
 use Rattle.ak_sweeps.specs.SweepText.{AreLines}
 use Rattle.ak_sweeps.proofs.SweepLines.{lines_are, of_answer}
-use Rattle.ak_sweeps.proofs.sweep.lines_of.Goals as goal
+use Rattle.ak_sweeps.proofs.sweep.lines_of_block.Goals as goal
 
 pub returns : goal.returns
 returns g c =

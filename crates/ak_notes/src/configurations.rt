@@ -1,0 +1,50 @@
+// Why there is no configuration, and what is odd about one.
+use crate::notes::Notes;
+use crate::sentence::{Piece, say};
+use ak_address::Text;
+use ak_schedule::{Settings, Strategy};
+use std::alloc::Global;
+
+/// Says what is to be said of something that has a name.
+pub fn say_of<'a, N: Notes>(
+    alloc: Global,
+    notes: &mut N,
+    before: &'a [u8],
+    name: &'a Text,
+    after: &'a [u8],
+) {
+    say(
+        alloc,
+        notes,
+        &[
+            Piece::Text(before),
+            Piece::Text(b"\""),
+            Piece::Text(name.bytes()),
+            Piece::Text(b"\""),
+            Piece::Text(after),
+            Piece::Text(b"\n"),
+        ],
+    );
+}
+
+/// Warns where the quorum is above the number of listed addresses.
+pub fn warn_of_quorum<N: Notes>(alloc: Global, notes: &mut N, settings: &Settings) {
+    let listed = settings.listed.len() as u64;
+    let Strategy::StaticQuorum(quorum) = settings.strategy else {
+        return;
+    };
+    if u64::from(quorum) <= listed {
+        return;
+    }
+    say(
+        alloc,
+        notes,
+        &[
+            Piece::Text(b"warning: the quorum is "),
+            Piece::Number(u64::from(quorum)),
+            Piece::Text(b", and "),
+            Piece::Number(listed),
+            Piece::Text(b" addresses are listed: such a cluster can never be founded\n"),
+        ],
+    );
+}
