@@ -1,0 +1,311 @@
+//! Three nodes in one program form a cluster; one of them is lost, and the others remove it. It shows how the core is called: an
+//! event goes in, actions come out, and what is sent is carried as bytes to whom it is for (docs/USING.md).
+#![tactic(auto)]
+
+mod words;
+
+ghost use Rattle.std.specs.Prelude.{◌<◌, ◌^◌};
+ghost use Rattle.ak_node.specs.Sends.{ComesValid};
+ghost use Rattle.ak_wire.specs.Datagram.{IsValid};
+
+use ak_address::{parse_address, parse_unique};
+use ak_node::{Action, Actions, Node, NodeEvent, is_for};
+use ak_outside::{Sink, StdSink};
+use ak_schedule::{Draft, Settings};
+use ak_wire::{Envelope, decode, encode, valid};
+use std::alloc::{AllocError, AllocFailed, Global};
+use std::process::ExitCode;
+use words::{tell_loss, tell_update};
+
+static SETTINGS: [&[u8]; 9] = [
+    b"listed a:1 b:1 c:1",
+    b"strategy static-quorum 2",
+    b"margin 5",
+    b"deadline 3",
+    b"stable 4",
+    b"shards 10",
+    b"buffer 10",
+    b"threshold 1",
+    b"limit 1",
+];
+
+static PROCESSES: [&[u8]; 3] = [b"a:1#1", b"b:1#1", b"c:1#1"];
+
+// Each running node ticks once a round. Before this round the last node is lost.
+const ROUNDS: u32 = 40;
+
+const LOSS: u32 = 10;
+
+// A node takes at most so many events, and so many packets are carried in a round.
+const MOST_STEPS: u64 = 1_000_000;
+
+const MOST_PACKETS: usize = 1_000;
+
+// Memory ran out, or standard output failed, or a text above is not written as it has to be.
+struct Fault;
+
+impl From<AllocError> for Fault {
+    fn from(_error: AllocError) -> Fault {
+        Fault
+    }
+}
+
+impl<T: Drop> From<AllocFailed<T>> for Fault {
+    fn from(_error: AllocFailed<T>) -> Fault {
+        Fault
+    }
+}
+
+fn settings(alloc: Global) -> Result<Settings, Fault> {
+    let mut draft = Draft::new(alloc);
+    'lines: for line in &SETTINGS {
+        match draft.header(alloc, line) {
+            Ok(false) => {}
+            Ok(true) => return draft.finish().map_err(|_| Fault),
+            Err(_) => return Err(Fault),
+        }
+    }
+    Err(Fault)
+}
+
+fn start(alloc: Global, settings: &Settings, process: &[u8]) -> Result<Node, Fault> {
+    let me = parse_unique(alloc, process).map_err(|_| Fault)?;
+    Ok(Node::start(alloc, me, settings)?)
+}
+
+// What a node does: its decisions are told, and what it sends is put into the post.
+fn take<W: Sink>(
+    alloc: Global,
+    node: &Node,
+    actions: &Actions,
+    post: &mut Vec<Vec<u8>>,
+    output: &mut W,
+) -> Result<(), Fault> {
+    'actions: for action in actions.as_slice() {
+        match action {
+            Action::Send(packet) => put(alloc, packet.get(), post)?,
+            Action::Update(_number, effects) => tell_update(alloc, node.me(), effects, output)?,
+            _ => {}
+        }
+    }
+    Ok(())
+}
+
+fn put(alloc: Global, packet: &Envelope, post: &mut Vec<Vec<u8>>) -> Result<(), Fault> {
+    if valid(packet) {
+        post.push(encode(alloc, packet)?)?;
+    }
+    Ok(())
+}
+
+// A node that still runs is given an event.
+fn step<W: Sink>(
+    alloc: Global,
+    node: &mut Node,
+    event: NodeEvent,
+    post: &mut Vec<Vec<u8>>,
+    output: &mut W,
+) -> Result<(), Fault>
+    requires few { node.old.state.steps < 2 ^ 62 }
+    requires comes { ComesValid event }
+{
+    let actions = node.step(alloc, event)?;
+    take(alloc, node, &actions, post, output)
+}
+
+fn found<W: Sink>(
+    alloc: Global,
+    node: &mut Node,
+    post: &mut Vec<Vec<u8>>,
+    output: &mut W,
+) -> Result<(), Fault> {
+    if node.steps() >= MOST_STEPS {
+        return Err(Fault);
+    }
+    step(alloc, node, NodeEvent::Found, post, output)
+}
+
+fn join<W: Sink>(
+    alloc: Global,
+    node: &mut Node,
+    address: &[u8],
+    post: &mut Vec<Vec<u8>>,
+    output: &mut W,
+) -> Result<(), Fault> {
+    if node.steps() >= MOST_STEPS {
+        return Err(Fault);
+    }
+    let address = parse_address(alloc, address).map_err(|_| Fault)?;
+    step(alloc, node, NodeEvent::Join(address), post, output)
+}
+
+fn tick<W: Sink>(
+    alloc: Global,
+    node: &mut Node,
+    word: u32,
+    post: &mut Vec<Vec<u8>>,
+    output: &mut W,
+) -> Result<(), Fault> {
+    if node.steps() >= MOST_STEPS {
+        return Err(Fault);
+    }
+    step(alloc, node, NodeEvent::Tick(word), post, output)
+}
+
+fn receive<W: Sink>(
+    alloc: Global,
+    node: &mut Node,
+    packet: &Envelope,
+    post: &mut Vec<Vec<u8>>,
+    output: &mut W,
+) -> Result<(), Fault>
+    requires { IsValid packet.now }
+{
+    if node.steps() >= MOST_STEPS {
+        return Err(Fault);
+    }
+    let actions = node.receive(alloc, packet)?;
+    take(alloc, node, &actions, post, output)
+}
+
+// A packet comes to the node that it is for.
+fn give<W: Sink>(
+    alloc: Global,
+    nodes: &mut [Node],
+    packet: &Envelope,
+    post: &mut Vec<Vec<u8>>,
+    output: &mut W,
+) -> Result<(), Fault>
+    requires { IsValid packet.now }
+{
+    'nodes: for node in nodes {
+        if is_for(node.me(), packet) {
+            receive(alloc, node, packet, post, output)?;
+        }
+    }
+    Ok(())
+}
+
+fn deliver<W: Sink>(
+    alloc: Global,
+    nodes: &mut [Node],
+    bytes: &[u8],
+    post: &mut Vec<Vec<u8>>,
+    output: &mut W,
+) -> Result<(), Fault> {
+    match decode(alloc, bytes) {
+        Ok(packet) => give(alloc, nodes, &packet, post, output),
+        Err(_) => Err(Fault),
+    }
+}
+
+// Everything in the post is delivered, and what is sent because of it.
+fn deliver_all<W: Sink>(
+    alloc: Global,
+    nodes: &mut [Node],
+    post: &mut Vec<Vec<u8>>,
+    output: &mut W,
+) -> Result<(), Fault> {
+    'packets: for _carried in 0..MOST_PACKETS {
+        let Some(bytes) = post.pop() else {
+            return Ok(());
+        };
+        deliver(alloc, nodes, &bytes, post, output)?;
+    }
+    Ok(())
+}
+
+fn found_and_join<W: Sink>(
+    alloc: Global,
+    nodes: &mut [Node],
+    post: &mut Vec<Vec<u8>>,
+    output: &mut W,
+) -> Result<(), Fault> {
+    let Some((first, others)) = nodes.split_first_mut() else {
+        return Ok(());
+    };
+    found(alloc, first, post, output)?;
+    'others: for node in others {
+        join(alloc, node, b"a:1", post, output)?;
+    }
+    Ok(())
+}
+
+fn round<W: Sink>(
+    alloc: Global,
+    nodes: &mut [Node],
+    word: u32,
+    post: &mut Vec<Vec<u8>>,
+    output: &mut W,
+) -> Result<(), Fault> {
+    'nodes: for node in &mut *nodes {
+        tick(alloc, node, word, post, output)?;
+    }
+    deliver_all(alloc, nodes, post, output)
+}
+
+// The last node is gone: nothing reaches it any more, and it sends nothing.
+fn lose<W: Sink>(alloc: Global, nodes: &mut Vec<Node>, output: &mut W) -> Result<(), Fault> {
+    match nodes.pop() {
+        Some(lost) => tell_loss(alloc, lost.me(), output),
+        None => Ok(()),
+    }
+}
+
+fn play<W: Sink>(
+    alloc: Global,
+    nodes: &mut Vec<Node>,
+    post: &mut Vec<Vec<u8>>,
+    output: &mut W,
+) -> Result<(), Fault> {
+    found_and_join(alloc, nodes, post, output)?;
+    'rounds: for word in 0..ROUNDS {
+        if word == LOSS {
+            lose(alloc, nodes, output)?;
+        }
+        round(alloc, nodes, word, post, output)?;
+    }
+    Ok(())
+}
+
+fn start_all(alloc: Global, settings: &Settings, nodes: &mut Vec<Node>) -> Result<(), Fault> {
+    'processes: for process in &PROCESSES {
+        nodes.push(start(alloc, settings, process)?)?;
+    }
+    Ok(())
+}
+
+// Whoever owns something that has to be let go leaves the rest to a function that borrows it: so each proof is short.
+fn with_post<W: Sink>(alloc: Global, nodes: &mut Vec<Node>, output: &mut W) -> Result<(), Fault> {
+    let mut post = Vec::new(alloc);
+    play(alloc, nodes, &mut post, output)
+}
+
+fn with_nodes<W: Sink>(
+    alloc: Global,
+    nodes: &mut Vec<Node>,
+    settings: &Settings,
+    output: &mut W,
+) -> Result<(), Fault> {
+    start_all(alloc, settings, nodes)?;
+    with_post(alloc, nodes, output)
+}
+
+fn with_settings<W: Sink>(alloc: Global, settings: &Settings, output: &mut W) -> Result<(), Fault> {
+    let mut nodes = Vec::new(alloc);
+    with_nodes(alloc, &mut nodes, settings, output)
+}
+
+fn run<W: Sink>(alloc: Global, output: &mut W) -> Result<(), Fault> {
+    match settings(alloc) {
+        Ok(settings) => with_settings(alloc, &settings, output),
+        Err(fault) => Err(fault),
+    }
+}
+
+fn main(rt: HostRuntime) -> ExitCode {
+    match run(rt.alloc(), &mut StdSink::new(&rt)) {
+        Ok(()) => ExitCode::SUCCESS,
+        Err(Fault) => ExitCode::FAILURE,
+    }
+}
