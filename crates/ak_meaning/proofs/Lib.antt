@@ -1,0 +1,17 @@
+pub mod CountingLemmas
+pub mod ResolverLaws
+pub mod RingLaws
+pub mod SilenceLaws
+pub mod MembershipOf
+pub mod WhatCame
+pub mod StandstillSteps
+pub mod StandstillRuns
+pub mod CauseSteps
+pub mod CauseRuns
+pub mod ReceivedLaws
+pub mod InstanceRuns
+pub mod BrokenRun
+pub mod WatchRuns
+pub mod ListeningSteps
+pub mod ListeningRuns
+pub mod FounderRuns

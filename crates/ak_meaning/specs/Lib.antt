@@ -1,0 +1,10 @@
+pub mod Broken
+pub mod Causes
+pub mod Counting
+pub mod Instances
+pub mod Listening
+pub mod Receiving
+pub mod Resolver
+pub mod Ring
+pub mod Standstill
+pub mod Watching

@@ -1,0 +1,147 @@
+ghost use Rattle.std.specs.Prelude.{◌≡◌, ◌↔◌, ◌<◌, ◌++◌, ◌∷◌, ℕ, false, IsTrue, List, Ok, Err, Some, Contains, slice_get, take, true};
+ghost use Rattle.std.specs.FinMap as map;
+ghost use Rattle.ak_address.specs.Counters.{Counters};
+ghost use Rattle.ak_address.specs.Unique.{UniqueModel};
+ghost use Rattle.ak_address.specs.Uniques.{has};
+ghost use Rattle.ak_detector.specs.Detector.{silent, watch_ring, watching};
+ghost use Rattle.ak_downing.specs.declared.decision.Decision.TheVariants.{DownAll, DownUnreachable};
+ghost use Rattle.ak_downing.specs.Downing.{decide};
+ghost use Rattle.ak_gossip.specs.declared.gossip.GossipFault.{GossipFault};
+ghost use Rattle.ak_gossip.specs.declared.gossip.Received.{Received};
+ghost use Rattle.ak_gossip.specs.Gossip.{GossipState, is_known, receive};
+ghost use Rattle.ak_history.specs.declared.entry.Entry.{Entry};
+ghost use Rattle.ak_meaning.specs.Broken.{breaking, two};
+ghost use Rattle.ak_meaning.specs.Causes.{IsCaused, WasToldToFound};
+ghost use Rattle.ak_meaning.specs.Instances.{IsSaid, KnowsMember, KnowsRemoved, NotesGrow, RunsSettled};
+ghost use Rattle.ak_meaning.specs.Listening.{SilentSince};
+ghost use Rattle.ak_meaning.specs.Receiving.{AreMerged};
+ghost use Rattle.ak_meaning.specs.Resolver.{AreDivided, DecidesByMajority, DecidesByQuorum, DoesCount, DownsRightly};
+ghost use Rattle.ak_meaning.specs.Ring.{Happening, HasLast, IsLast, IsRing, IsSilent, IsWatched, ticks_in};
+ghost use Rattle.ak_meaning.specs.Standstill.{DownsAt, IsAt, StoodStill};
+ghost use Rattle.ak_meaning.specs.Watching.{WatchesRing};
+ghost use Rattle.ak_member.specs.declared.effect.Effect.{Effect};
+ghost use Rattle.ak_member.specs.declared.effect.Effect.TheVariants.{Removed, Rise};
+ghost use Rattle.ak_member.specs.declared.status.Status.TheVariants.{Up};
+ghost use Rattle.ak_member.specs.Standing.{Standings, is_member};
+ghost use Rattle.ak_member.specs.View.{View};
+ghost use Rattle.ak_node.specs.declared.node.NodeEvent.TheVariants.{Packet};
+ghost use Rattle.ak_node.specs.declared.node.State.{State};
+ghost use Rattle.ak_node.specs.Node.{is_for, known, me_of, step};
+ghost use Rattle.ak_schedule.specs.Settings.{SettingsModel};
+ghost use Rattle.ak_schedule.specs.declared.event.Event.{Event};
+ghost use Rattle.ak_schedule.specs.declared.settings.Strategy.{Strategy};
+ghost use Rattle.ak_schedule.specs.declared.settings.Strategy.TheVariants as strategy;
+ghost use Rattle.ak_wire.specs.declared.envelope.Envelope.{Envelope};
+ghost use Rattle.ak_wire.specs.Wire.{gossip_of};
+ghost use Rattle.ak_world.specs.declared.margin.Margin.TheVariants.{Broken};
+ghost use Rattle.ak_world.specs.Margin.{HasNumber, IsMargin, Runs};
+ghost use Rattle.ak_world.specs.Worked.{a_1, b_1, c_1, passing, three};
+ghost use Rattle.ak_world.specs.World.{run};
+
+/// Under static-quorum a node downs the unreachable ones exactly where at least the quorum's addresses are on its side and fewer
+/// than twice the quorum count; it downs all exactly where at least twice the quorum count; else it gives up its side (Akka's
+/// Split Brain Resolver, "Static Quorum"; that different addresses of counted members are counted is this project's choice).
+pub fn a_quorum_decides()
+    ensures { (quorum : ℕ) (v : View) (me : UniqueModel) → DecidesByQuorum quorum v me }
+{}
+
+/// Under keep-majority a node downs the unreachable ones exactly where more counted members are on its side than are not, or as
+/// many and the first one is; else it gives up its side. Of two sides that divide the counted members exactly one goes on where
+/// somebody counts (Akka's Split Brain Resolver, "Keep Majority").
+pub fn a_majority_decides()
+    ensures numbers { (v : View) (me : UniqueModel) → DecidesByMajority v me }
+    ensures sides { (v w : View) (me you who : UniqueModel) → AreDivided v w me you → DoesCount v who → (decide strategy.KeepMajority v me ≡ DownUnreachable) ↔ (¬ (decide strategy.KeepMajority w you ≡ DownUnreachable)) }
+{}
+
+/// Under down-all all are downed. Under each strategy a decision downs members that are not Down and nobody else: the node itself
+/// exactly where it gives up its side or downs all; another one exactly where all are downed, where it is unreachable and the
+/// unreachable ones are, and where it is not and the reachable ones are.
+pub fn a_decision_downs_its_members()
+    ensures all { (v : View) (me : UniqueModel) → decide strategy.DownAll v me ≡ DownAll }
+    ensures downs { (strategy : Strategy) (v : View) (me : UniqueModel) → DownsRightly strategy v me }
+{}
+
+/// With five or more other members the ring of a node has exactly five, with fewer all; and whoever comes on the ring before one
+/// that is watched, from the node on, is watched too (Akka's Cluster Specification, "Failure Detector").
+pub fn a_ring_passes_over_nobody()
+    ensures { (me : UniqueModel) (s : Standings) → IsRing me s }
+{}
+
+/// Whoever a node watches off its ring is silent, and a member.
+pub fn others_are_watched_while_silent()
+    ensures { (me : UniqueModel) (s : Standings) (deadline : ℕ) (c : Counters) (who : UniqueModel) → IsTrue (map.contains_key (watching me s deadline c) who) → has (watch_ring me s) who ≡ false
+        → IsTrue (has (silent deadline (watching me s deadline c)) who) × IsTrue (is_member s who) }
+{}
+
+/// Over every list of events: each node watches its ring, and whoever else it watches is silent, and a member.
+pub fn nodes_watch_their_ring()
+    ensures { (settings : SettingsModel) (events : List Event) (index : ℕ) (n : State) → slice_get (run settings events).nodes index ≡ Some n → WatchesRing n }
+{}
+
+/// Whatever members, heard processes and ticks came to a detector: a watched process is silent exactly where more ticks than the
+/// deadline have passed since the later of when it was first watched and when it was last heard. Of each watched process there is
+/// such a moment.
+pub fn silence_is_counted_from_what_was_heard()
+    ensures counted { (me : UniqueModel) (deadline : ℕ) (who : UniqueModel) (before since : List Happening) (happening : Happening)
+        → IsLast me deadline before happening since who → IsSilent me deadline (before ++ happening ∷ since) who ↔ (deadline < ticks_in since) }
+    ensures moment { (me : UniqueModel) (deadline : ℕ) (who : UniqueModel) (happenings : List Happening) → IsWatched me deadline happenings who → HasLast me deadline happenings who }
+{}
+
+/// Over every list of events: of what came to a node (with each of its steps a tick, or the answer of a process that it hears,
+/// where it is a member, and then the members that it knows), there is for each process that it watches a last thing with which it
+/// began to watch it or heard it; and the process is silent exactly where more of its ticks than the deadline have come since.
+pub fn silence_is_counted_over_runs()
+    ensures { (settings : SettingsModel) (events : List Event) (time index : ℕ) (n : State) (who : UniqueModel) → IsAt settings events time index n → IsTrue (map.contains_key n.membership.detector who) → SilentSince settings events time index n who }
+{}
+
+/// Over every list of events: a node downs somebody at a tick only where its view has stood still. From some time on it has shown
+/// each process as it does now (whether it is a member, its status, and whether it is unreachable), and since then, with this
+/// tick, the node has ticked as a member at least as often as the settings ask (Akka's Split Brain Resolver, "stable-after").
+pub fn a_decision_waits_for_a_standstill()
+    ensures { (settings : SettingsModel) (events : List Event) (index time : ℕ) → DownsAt settings events index time → StoodStill settings events index time }
+{}
+
+/// A gossip that is received without refusal leaves the version that is the merge of both, whatever the result; the receiver is
+/// among those that have seen what is known then, where it is a member of that, but after an older one, which changes nothing.
+/// That is what a running node knows after a step in which a packet for it carried a gossip that knows it; and where the gossip is
+/// refused, it knows what it knew (Akka's Cluster Specification, "Gossip" and "Gossip Convergence").
+pub fn an_accepted_gossip_leaves_the_merge()
+    ensures merge { (me : UniqueModel) (own incoming : GossipState) (result : Received) (known : GossipState) → receive me own incoming ≡ Ok (result, known) → AreMerged me own incoming result known }
+    ensures taken { (n : State) (p : Envelope) (g : GossipState) → IsTrue n.runs → IsTrue (is_for (me_of n) p) → gossip_of p.message ≡ Some g → IsTrue (is_known g.view.standings (me_of n))
+        → (k : Received × GossipState) → receive (me_of n) (known n) g ≡ Ok k → known (step (Packet p) n).0 ≡ k.1 }
+    ensures refused { (n : State) (p : Envelope) (g : GossipState) → IsTrue n.runs → IsTrue (is_for (me_of n) p) → gossip_of p.message ≡ Some g → IsTrue (is_known g.view.standings (me_of n))
+        → (fault : GossipFault) → receive (me_of n) (known n) g ≡ Err fault → known (step (Packet p) n).0 ≡ known n }
+{}
+
+/// Over every list of events: each effect of each entry of the history was written at a step of its author, a running node, for a
+/// cause. It founded, or admitted who asked. A rise to Up was made by the founding or by a leader in a settled view, one to
+/// Exiting by such a leader, one to Leaving where it was asked, one to Down where it was asked, where another process at that
+/// address asked to join, or by a decision. A removal was made by such a leader: as confirmed only of one that said that it stops,
+/// and else of one that was Down and unreachable. Who founds was given the event to found the cluster before (Akka's Cluster
+/// Specification, "Membership Lifecycle").
+pub fn each_entry_has_a_cause()
+    ensures caused { (settings : SettingsModel) (events : List Event) (entry : Entry) → Contains (run settings events).history entry → (effect : Effect) → Contains entry.effects effect → IsCaused settings events entry effect }
+    ensures founder { (settings : SettingsModel) (events : List Event) (time index : ℕ) (n : State) → IsAt settings events time index n → IsTrue n.membership.founder → WasToldToFound settings events index time }
+{}
+
+/// The laws have cases. In the run in which an activity passes from b to c (three listed addresses, a static quorum of two, the
+/// margin kept): after 15 of its 33 events b is Up in its own view; after all of them c runs with a settled view, in which b is
+/// removed and confirmed; the history says both, that b rose to Up and that it was removed so; and the version that c has noted as
+/// settled then covers the one that b had noted after 15 events, and counts more.
+pub fn a_run_shows_a_member_from_up_to_removed()
+    ensures up { KnowsMember three (take 15 passing) 0 b_1 Up }
+    ensures rose { IsSaid three passing (Rise b_1 Up 1) }
+    ensures settled { RunsSettled three passing 1 }
+    ensures removed { KnowsRemoved three passing 1 b_1 }
+    ensures told { IsSaid three passing (Removed b_1 true) }
+    ensures noted { NotesGrow three (take 15 passing) passing b_1 c_1 }
+{}
+
+/// A margin can be broken. Where a founds alone and downs b, which never hears of it, a finds b silent, removes it unconfirmed,
+/// and finds at step 11 that its margin of one tick has ended, while b runs: the step, the node and the member are these.
+pub fn a_margin_can_be_broken()
+    ensures broken { IsMargin two breaking (Broken 11 0 1) }
+    ensures node { HasNumber (run two (take 10 breaking)).nodes 0 a_1 }
+    ensures member { HasNumber (run two (take 10 breaking)).nodes 1 b_1 }
+    ensures runs { Runs (run two (take 10 breaking)).nodes b_1 }
+{}
