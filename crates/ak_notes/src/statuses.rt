@@ -12,6 +12,7 @@ for example:
        akka sweep --first 0 --count 1000 --events 2000 --workers 4
        akka node --config examples/three_nodes/a.toml --ticks 1000
        akka ctl --to 127.0.0.1:2551 --say \"leave 127.0.0.1:2552#1\"
+What is read, what is printed and what each exit status means is in docs/FORMATS.md.
 ";
 
 /// Says what a status means, where no more is known of it: of `Done` nothing, and nothing of `Configuration` and `Schedule`, which
