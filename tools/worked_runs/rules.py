@@ -1,6 +1,7 @@
-"""A small model of the rules that the two worked runs need: nobody is unreachable, and nobody decides about a partition."""
+"""A small model of the rules that the worked runs need: nobody is unreachable, and nobody decides about a partition."""
 
 import copy
+import shards
 RANK = {'Joining': 1, 'Up': 2, 'Leaving': 3, 'Exiting': 4, 'Down': 5}
 COUNTS = {'Up', 'Leaving'}
 
@@ -9,12 +10,14 @@ def addr(u):
 
 class Sim:
 
-    def __init__(s, quorum, listed):
+    def __init__(s, quorum, listed, many_shards=10, buffer=2):
         s.q = quorum
         s.listed = listed
+        s.many_shards = many_shards
+        s.buffer = buffer
 
     def started(s, me):
-        return dict(me=me, gossip=dict(version={}, standings={}, seen=[]), shown={}, founder=False, target=None, ticks=0, stable=0, moved=False, detector={}, confirmed=[], settled=None, promise=dict(last=None, released=False, floor={}), phase='Younger', live=None, granted=[], floor={}, has_table=False, runs=True, steps=0)
+        return dict(me=me, gossip=dict(version={}, standings={}, seen=[]), shown={}, founder=False, target=None, ticks=0, stable=0, moved=False, detector={}, confirmed=[], settled=None, promise=dict(last=None, released=False, floor={}), phase='Younger', live=None, granted=[], floor={}, table=None, slots=[shards.slot() for _ in range(s.many_shards)], messages=[], most=s.buffer, entities=[], active_entities=frozenset(), runs=True, steps=0)
 
 def members(st):
     return {u: v for u, v in sorted(st.items()) if v[0] == 'M'}
@@ -127,7 +130,8 @@ def tick_rule(n):
     free = last is None or n['promise']['released'] or last[1] == n['me'] or finished(sv, last[1])
     return {'Younger': 'Opens' if cand and free else 'HandsOver' if cand else 'Rests', 'Asking': 'Asks' if cand else 'Closes', 'Active': 'Asks', 'Ended': 'Rests'}[n['phase']]
 
-def goes_on(n, word, q):
+def goes_on(n, word, q, threshold=1, limit=1):
+    """what follows the update of a tick: the state between two parts of it, where there is one, and what each part does"""
     acts = []
     sv = n['settled']
     st = n['gossip']['standings']
@@ -141,7 +145,7 @@ def goes_on(n, word, q):
                     acts.append(to(n, u, ('Release', last, dict(version_of(sv)))))
             n['promise'] = dict(last=last, released=True, floor=vmerge(n['promise']['floor'], version_of(sv)))
             n['phase'] = 'Ended'
-            n['has_table'] = False
+            n['table'] = None
             n['live'] = None
             n['granted'] = []
             n['floor'] = {}
@@ -153,7 +157,7 @@ def goes_on(n, word, q):
         for u, v in members(st).items():
             if v[1] in COUNTS:
                 acts.append(to(n, u, ('ExitingConfirmed',)))
-        return (middle, ended, acts)
+        return (middle, ended, [], [], acts)
     r = tick_rule(n)
     if r == 'Opens':
         last = n['promise']['last']
@@ -161,7 +165,7 @@ def goes_on(n, word, q):
         n['floor'] = vmerge(n['promise']['floor'], version_of(sv))
         n['promise'] = dict(last=b, released=False, floor=n['promise']['floor'])
         n['phase'] = 'Asking'
-        n['has_table'] = True
+        n['table'] = [shards.unplaced() for _ in n['slots']]
         n['live'] = b
         n['granted'] = [n['me']]
         for u in needed(sv):
@@ -174,6 +178,9 @@ def goes_on(n, word, q):
     elif r != 'Rests':
         raise Exception(r)
     asked, acts = acts, []
+    middle = copy.deepcopy(n)
+    ordered = shards.coordinates(n, threshold, limit, to)
+    homes = shards.asks_homes(n, to)
     g = n['gossip']
     ms = members(st)
     if n['ticks'] % 3 == 0 or 2 * len(g['seen']) < len(ms):
@@ -181,7 +188,7 @@ def goes_on(n, word, q):
         c = [u for u in others if u not in g['seen']] or others
         if c:
             acts.append(to(n, c[word % len(c)], ('Gossip', gcopy(g))))
-    return (None, asked, acts)
+    return (middle, asked, ordered, homes, acts)
 
 def covers(v, w):
     return all((v.get(u, 0) >= c for u, c in w.items()))
@@ -237,6 +244,8 @@ def on_packet(n, p):
         assert n['live'] == m[1] and frm not in n['granted']
         n['granted'] = sorted(n['granted'] + [frm])
         n['floor'] = vmerge(n['floor'], m[2])
+    elif k in shards.RULES:
+        acts += shards.RULES[k](n, frm, *m[1:], to)
     else:
         raise Exception(k)
     return acts

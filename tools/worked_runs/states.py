@@ -1,4 +1,5 @@
 import sys, copy
+import shards
 from rules import *
 U = {('a', 1): 'a_1', ('b', 1): 'b_1', ('c', 1): 'c_1'}
 
@@ -35,14 +36,14 @@ MESSAGES = set()
 
 class Gen:
 
-    def __init__(s, settings, quorum, nodes):
+    def __init__(s, settings, quorum, nodes, many_shards=10, buffer=2):
         s.settings = settings
         s.q = quorum
         s.nodes = nodes
         s.known = {}
         s.out = []
         s.world = []
-        s.st = [Sim(quorum, []).started(x) for x in nodes]
+        s.st = [Sim(quorum, [], many_shards, buffer).started(x) for x in nodes]
         s.nm = ['started %s %s' % (u(x), settings) for x in nodes]
         s.packets = []
         s.pnames = {}
@@ -75,6 +76,10 @@ class Gen:
             return 'message.Granted (%s) (table %s) []' % (ballot(m[1]), counts(m[2]))
         if k == 'Release':
             return 'message.Release (%s) (table %s)' % (ballot(m[1]), counts(m[2]))
+        if k == 'Home':
+            return 'message.Home (%s) %d %s' % (ballot(m[1]), m[2], u(m[3]))
+        if k == 'GetHome' or k in shards.RULES or k == 'ShardStarted':
+            return 'message.%s (%s) %s' % (k, ballot(m[1]), ' '.join(str(number) for number in m[2:]))
         return 'message.' + k
 
     def env(s, p):
@@ -99,7 +104,7 @@ class Gen:
             return 'Update %d %s' % (a[1], lst([s.effect(e) for e in a[2]]))
         if a[0] in ('Active', 'Ended'):
             return '%s %d' % (a[0], a[1])
-        return a[0]
+        return ' '.join(str(part) for part in a)
     MEM = [('gossip', lambda s, n: s.gossip(n['gossip'])), ('shown', lambda s, n: 'table ' + counts(n['shown'])), ('founder', lambda s, n: str(n['founder']).lower()), ('target', lambda s, n: 'Some at_%s' % n['target'] if n['target'] else 'None'), ('ticks', lambda s, n: str(n['ticks'])), ('stable', lambda s, n: str(n['stable'])), ('moved', lambda s, n: str(n['moved']).lower()), ('detector', lambda s, n: 'table ' + counts(n['detector'])), ('confirmed', lambda s, n: 'set ' + procs(n['confirmed'])), ('settled', lambda s, n: s.settled(n['settled']))]
     SIN = [('phase', lambda s, n: 'phase.' + n['phase']), ('live', lambda s, n: some(n['live'], ballot)), ('granted', lambda s, n: 'set ' + procs(n['granted'])), ('floor', lambda s, n: 'table ' + counts(n['floor']))]
 
@@ -113,6 +118,47 @@ class Gen:
             f.append('promise = record { last = %s; released = %s; floor = table %s }' % (some(p['last'], ballot), str(p['released']).lower(), counts(p['floor'])))
         return f + ['%s = %s' % (k, fn(s, new)) for k, fn in s.SIN if old[k] != new[k]]
 
+    def slot(s, known):
+        """what a region knows of a shard"""
+        if known == shards.slot():
+            return 'untold'
+        hosted = 'None' if known['hosted'] is None else '(Some %d)' % known['hosted']
+        home = 'None' if known['home'] is None else '(Some %s)' % u(known['home'])
+        return 'slot %s %d %s %s' % (hosted, known['mark'], str(known['held']).lower(), home)
+
+    def entry(s, entry):
+        """what a coordinator knows of a shard"""
+        if entry == shards.unplaced():
+            return 'unplaced'
+        owner, number = entry['home']
+        assert number == entry['last'] and not entry['started']
+        if entry['stage'] == 'Still':
+            return 'placed %d %s' % (number, u(owner))
+        return 'leaves %d %s stages.%s %s' % (number, u(owner), entry['stage'], procs(entry['waits']))
+
+    def sharding(s, old, new, base):
+        """what is kept of shards: the region, the entities, and the table, where they changed"""
+        f = []
+        if old['table'] is None and new['table'] is not None:
+            return ['sharding = begins_table %s %s.sharding' % (u(new['me']), base)]
+        if old['table'] is not None and new['table'] is None:
+            return ['sharding = ends_table %s.sharding' % base]
+        region = []
+        if old['slots'] != new['slots']:
+            region.append('slots = %s' % lst0([s.slot(known) for known in new['slots']]))
+        if old['messages'] != new['messages']:
+            region.append('messages = %s' % lst0(['message_for %s %d' % message for message in new['messages']]))
+        if region:
+            f.append('region = record %s.sharding.region { %s }' % (base, '; '.join(region)))
+        entities = base + '.sharding.entities'
+        for rule, shard, *delivery in new['entities'][len(old['entities']):]:
+            entities = ' '.join([rule, par(entities), str(shard)] + [str(part) for part in delivery])
+        if old['entities'] != new['entities']:
+            f.append('entities = %s' % entities)
+        if old['table'] != new['table']:
+            f.append('table = Some %s' % lst([s.entry(entry) for entry in new['table']]))
+        return ['sharding = record %s.sharding { %s }' % (base, '; '.join(f))] if f else []
+
     def diff(s, old, new, base, membership=None):
         f = []
         m = s.mem(old, new)
@@ -123,8 +169,7 @@ class Gen:
         t = s.sin(old, new)
         if t:
             f.append('singleton = record %s.singleton { %s }' % (base, '; '.join(t)))
-        if old['has_table'] != new['has_table']:
-            f.append('sharding = begins_table %s %s.sharding' % (u(new['me']), base) if new['has_table'] else 'sharding = ends_table %s.sharding' % base)
+        f += s.sharding(old, new, base)
         if old['runs'] != new['runs']:
             f.append('runs = ' + str(new['runs']).lower())
         if old['steps'] != new['steps']:
@@ -155,8 +200,8 @@ class Gen:
             m = copy.deepcopy(n)
             beats = [to(n, w, ('Heartbeat',)) for w in n['detector']]
             upd = [('Update', ch[0], ch[1])] if ch[0] else []
-            middle, asked, told = goes_on(n, int(e[3]), s.q)
-            first = beats + upd + asked + told
+            middle, asked, ordered, homes, told = goes_on(n, int(e[3]), s.q)
+            first = beats + upd + asked + ordered + homes + told
         elif e[0] == 'N':
             if e[2] == 'Found':
                 n['founder'] = True
@@ -168,6 +213,9 @@ class Gen:
             elif e[2] == 'Leave':
                 c = update(n, [('Rise', n['me'], 'Leaving', 0)])
                 first = [('Update', c, [('Rise', n['me'], 'Leaving', 0)])]
+            elif e[2] == 'Offer':
+                entity, payload = e[3].split()
+                first = shards.routes(n, entity, int(payload))
         else:
             first = on_packet(n, p)
         ruled = copy.deepcopy(n)
@@ -217,17 +265,35 @@ class Gen:
         if istick:
             after = '(record %s { membership = ticked_%d; steps = %d })' % (base, k, n['steps'])
             asked_list, told_list = lst([s.act(a) for a in asked]), lst([s.act(a) for a in told])
-            if middle is None:
+            if ordered or homes:
+                # the state before the node's part as the coordinator has a name where that part changes it
+                before = rn
+                if middle['table'] != ruled['table']:
+                    L.insert(-2, 'abbrev asked_%d : State\nasked_%d = %s\n' % (k, k, s.diff(old, middle, base, 'ticked_%d' % k)))
+                    before = 'asked_%d' % k
+                ordered_list, homes_list = lst([s.act(a) for a in ordered]), lst([s.act(a) for a in homes])
+                going = '(in_coordinating %s %s %s %s %s %s %s %s (simp listed) (simp listed) (simp listed) (simp listed) (simp listed) (simp listed))' % (e[3], after, before, rn, asked_list, ordered_list, homes_list, told_list)
+            elif n['runs']:
                 coordinates = '(simp listed)' if ruled['phase'] == 'Active' else 'refl'
                 going = '(in_going %s %s %s %s %s (simp listed) (simp listed) (simp listed) %s refl (simp listed))' % (e[3], after, rn, asked_list, told_list, coordinates)
             else:
                 L.insert(-2, 'abbrev ended_%d : State\nended_%d = %s\n' % (k, k, s.diff(old, middle, base, 'ticked_%d' % k)))
                 going = '(in_leaving %s %s ended_%d %s %s %s (simp listed) (simp listed) (simp listed) refl (simp listed))' % (e[3], after, k, rn, asked_list, told_list)
-            rule = '(in_ticks %s (record %s { steps = %d }) %s ticked_%d %s %s %s (simp listed) (simp listed) (simp listed)\n        %s)' % (e[3], base, n['steps'], rn, k, change, lst([s.act(a) for a in beats]), lst([s.act(a) for a in asked + told]), going)
+            rule = '(in_ticks %s (record %s { steps = %d }) %s ticked_%d %s %s %s (simp listed) (simp listed) (simp listed)\n    %s)' % (e[3], base, n['steps'], rn, k, change, lst([s.act(a) for a in beats]), lst([s.act(a) for a in asked + ordered + homes + told]), going)
+        elif e[0] == 'D' and ('Entity' in [a[0] for a in first]):
+            # a message that waited starts an entity
+            place = [a[0] for a in first].index('Entity')
+            before, (entity, payload), after = first[:place], first[place + 1][1:], first[place + 2:]
+            assert not any(a[0] == 'Entity' for a in after)
+            counted = '(record %s { steps = %d })' % (base, n['steps'])
+            rule = '(in_starting %s %s %s %s %s %s %s %d (simp listed) refl)' % (u(p['frm']), par(s.msg(p['msg'])), counted, rn, lst([s.act(a) for a in before]), lst([s.act(a) for a in after]), entity, payload)
         else:
-            rule = '(simp listed)'
+            shares = e[2] == 'Offer' if e[0] == 'N' else p['msg'][0] == 'BeginHandOffAck'
+            rule = '(simp shared)' if shares else '(simp listed)'
         act = 'refl' if closed['phase'] != 'Asking' or not closed['runs'] else '(simp listed)'
-        L.append('step_%d =\n    in_stages %s %s %s %s %s %s %s %s refl refl\n    %s\n    (simp listed)\n    refl\n    %s\n' % (k, ev, base, rn, cn, now, f, se, th, rule, act))
+        # homes that are no members are forgotten: by computation where no home is known
+        forgets = '(simp listed)' if any(known['home'] for known in closed['slots']) else 'refl'
+        L.append('step_%d =\n    in_stages %s %s %s %s %s %s %s %s refl refl\n    %s\n    (simp listed)\n    %s\n    %s\n' % (k, ev, base, rn, cn, now, f, se, th, rule, forgets, act))
         s.st[i] = n
         s.nm[i] = now
         return (i, now, first + second + third)

@@ -15,3 +15,8 @@ pub mod WatchRuns
 pub mod ListeningSteps
 pub mod ListeningRuns
 pub mod FounderRuns
+pub mod MovedLemmas
+pub mod MovedFirst
+pub mod MovedSecond
+pub mod MovedWorlds
+pub mod MovedRun

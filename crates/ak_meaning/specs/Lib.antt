@@ -3,6 +3,7 @@ pub mod Causes
 pub mod Counting
 pub mod Instances
 pub mod Listening
+pub mod Moved
 pub mod Receiving
 pub mod Resolver
 pub mod Ring

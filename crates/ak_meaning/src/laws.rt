@@ -12,8 +12,9 @@ ghost use Rattle.ak_gossip.specs.Gossip.{GossipState, is_known, receive};
 ghost use Rattle.ak_history.specs.declared.entry.Entry.{Entry};
 ghost use Rattle.ak_meaning.specs.Broken.{breaking, two};
 ghost use Rattle.ak_meaning.specs.Causes.{IsCaused, WasToldToFound};
-ghost use Rattle.ak_meaning.specs.Instances.{IsSaid, KnowsMember, KnowsRemoved, NotesGrow, RunsSettled};
+ghost use Rattle.ak_meaning.specs.Instances.{IsHome, IsNoHome, IsSaid, KnowsMember, KnowsRemoved, NotesGrow, RunsSettled};
 ghost use Rattle.ak_meaning.specs.Listening.{SilentSince};
+ghost use Rattle.ak_meaning.specs.Moved.{cart, moving, spread};
 ghost use Rattle.ak_meaning.specs.Receiving.{AreMerged};
 ghost use Rattle.ak_meaning.specs.Resolver.{AreDivided, DecidesByMajority, DecidesByQuorum, DoesCount, DownsRightly};
 ghost use Rattle.ak_meaning.specs.Ring.{Happening, HasLast, IsLast, IsRing, IsSilent, IsWatched, ticks_in};
@@ -33,8 +34,9 @@ ghost use Rattle.ak_schedule.specs.declared.settings.Strategy.{Strategy};
 ghost use Rattle.ak_schedule.specs.declared.settings.Strategy.TheVariants as strategy;
 ghost use Rattle.ak_wire.specs.declared.envelope.Envelope.{Envelope};
 ghost use Rattle.ak_wire.specs.Wire.{gossip_of};
-ghost use Rattle.ak_world.specs.declared.margin.Margin.TheVariants.{Broken};
+ghost use Rattle.ak_world.specs.declared.margin.Margin.TheVariants.{Broken, Kept};
 ghost use Rattle.ak_world.specs.Margin.{HasNumber, IsMargin, Runs};
+ghost use Rattle.ak_world.specs.SettledLine.{IsOverHalf};
 ghost use Rattle.ak_world.specs.Worked.{a_1, b_1, c_1, passing, three};
 ghost use Rattle.ak_world.specs.World.{run};
 
@@ -144,4 +146,16 @@ pub fn a_margin_can_be_broken()
     ensures node { HasNumber (run two (take 10 breaking)).nodes 0 a_1 }
     ensures member { HasNumber (run two (take 10 breaking)).nodes 1 b_1 }
     ensures runs { Runs (run two (take 10 breaking)).nodes b_1 }
+{}
+
+/// A shard can move between two nodes that run. With three listed addresses, a static quorum of two, which is more than half, and
+/// the margin kept: after 22 of 41 events a runs and hosts shard 0, and the cart, an entity of that shard, is active there; after
+/// all of them c, which came Up later, runs and hosts that shard, and the cart is active there; and a still runs, hosts the shard
+/// no more, and the cart is not active there (Akka's Cluster Sharding, "Shard rebalancing").
+pub fn a_shard_can_move()
+    ensures quorum { IsOverHalf spread 2 }
+    ensures kept { IsMargin spread moving Kept }
+    ensures first { IsHome spread (take 22 moving) 0 a_1 0 cart }
+    ensures second { IsHome spread moving 2 c_1 0 cart }
+    ensures left { IsNoHome spread moving 0 a_1 0 cart }
 {}
