@@ -171,7 +171,7 @@ not_refused : {T : Type 0} (host port : List ℕ) (value : T) (fault : AddressFa
 not_refused host port value BadHost checked good_host good_port = checked good_host
 not_refused host port value BadPort checked good_host good_port = checked.1 good_port
 not_refused host port value BadUid checked good_host good_port = checked
-not_refused host port value NoMemory checked good_host good_port = tt
+not_refused host port value (NoMemory _) checked good_host good_port = tt
 
 pub address_not_refused : (bytes host port : List ℕ) (a : AddressModel) (fault : AddressFault) → host ≡ before_byte 58 bytes → port ≡ after_byte 58 bytes → ChecksPort host port (Err fault) → SpellsAddress bytes a → ReadsAs (Err fault) a
 address_not_refused bytes host port a fault host_is port_is checked spelt =
@@ -192,7 +192,7 @@ address_test bytes host port (Ok n) host_is port_is checked =
 address_test bytes host port (Err BadHost) host_is port_is checked = (λ is. absurd (false≢true is), λ s. absurd (address_not_refused bytes host port s.0 BadHost host_is port_is checked s.1))
 address_test bytes host port (Err BadPort) host_is port_is checked = (λ is. absurd (false≢true is), λ s. absurd (address_not_refused bytes host port s.0 BadPort host_is port_is checked s.1))
 address_test bytes host port (Err BadUid) host_is port_is checked = absurd checked
-address_test bytes host port (Err NoMemory) host_is port_is checked = absurd checked
+address_test bytes host port (Err (NoMemory _)) host_is port_is checked = absurd checked
 
 -- the port of bytes that spell a unique is good
 pub unique_port : (bytes host port : List ℕ) (r : Result ℕ AddressFault) → host ≡ before_byte 58 bytes → port ≡ before_byte 35 (after_byte 58 bytes) → ChecksPort host port r → SomeUnique bytes → IsTrue (is_ok r)
@@ -200,7 +200,7 @@ unique_port bytes host port (Ok n) host_is port_is checked s = refl
 unique_port bytes host port (Err BadHost) host_is port_is checked s = absurd (unique_not_refused bytes host port s.0 BadHost host_is port_is checked s.1)
 unique_port bytes host port (Err BadPort) host_is port_is checked s = absurd (unique_not_refused bytes host port s.0 BadPort host_is port_is checked s.1)
 unique_port bytes host port (Err BadUid) host_is port_is checked s = absurd checked
-unique_port bytes host port (Err NoMemory) host_is port_is checked s = absurd checked
+unique_port bytes host port (Err (NoMemory _)) host_is port_is checked s = absurd checked
 
 -- and with a good port it is the uid that decides
 pub unique_test : (bytes host port uid : List ℕ) (r : Result ℕ AddressFault) (o : Option ℕ) → host ≡ before_byte 58 bytes → port ≡ before_byte 35 (after_byte 58 bytes) → uid ≡ after_byte 35 (after_byte 58 bytes)

@@ -59,7 +59,7 @@ ChecksPort host port (Ok n) = IsHost host × IsNumber port n × (1 ≤ n) × (n 
 ChecksPort host port (Err BadHost) = ¬ IsHost host
 ChecksPort host port (Err BadPort) = IsHost host × (¬ IsPort port)
 ChecksPort host port (Err BadUid) = ⊥
-ChecksPort host port (Err NoMemory) = ⊥
+ChecksPort host port (Err (NoMemory _)) = ⊥
 
 -- a reader's answer to bytes that spell a value: that value, unless memory ran out
 abbrev pub ReadsAs : {T : Type 0} → Result T AddressFault → T → Type 0
@@ -67,7 +67,15 @@ ReadsAs (Ok x) value = x ≡ value
 ReadsAs (Err BadHost) value = ⊥
 ReadsAs (Err BadPort) value = ⊥
 ReadsAs (Err BadUid) value = ⊥
-ReadsAs (Err NoMemory) value = Unit {0}
+ReadsAs (Err (NoMemory _)) value = Unit {0}
+
+-- it answers that memory ran out
+abbrev pub RanOut : {T : Type 0} → Result T AddressFault → Type 0
+RanOut (Ok x) = ⊥
+RanOut (Err BadHost) = ⊥
+RanOut (Err BadPort) = ⊥
+RanOut (Err BadUid) = ⊥
+RanOut (Err (NoMemory _)) = Unit {0}
 
 -- the bytes spell some address, and some unique
 abbrev pub SomeAddress : List ℕ → Type 0

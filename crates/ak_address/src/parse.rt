@@ -1,12 +1,13 @@
 ghost use Rattle.std.specs.Prelude.{◌≡◌, ℕ, ◌<◌, ◌≤◌, ◌^◌, ◌==◌, ◌↔◌, IsTrue, IfSome, IfNone, IfOk, IsErrOf, List, All, SomeIff};
 ghost use Rattle.std.specs.List.{position_or_len, list_all};
 ghost use Rattle.std.specs.Str.Parse.{AllDigits, digits_value};
+ghost use Rattle.ak_address.specs.declared.parse.AddressFault.TheVariants.{NoMemory};
 ghost use Rattle.ak_address.specs.Unique.{AddressModel, UniqueModel, IsHost, is_host_byte};
-ghost use Rattle.ak_address.specs.Spelling.{IsNumber, IsPort, IsUid, SpellsAddress, SpellsUnique, ReadsAs, SomeAddress, SomeUnique, ChecksPort, before_byte, after_byte};
+ghost use Rattle.ak_address.specs.Spelling.{IsNumber, IsPort, IsUid, SpellsAddress, SpellsUnique, ReadsAs, RanOut, SomeAddress, SomeUnique, ChecksPort, before_byte, after_byte};
 
 use crate::address::{Address, Unique};
 use crate::text::Text;
-use std::alloc::Global;
+use std::alloc::{AllocError, Global};
 use thiserror::Error;
 
 /// Why bytes were not read as an address or a unique. It shows as its code.
@@ -23,7 +24,15 @@ pub enum AddressFault {
     BadUid,
     /// Memory ran out.
     #[error("memory")]
-    NoMemory,
+    NoMemory(AllocError),
+}
+
+impl From<AllocError> for AddressFault {
+    ghost from_gives = { λ error fault. fault ≡ NoMemory error };
+
+    fn from(error: AllocError) -> AddressFault {
+        AddressFault::NoMemory(error)
+    }
 }
 
 const LEAST_PORT: u64 = 1;
@@ -88,13 +97,11 @@ pub fn parse_address(alloc: Global, bytes: &[u8]) -> Result<Address, AddressFaul
         ↔ (IsHost (before_byte 58 bytes.now) × (¬ IsPort (after_byte 58 bytes.now))) }
     ensures no_uid { ¬ IsErrOf result AddressFault.BadUid }
     ensures only { (a : AddressModel) → SpellsAddress bytes.now a → ReadsAs result a }
-    ensures memory { IsErrOf result AddressFault.NoMemory → SomeAddress bytes.now }
+    ensures memory { RanOut result → SomeAddress bytes.now }
 {
     let (host, port) = split_at_byte(bytes, b':');
     let port = checked_port(host, port)?;
-    let Ok(host) = Text::from_bytes(alloc, host) else {
-        return Err(AddressFault::NoMemory);
-    };
+    let host = Text::from_bytes(alloc, host)?;
     Ok(Address { host, port })
 }
 
@@ -111,7 +118,7 @@ pub fn parse_unique(alloc: Global, bytes: &[u8]) -> Result<Unique, AddressFault>
         ↔ (IsHost (before_byte 58 bytes.now) × IsPort (before_byte 35 (after_byte 58 bytes.now))
         × (¬ IsUid (after_byte 35 (after_byte 58 bytes.now)))) }
     ensures only { (u : UniqueModel) → SpellsUnique bytes.now u → ReadsAs result u }
-    ensures memory { IsErrOf result AddressFault.NoMemory → SomeUnique bytes.now }
+    ensures memory { RanOut result → SomeUnique bytes.now }
 {
     let (host, rest) = split_at_byte(bytes, b':');
     let (port, uid) = split_at_byte(rest, b'#');
@@ -119,9 +126,7 @@ pub fn parse_unique(alloc: Global, bytes: &[u8]) -> Result<Unique, AddressFault>
     let Some(uid) = parse_number(uid, LEAST_UID, MOST_UID) else {
         return Err(AddressFault::BadUid);
     };
-    let Ok(host) = Text::from_bytes(alloc, host) else {
-        return Err(AddressFault::NoMemory);
-    };
+    let host = Text::from_bytes(alloc, host)?;
     let address = Address { host, port };
     Ok(Unique { address, uid })
 }

@@ -34,7 +34,7 @@ fails_after (Range key) done r h = rw h refl
 fails_after (BadAddress key) done r h = rw h refl
 fails_after (SelfUnlisted key) done r h = rw h refl
 fails_after (Repeated key) done r h = rw h refl
-fails_after NoMemory done r h = tt
+fails_after (NoMemory _) done r h = tt
 
 -- a fault of one item is that of all
 pub fails_there : (key : List ℕ) (fault : ConfigFault) (done : List AddressModel) (value : Data) (others : Items) → Fails fault (address_in key value) → Fails fault (with_first done (addresses_in key (item value others)))

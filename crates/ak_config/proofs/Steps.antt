@@ -15,4 +15,4 @@ fails_first (Range key) r f h = rw h refl
 fails_first (BadAddress key) r f h = rw h refl
 fails_first (SelfUnlisted key) r f h = rw h refl
 fails_first (Repeated key) r f h = rw h refl
-fails_first NoMemory r f h = tt
+fails_first (NoMemory _) r f h = tt

@@ -21,7 +21,7 @@ Fails (Range key) read = read ≡ Err (Range key)
 Fails (BadAddress key) read = read ≡ Err (BadAddress key)
 Fails (SelfUnlisted key) read = read ≡ Err (SelfUnlisted key)
 Fails (Repeated key) read = read ≡ Err (Repeated key)
-Fails NoMemory read = Unit {0}
+Fails (NoMemory _) read = Unit {0}
 
 -- a call answers what reading gives, seen by view, unless memory ran out
 abbrev pub GivesAs : {X Y : Type 0} → (X → Y) → Result X ConfigFault → Result Y ConfigFault → Type 0

@@ -11,7 +11,7 @@ use crate::listing::{all_different, is_among};
 use crate::values::name;
 use ak_address::{Address, Unique};
 use ak_schedule::Settings;
-use std::alloc::Global;
+use std::alloc::{AllocError, Global};
 use toml::Table;
 
 /// What a node is told before it starts. The keys, their ranges and their defaults are this project's choice.
@@ -56,7 +56,7 @@ fn document(alloc: Global, bytes: &[u8]) -> Result<Table, ConfigFault>
         Ok(table) => Ok(table),
         Err(fault) => {
             if fault.is_memory() {
-                return Err(ConfigFault::NoMemory);
+                return Err(ConfigFault::NoMemory(AllocError));
             }
             Err(ConfigFault::NotToml)
         }

@@ -1,4 +1,5 @@
 ghost use Rattle.std.specs.Prelude.{◌≡◌};
+ghost use Rattle.std.specs.declared.alloc.AllocError.{AllocError};
 ghost use Rattle.ak_config.specs.declared.fault.ConfigFault.TheVariants.{NoMemory};
 
 use ak_address::Text;
@@ -35,21 +36,21 @@ pub enum ConfigFault {
     Repeated(Text),
     /// Memory ran out.
     #[error("memory")]
-    NoMemory,
+    NoMemory(AllocError),
 }
 
 impl From<AllocError> for ConfigFault {
-    ghost from_gives = { λ _ fault. fault ≡ NoMemory };
+    ghost from_gives = { λ error fault. fault ≡ NoMemory error };
 
-    fn from(_error: AllocError) -> ConfigFault {
-        ConfigFault::NoMemory
+    fn from(error: AllocError) -> ConfigFault {
+        ConfigFault::NoMemory(error)
     }
 }
 
 impl<T: Drop> From<AllocFailed<T>> for ConfigFault {
-    ghost from_gives = { λ _ fault. fault ≡ NoMemory };
+    ghost from_gives = { λ _ fault. (error : AllocError) × (fault ≡ NoMemory error) };
 
-    fn from(_error: AllocFailed<T>) -> ConfigFault {
-        ConfigFault::NoMemory
+    fn from(error: AllocFailed<T>) -> ConfigFault {
+        ConfigFault::NoMemory(error.into())
     }
 }

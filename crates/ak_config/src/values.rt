@@ -174,7 +174,7 @@ fn spelled_address(alloc: Global, bytes: &[u8]) -> Result<Option<Address>, Confi
         Err(AddressFault::BadHost) => Ok(None),
         Err(AddressFault::BadPort) => Ok(None),
         Err(AddressFault::BadUid) => Ok(None),
-        Err(AddressFault::NoMemory) => Err(ConfigFault::NoMemory),
+        Err(AddressFault::NoMemory(error)) => Err(error.into()),
     }
 }
 

@@ -1,5 +1,5 @@
 -- What a coordinator does with its table (Akka's Cluster Sharding, "How it works" and "Shard rebalancing").
-use Rattle.std.specs.Prelude.{ℕ, ◌-◌, Bool, ◌&&◌, List, [], ◌∷◌, length, map, slice_index_or, slice_set, Option, None, if◌then◌else◌}
+use Rattle.std.specs.Prelude.{◌≡◌, ℕ, ◌-◌, ◌<◌, drop, Bool, ◌&&◌, List, [], ◌∷◌, length, map, slice_index_or, slice_set, Option, None, if◌then◌else◌}
 use Rattle.std.specs.FinMap as finmap
 use Rattle.std.specs.List.{filter}
 use Rattle.std.specs.Ordering.{is_eq}
@@ -24,6 +24,10 @@ with_entry table shard entry = slice_set table shard entry
 abbrev pub learnt_all : Bool → UniqueModel → List Report → ShardTable → ShardTable
 learnt_all asking from [] table = table
 learnt_all asking from (report ∷ reports) table = learnt_all asking from reports (with_entry table report.shard (learnt asking from report (entry_of table report.shard)))
+
+-- The first of the reports were learnt, and those from one of them on were not: with these all are.
+abbrev pub IsPartlyLearnt : Bool → UniqueModel → List Report → ShardTable → ShardTable → Type 0
+IsPartlyLearnt asking from reports old new = (first : ℕ) × (first < length reports) × (learnt_all asking from (drop first reports) new ≡ learnt_all asking from reports old)
 
 -- one shard less at the node, and not below 0
 abbrev pub less_one : UniqueModel → Load → Load

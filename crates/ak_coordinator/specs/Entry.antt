@@ -1,6 +1,6 @@
 -- What a coordinator does with one shard (Akka's Cluster Sharding, "How it works" and "Shard rebalancing"; the allocation
 -- numbers, and the table that is made of reports, are this project's).
-use Rattle.std.specs.Prelude.{ℕ, ◌+◌, ◌^◌, ◌==◌, max, nat_lt, Bool, true, false, ◌&&◌, ◌||◌, List, Option, None, Some, if◌then◌else◌}
+use Rattle.std.specs.Prelude.{ℕ, ◌+◌, ◌^◌, ◌==◌, max, nat_lt, ⊤, Bool, true, false, ◌&&◌, ◌||◌, List, Option, None, Some, if◌then◌else◌}
 use Rattle.std.specs.Ordering.{is_eq, is_lt}
 use Rattle.ak_address.specs.Unique.{UniqueModel, unique_cmp}
 use Rattle.ak_address.specs.Uniques.{no_one, has, without_one, how_many}
@@ -84,6 +84,13 @@ homing_of loads entry (Some home) = if moves entry then homings.Moving else homi
 
 abbrev pub homing : List Load → ShardEntry → Homing
 homing loads entry = homing_of loads entry entry.home
+
+-- a home is named, for which memory may be wanted
+abbrev pub NamesHome : Homing → Type 0
+NamesHome homings.NoRegion = ⊥
+NamesHome (homings.Placed owner number) = ⊤
+NamesHome homings.Moving = ⊥
+NamesHome (homings.Known owner) = ⊤
 
 abbrev pub placed_if_free : List Load → ShardEntry → Option Home → ShardEntry
 placed_if_free loads entry None = after_allotment (allotted loads entry) entry

@@ -1,9 +1,9 @@
-ghost use Rattle.std.specs.Prelude.{◌≡◌, ◌≤◌, ◌<◌, length, replicate, Contains, IfOk, OnOk, option_copied};
+ghost use Rattle.std.specs.Prelude.{◌≡◌, ◌≤◌, ◌<◌, ◌⊎◌, length, replicate, IsTrue, Contains, IfOk, OnOk, OnErr, option_copied};
 ghost use Rattle.ak_shard_id.specs.declared.report.Report.{Report};
 ghost use Rattle.ak_settled.specs.Settled.{standings_of};
-ghost use Rattle.ak_coordinator.specs.Entry.{unplaced, homing, after_get_home, after_started, is_last_ack, after_ack, freed, allotted, after_allotment};
+ghost use Rattle.ak_coordinator.specs.Entry.{unplaced, homing, NamesHome, after_get_home, after_started, is_last_ack, after_ack, freed, awaits_stop, allotted, after_allotment};
 ghost use Rattle.ak_coordinator.specs.Tick.{after_tick, orders_from};
-ghost use Rattle.ak_coordinator.specs.Coordinator.{entry_of, with_entry, learnt_all, stopped_placed, after_stopped, loads_of};
+ghost use Rattle.ak_coordinator.specs.Coordinator.{entry_of, with_entry, learnt_all, IsPartlyLearnt, stopped_placed, after_stopped, loads_of};
 
 use crate::entry::{Entry, Homing, Placed};
 use crate::loads::{lightened, loads_in};
@@ -65,7 +65,8 @@ impl Coordinator {
 
     /// Takes in what a node reports: the greater number stays; a node that hosts a shard is its home, with that number, and
     /// has started, where the shard has no home, and also, while the coordinator still asks, where its number is greater than
-    /// the home's, or equal and the node is the later process. Only memory can fail, and then nothing is said of the table.
+    /// the home's, or equal and the node is the later process. Only memory can fail, and then the first reports were taken in,
+    /// and none from one of them on.
     pub fn learn(
         &mut self,
         alloc: Global,
@@ -74,15 +75,16 @@ impl Coordinator {
         asking: bool,
     ) -> Result<(), AllocError>
         requires { (report : Report) → Contains reports.now report → report.shard < length self.old }
-        ensures { OnOk result (self.new ≡ learnt_all asking from.now reports.now self.old) }
+        ensures ok { OnOk result (self.new ≡ learnt_all asking from.now reports.now self.old) }
+        ensures lost { OnErr result (IsPartlyLearnt asking from.now reports.now self.old self.new) }
     {
         learn_each(alloc, &mut self.entries, from, reports, asking)
     }
 
     /// What a node that asks for the home of the shard is told: the home, where it is known and the shard does not move;
     /// that the shard moves; or where a free shard is placed now: at the least load, with the last number plus one. A free
-    /// shard stays free exactly where there is no load, or that number would pass 4611686018427387904. Only memory can fail,
-    /// and then nothing is said of the table.
+    /// shard stays free exactly where there is no load, or that number would pass 4611686018427387904. Only memory can fail, only
+    /// where a home is named, and then nothing has changed.
     pub fn on_get_home(
         &mut self,
         alloc: Global,
@@ -92,6 +94,7 @@ impl Coordinator {
         requires { shard < length self.old }
         ensures answer { IfOk result (λ answer. answer ≡ homing loads.now (entry_of self.old shard)) }
         ensures after { OnOk result (self.new ≡ with_entry self.old shard (after_get_home loads.now (entry_of self.old shard))) }
+        ensures err { OnErr result (NamesHome (homing loads.now (entry_of self.old shard)) × (self.new ≡ self.old)) }
     {
         self.entries[shard as usize].get_home(alloc, loads)
     }
@@ -117,7 +120,8 @@ impl Coordinator {
     /// A node does not host the shard any more. Where the shard moves with that number from this node, it is free now, and is
     /// placed at the least of these loads, of which the node's has one shard less, with the last number plus one. The answer
     /// is the new home; none exactly where the stop was not awaited, or there is no load, or that number would pass
-    /// 4611686018427387904. Only memory can fail, and then nothing is said of the table.
+    /// 4611686018427387904. Only memory can fail, where the stop was awaited, and then nothing has changed, or the shard is
+    /// free.
     pub fn on_stopped(
         &mut self,
         alloc: Global,
@@ -129,6 +133,8 @@ impl Coordinator {
         requires { shard < length self.old }
         ensures placed { IfOk result (λ placed. placed ≡ stopped_placed from.now number loads.now (entry_of self.old shard)) }
         ensures after { OnOk result (self.new ≡ with_entry self.old shard (after_stopped from.now number loads.now (entry_of self.old shard))) }
+        ensures awaited { OnErr result (IsTrue (awaits_stop from.now number (entry_of self.old shard))) }
+        ensures lost { OnErr result ((self.new ≡ self.old) ⊎ (self.new ≡ with_entry self.old shard (freed (entry_of self.old shard)))) }
     {
         if !self.entries[shard as usize].awaits_stop(from, number) {
             return Ok(None);
@@ -192,7 +198,8 @@ fn learn_each(
     asking: bool,
 ) -> Result<(), AllocError>
     requires { (report : Report) → Contains reports.now report → report.shard < length entries.old }
-    ensures { OnOk result (entries.new ≡ learnt_all asking from.now reports.now entries.old) }
+    ensures ok { OnOk result (entries.new ≡ learnt_all asking from.now reports.now entries.old) }
+    ensures lost { OnErr result (IsPartlyLearnt asking from.now reports.now entries.old entries.new) }
 {
     'reports: for report in reports {
         entries[report.shard as usize].learn(alloc, from, report, asking)?;
@@ -204,6 +211,7 @@ fn learn_each(
 fn stop(alloc: Global, entry: &mut Entry, loads: &[Load]) -> Result<Option<Placed>, AllocError>
     ensures placed { IfOk result (λ placed. placed ≡ allotted loads.now (freed entry.old)) }
     ensures after { IfOk result (λ placed. entry.new ≡ after_allotment placed (freed entry.old)) }
+    ensures lost { OnErr result (entry.new ≡ freed entry.old) }
 {
     entry.free(alloc);
     entry.allocate(alloc, loads)

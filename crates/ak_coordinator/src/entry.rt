@@ -1,7 +1,7 @@
-ghost use Rattle.std.specs.Prelude.{◌≡◌, IfOk, OnOk, option_copied, is_some, option_map, IsSome};
+ghost use Rattle.std.specs.Prelude.{◌≡◌, IfOk, OnOk, OnErr, option_copied, is_some, option_map, IsSome, IsTrue};
 ghost use Rattle.ak_address.specs.Unique.{UniqueModel};
 ghost use Rattle.ak_address.specs.Uniques.{UniqueSet};
-ghost use Rattle.ak_coordinator.specs.Entry.{unplaced, moves, is_home, is_at, claims, learnt, beats, allotted, after_allotment, homing, after_get_home, after_started, is_awaited, is_last_ack, after_ack, freed, awaits_stop};
+ghost use Rattle.ak_coordinator.specs.Entry.{unplaced, moves, is_home, is_at, claims, learnt, beats, allotted, after_allotment, homing, NamesHome, after_get_home, after_started, is_awaited, is_last_ack, after_ack, freed, awaits_stop};
 ghost use Rattle.ak_coordinator.specs.Tick.{has_finished_home, noticed, is_exiting_member, leaves_exiting, leaves_node, begun, hurried};
 
 use crate::tick::unfinished;
@@ -138,16 +138,16 @@ impl Entry {
         report: &Report,
         asking: bool,
     ) -> Result<(), AllocError>
-        ensures { OnOk result (self.new ≡ learnt asking from.now report.now self.old) }
+        ensures ok { OnOk result (self.new ≡ learnt asking from.now report.now self.old) }
+        ensures err { OnErr result (self.new ≡ self.old) }
     {
         let number = report.number;
-        let is_claimed = report.hosted && self.is_claimed(from, number, asking);
-        self.last = self.last.max(number);
-        if is_claimed {
+        if report.hosted && self.is_claimed(from, number, asking) {
             let owner = from.copy(alloc)?;
             self.home = Some(Placed { owner, number });
             self.started = true;
         }
+        self.last = self.last.max(number);
         Ok(())
     }
 
@@ -169,6 +169,7 @@ impl Entry {
     ) -> Result<Option<Placed>, AllocError>
         ensures placed { IfOk result (λ placed. placed ≡ allotted loads.now self.old) }
         ensures after { IfOk result (λ placed. self.new ≡ after_allotment placed self.old) }
+        ensures err { OnErr result (IsTrue (is_some (allotted loads.now self.old)) × (self.new ≡ self.old)) }
     {
         if self.last >= BOUND {
             return Ok(None);
@@ -194,6 +195,7 @@ impl Entry {
     pub(crate) fn get_home(&mut self, alloc: Global, loads: &[Load]) -> Result<Homing, AllocError>
         ensures answer { IfOk result (λ answer. answer ≡ homing loads.now self.old) }
         ensures after { OnOk result (self.new ≡ after_get_home loads.now self.old) }
+        ensures err { OnErr result (NamesHome (homing loads.now self.old) × (self.new ≡ self.old)) }
     {
         let moves = self.moves();
         if let Some(home) = &self.home {

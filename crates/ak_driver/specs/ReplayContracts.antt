@@ -25,7 +25,7 @@ use Rattle.ak_world.specs.StepText.{step_text}
 -- why the world did not apply an event ends a replay so
 abbrev pub stop_of : refused.Refused → Stop
 stop_of (refused.TheVariants.Invalid why) = Refused (Invalid why)
-stop_of refused.TheVariants.NoMemory = NoMemory
+stop_of (refused.TheVariants.NoMemory _) = NoMemory
 
 -- a header is still wanted, or the world has accepted as many events as there were steps
 abbrev pub IsReady : Stage → ℕ → Type 0

@@ -94,7 +94,7 @@ fn stop_of(why: Refused) -> Stop
 {
     match why {
         Refused::Invalid(why) => Stop::Refused(Code::Invalid(why)),
-        Refused::NoMemory => Stop::NoMemory,
+        Refused::NoMemory(error) => error.into(),
     }
 }
 
@@ -223,7 +223,7 @@ fn heading(alloc: Global, draft: &mut Draft, line: &[u8]) -> Result<bool, Stop>
         Ok(whole) => Ok(whole),
         Err(LineFault::Malformed) => Err(Stop::Refused(Code::Malformed)),
         Err(LineFault::BadHeader) => Err(Stop::Refused(Code::BadHeader)),
-        Err(LineFault::NoMemory) => Err(Stop::NoMemory),
+        Err(LineFault::NoMemory(error)) => Err(error.into()),
     }
 }
 
@@ -241,7 +241,7 @@ fn running(
 {
     let event = match read_line(alloc, line) {
         Ok(event) => event,
-        Err(LineFault::NoMemory) => return Err(Stop::NoMemory),
+        Err(LineFault::NoMemory(error)) => return Err(error.into()),
         Err(_) => return Err(Stop::Refused(Code::Malformed)),
     };
     let step = match world.apply(alloc, &event) {

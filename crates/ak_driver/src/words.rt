@@ -24,15 +24,14 @@ fn argument<A: Arguments>(
         return Ok(None);
     }
     let mut size = FIRST_SIZE;
-    'sizes: for _ in 0..usize::BITS {
+    'sizes: loop {
         let mut buffer = vec![in alloc; 0; size]?;
         match arguments.argument(index, &mut buffer) {
             Ok(length) => return Ok(Some(Text::from_bytes(alloc, &buffer[..length])?)),
             Err(FillError::NotPresent) => return Ok(None),
-            Err(FillError::TooLong) => size = size.saturating_mul(2),
+            Err(FillError::TooLong) => size *= 2,
         }
     }
-    Err(AllocError)
 }
 
 // Whether the first word is the name of a command, none of which is longer than the buffer. It takes no memory.

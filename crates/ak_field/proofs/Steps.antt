@@ -13,7 +13,7 @@ fails_so Count r h = h
 fails_so Order r h = h
 fails_so Range r h = h
 fails_so Trailing r h = h
-fails_so NoMemory r h = tt
+fails_so (NoMemory _) r h = tt
 
 -- a fault of the first step is that of all
 pub fails_first : {A B : Type 0} (fault : WireFault) (r : Result A WireFault) (f : A → Result B WireFault) → Fails fault r → Fails fault (r >>= f)
@@ -25,7 +25,7 @@ fails_first Count r f h = rw h refl
 fails_first Order r f h = rw h refl
 fails_first Range r f h = rw h refl
 fails_first Trailing r f h = rw h refl
-fails_first NoMemory r f h = tt
+fails_first (NoMemory _) r f h = tt
 
 -- and of a field before its check
 pub fails_before : {A : Type 0} (fault own : WireFault) (passes : A → Bool) (r : Result (A × List ℕ) WireFault) → Fails fault r → Fails fault (checked own passes r)
@@ -37,7 +37,7 @@ fails_before Count own passes r h = rw h refl
 fails_before Order own passes r h = rw h refl
 fails_before Range own passes r h = rw h refl
 fails_before Trailing own passes r h = rw h refl
-fails_before NoMemory own passes r h = tt
+fails_before (NoMemory _) own passes r h = tt
 
 -- a fault of a step that takes no memory
 pub fails_exactly : {A B : Type 0} (fault : WireFault) (r : Result A WireFault) (f : A → Result B WireFault) → r ≡ Err fault → Fails fault (r >>= f)

@@ -55,7 +55,7 @@ Fails Count read = read ≡ Err Count
 Fails Order read = read ≡ Err Order
 Fails Range read = read ≡ Err Range
 Fails Trailing read = read ≡ Err Trailing
-Fails NoMemory read = Unit {0}
+Fails (NoMemory _) read = Unit {0}
 
 -- what a call answers, seen by view, and the bytes that it leaves are what reading gives, unless memory ran out
 abbrev pub GivesAs : {X Y : Type 0} → (X → Y) → Result X WireFault → List ℕ → Result (Y × List ℕ) WireFault → Type 0
@@ -88,7 +88,7 @@ fault_number Count = Some 5
 fault_number Order = Some 6
 fault_number Range = Some 7
 fault_number Trailing = Some 8
-fault_number NoMemory = None
+fault_number (NoMemory _) = None
 
 -- the number of the first fault, where there is one
 abbrev pub first_fault : {X : Type 0} → Result X WireFault → Option ℕ

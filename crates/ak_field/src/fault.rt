@@ -1,6 +1,7 @@
-ghost use Rattle.std.specs.Prelude.{◌≡◌};
+ghost use Rattle.std.specs.Prelude.{◌≡◌, IfOk, OnErr, Some, None};
 ghost use Rattle.ak_field.specs.Reading.{fault_number};
 ghost use Rattle.ak_field.specs.declared.fault.WireFault.TheVariants.{NoMemory};
+ghost use Rattle.std.specs.declared.alloc.AllocError.{AllocError};
 
 use std::alloc::{AllocError, AllocFailed};
 use thiserror::Error;
@@ -34,40 +35,41 @@ pub enum WireFault {
     Trailing,
     /// Memory ran out.
     #[error("memory")]
-    NoMemory,
+    NoMemory(AllocError),
 }
 
 impl WireFault {
-    /// Its number, from 1 to 8; none where memory ran out, which is no fault of the bytes. Takes no memory.
-    pub fn number(&self) -> Option<u8>
-        ensures { result ≡ fault_number self.now }
+    /// Its number, from 1 to 8; where memory ran out, which is no fault of the bytes, the error with which it did. Takes no memory.
+    pub fn number(&self) -> Result<u8, AllocError>
+        ensures number { IfOk result (λ n. fault_number self.now ≡ Some n) }
+        ensures memory { OnErr result (fault_number self.now ≡ None) }
     {
         match self {
-            WireFault::Short => Some(1),
-            WireFault::Magic => Some(2),
-            WireFault::Version => Some(3),
-            WireFault::Kind => Some(4),
-            WireFault::Count => Some(5),
-            WireFault::Order => Some(6),
-            WireFault::Range => Some(7),
-            WireFault::Trailing => Some(8),
-            WireFault::NoMemory => None,
+            WireFault::Short => Ok(1),
+            WireFault::Magic => Ok(2),
+            WireFault::Version => Ok(3),
+            WireFault::Kind => Ok(4),
+            WireFault::Count => Ok(5),
+            WireFault::Order => Ok(6),
+            WireFault::Range => Ok(7),
+            WireFault::Trailing => Ok(8),
+            WireFault::NoMemory(error) => Err(*error),
         }
     }
 }
 
 impl From<AllocError> for WireFault {
-    ghost from_gives = { λ _ fault. fault ≡ NoMemory };
+    ghost from_gives = { λ error fault. fault ≡ NoMemory error };
 
-    fn from(_error: AllocError) -> WireFault {
-        WireFault::NoMemory
+    fn from(error: AllocError) -> WireFault {
+        WireFault::NoMemory(error)
     }
 }
 
 impl<T: Drop> From<AllocFailed<T>> for WireFault {
-    ghost from_gives = { λ _ fault. fault ≡ NoMemory };
+    ghost from_gives = { λ _ fault. (error : AllocError) × (fault ≡ NoMemory error) };
 
-    fn from(_error: AllocFailed<T>) -> WireFault {
-        WireFault::NoMemory
+    fn from(error: AllocFailed<T>) -> WireFault {
+        WireFault::NoMemory(error.into())
     }
 }

@@ -41,6 +41,6 @@ pub fn check_header(bytes: &[u8]) -> Option<u8>
 {
     match Fields::new(bytes).header() {
         Ok(_) => None,
-        Err(fault) => fault.number(),
+        Err(fault) => fault.number().ok(),
     }
 }

@@ -11,7 +11,7 @@ abbrev pub Receives : UniqueModel → GossipState → GossipState → Result Rec
 Receives me old incoming (Ok r) new = receive me old incoming ≡ Ok (r, new)
 Receives me old incoming (Err (ForeignCount own theirs)) new = (receive me old incoming ≡ Err (ForeignCount own theirs)) × (new ≡ old)
 Receives me old incoming (Err (TooManyUniques union)) new = (receive me old incoming ≡ Err (TooManyUniques union)) × (new ≡ old)
-Receives me old incoming (Err NoMemory) new = new ≡ old
+Receives me old incoming (Err (NoMemory _)) new = new ≡ old
 
 -- a number of uniques that a gossip may not hold
 abbrev pub excess_of : ℕ → Option ℕ

@@ -40,7 +40,8 @@ pub enum GossipFault {
     ForeignCount { own: u64, theirs: u64 },
     /// Together with it the node would hold more than 128 uniques.
     TooManyUniques { union: u32 },
-    NoMemory,
+    /// Memory ran out: what is known is as it was.
+    NoMemory(AllocError),
 }
 
 /// What a node knows (Akka's Cluster Specification, "Gossip" and "Gossip Convergence"): the version of the entries that
@@ -458,9 +459,9 @@ fn add_members(
 impl From<AllocError> for GossipFault {
     ghost use Rattle.ak_gossip.specs.declared.gossip.GossipFault.TheVariants.{NoMemory};
 
-    ghost from_gives = { λ _ e. e ≡ NoMemory };
+    ghost from_gives = { λ error fault. fault ≡ NoMemory error };
 
-    fn from(_error: AllocError) -> GossipFault {
-        GossipFault::NoMemory
+    fn from(error: AllocError) -> GossipFault {
+        GossipFault::NoMemory(error)
     }
 }

@@ -1,10 +1,11 @@
 // A packet that is received, as an envelope.
 ghost use Rattle.std.specs.Prelude.{◌≡◌, ◌≤◌, length};
+ghost use Rattle.ak_link.specs.declared.received.Got.TheVariants.{NoMemory};
 ghost use Rattle.ak_link.specs.Received.{GotOf, GotCause, GotSome, Receives};
 
 use ak_outside::{Heard, Link};
 use ak_wire::{Envelope, decode};
-use std::alloc::Global;
+use std::alloc::{AllocError, Global};
 
 /// The answer of a receive.
 #[derive(Drop)]
@@ -18,7 +19,15 @@ pub enum Got {
     /// The link has failed and counted it.
     Failed,
     /// Memory ran out as the packet was read; it is lost.
-    NoMemory,
+    NoMemory(AllocError),
+}
+
+impl From<AllocError> for Got {
+    ghost from_gives = { λ error got. got ≡ NoMemory error };
+
+    fn from(error: AllocError) -> Got {
+        Got::NoMemory(error)
+    }
 }
 
 /// Receives once. A packet that the buffer has no room for is cut to it, and then spells nothing: no spelling begins another.
@@ -45,8 +54,8 @@ fn got_of(alloc: Global, bytes: &[u8]) -> Got
     match decode(alloc, bytes) {
         Ok(envelope) => Got::Envelope(envelope),
         Err(fault) => match fault.number() {
-            Some(number) => Got::Bad(number),
-            None => Got::NoMemory,
+            Ok(number) => Got::Bad(number),
+            Err(error) => Got::from(error),
         },
     }
 }

@@ -212,7 +212,7 @@ module _ (n : State) (ev : NodeEvent) where
       by_answer : (r : Result (Received × GossipState) GossipFault) → All Why (allowed (on_received g m r) m)
       by_answer (Err (fault.ForeignCount own theirs)) = all_unchanged Why m
       by_answer (Err (fault.TooManyUniques together)) = all_unchanged Why m
-      by_answer (Err fault.NoMemory) = all_unchanged Why m
+      by_answer (Err (fault.NoMemory _)) = all_unchanged Why m
       by_answer (Ok r) = λ x says. absurd (true≢false (sym (ap is_some says.1)))
 
   telling : (p : Envelope) → ev ≡ event.Packet p → (what : Message) → p.message ≡ what → All Why (told_to p.from what m)

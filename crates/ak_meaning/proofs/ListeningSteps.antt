@@ -87,7 +87,7 @@ module _ (m : MembershipState) where
   received_listens : (g : GossipState) (r : Result (Received × GossipState) GossipFault) → Listens [] m (allowed (on_received g m r) m).0
   received_listens g (Err (fault.ForeignCount own theirs)) = itself
   received_listens g (Err (fault.TooManyUniques together)) = itself
-  received_listens g (Err fault.NoMemory) = itself
+  received_listens g (Err (fault.NoMemory _)) = itself
   received_listens g (Ok r) = still (knowing r.1 m) refl refl refl
 
   gossip_listens : (g : GossipState) → Listens [] m (allowed (on_gossip g m) m).0

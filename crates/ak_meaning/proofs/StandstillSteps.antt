@@ -98,7 +98,7 @@ module _ (m : MembershipState) where
   received_steady : (g : GossipState) (r : Result (Received × GossipState) GossipFault) → Steady 0 m (allowed (on_received g m r) m).0
   received_steady g (Err (fault.ForeignCount own theirs)) = itself
   received_steady g (Err (fault.TooManyUniques together)) = itself
-  received_steady g (Err fault.NoMemory) = itself
+  received_steady g (Err (fault.NoMemory _)) = itself
   received_steady g (Ok r) = knowing_steady m r.1 refl refl
 
   gossip_steady : (g : GossipState) → Steady 0 m (allowed (on_gossip g m) m).0

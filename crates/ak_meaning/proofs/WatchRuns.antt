@@ -92,7 +92,7 @@ module _ (m : MembershipState) (g : GossipState) (there : IsTrue (is_known g.vie
   by_fault : (f : GossipFault) → (allowed (on_received g m (Err f)) m).0.gossip ≡ m.gossip
   by_fault (fault.ForeignCount own theirs) = refl
   by_fault (fault.TooManyUniques together) = refl
-  by_fault fault.NoMemory = refl
+  by_fault (fault.NoMemory _) = refl
 
   refused_known : (f : GossipFault) → receive m.me m.gossip g ≡ Err f → (allowed (on_gossip g m) m).0.gossip ≡ m.gossip
   refused_known f is = ap (λ b. (allowed (if b then on_received g m (receive m.me m.gossip g) else Ok (unchanged m)) m).0.gossip) there ∙ ap (λ r. (allowed (on_received g m r) m).0.gossip) is ∙ by_fault f

@@ -1,5 +1,5 @@
 use ak_address::{AddressFault, parse_address, parse_unique};
-use std::alloc::Global;
+use std::alloc::{AllocError, Global};
 use std::test::Fail;
 
 // What a unique reads as, printed, or the code of its fault.
@@ -84,7 +84,7 @@ fn a_fault_shows_as_its_code(rt: HostRuntime) -> Result<(), Fail> {
         (AddressFault::BadHost, "A1"),
         (AddressFault::BadPort, "A2"),
         (AddressFault::BadUid, "A3"),
-        (AddressFault::NoMemory, "memory"),
+        (AddressFault::NoMemory(AllocError), "memory"),
     ];
     for (fault, code) in &faults {
         assert!(rt; shows_as(rt.alloc(), fault, code)?, "{code}");

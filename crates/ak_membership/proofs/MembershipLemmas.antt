@@ -151,7 +151,7 @@ module _ (m new : MembershipState) (is : IsMembership m) where
   answered_keeps given free outcome (Err Unlisted) l a = same_keeps a.1
   answered_keeps given free outcome (Err (ForeignCount own theirs)) l a = same_keeps a.1
   answered_keeps given free outcome (Err (TooManyUniques union)) l a = same_keeps a.1
-  answered_keeps given free outcome (Err NoMemory) l a = same_keeps a.1
+  answered_keeps given free outcome (Err (NoMemory _)) l a = same_keeps a.1
 
 -- ---- it is the same process, whatever a call answered
 itself_same : (m new : MembershipState) → new ≡ m → IsSameProcess m new
@@ -185,4 +185,4 @@ answered_same m new given free outcome (Err NotMember) l a = itself_same m new a
 answered_same m new given free outcome (Err Unlisted) l a = itself_same m new a.1
 answered_same m new given free outcome (Err (ForeignCount own theirs)) l a = itself_same m new a.1
 answered_same m new given free outcome (Err (TooManyUniques union)) l a = itself_same m new a.1
-answered_same m new given free outcome (Err NoMemory) l a = itself_same m new a.1
+answered_same m new given free outcome (Err (NoMemory _)) l a = itself_same m new a.1

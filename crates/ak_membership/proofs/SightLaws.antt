@@ -91,7 +91,7 @@ module _ (incoming : GossipState) (m : MembershipState) (after : GossipState) wh
   pub received_not : (fault : GossipFault) → gossip.Receives m.me m.gossip incoming (Err fault) after → Receives incoming m (Err fault) (record m { gossip = after })
   received_not (faults.ForeignCount own theirs) is = (is.0, as_it_was is.1)
   received_not (faults.TooManyUniques union) is = (is.0, as_it_was is.1)
-  received_not faults.NoMemory is = as_it_was is
+  received_not (faults.NoMemory _) is = as_it_was is
 
   -- what came moves nothing
   pub received_no_news : (received : Received) → is_news received ≡ false → gossip.Receives m.me m.gossip incoming (Ok received) after → Receives incoming m (Ok received) (record m { gossip = after })

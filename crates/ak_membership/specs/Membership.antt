@@ -168,7 +168,7 @@ hears known r m = replying (gossip_if (is_answered known r && not (is_gone m))) 
 abbrev pub on_received : GossipState → MembershipState → Result (received.Received × GossipState) fault.GossipFault → Result Outcome MemberFault
 on_received incoming m (Err (fault.TheVariants.ForeignCount own theirs)) = Err (ForeignCount own theirs)
 on_received incoming m (Err (fault.TheVariants.TooManyUniques union)) = Err (TooManyUniques union)
-on_received incoming m (Err fault.TheVariants.NoMemory) = Ok (unchanged m)
+on_received incoming m (Err (fault.TheVariants.NoMemory _)) = Ok (unchanged m)
 on_received incoming m (Ok r) = Ok (hears (has incoming.seen m.me) r.0 (knowing r.1 m))
 
 -- a gossip in which the node is neither a member nor a tombstone is passed over

@@ -1,5 +1,6 @@
 -- Words of the contracts of a membership's calls.
-use Rattle.std.specs.Prelude.{◌≡◌, Bool, true, false, Result, Ok, Err, ⊤}
+use Rattle.std.specs.declared.alloc.AllocError.{AllocError}
+use Rattle.std.specs.Prelude.{◌≡◌, Bool, true, false, Result, Ok, Err, ⊤, IsTrue}
 use Rattle.std.specs.FinMap as map
 use Rattle.std.specs.Coded.{Coded, coded_ℕ}
 use Rattle.ak_address.specs.Changed.{keys_of}
@@ -11,14 +12,14 @@ use Rattle.ak_gossip.specs.declared.gossip.Received.TheVariants as received
 use Rattle.ak_gossip.specs.declared.gossip.GossipFault.{GossipFault}
 use Rattle.ak_gossip.specs.declared.gossip.GossipFault.TheVariants as gossip
 use Rattle.ak_gossip.specs.Gossip.{GossipState, is_known, receive}
-use Rattle.ak_member.specs.Standing.{is_member}
+use Rattle.ak_member.specs.Standing.{is_member, is_down}
 use Rattle.ak_settled.specs.Settled.{version_of}
 use Rattle.ak_membership.specs.declared.change.Change.{Change}
 use Rattle.ak_membership.specs.declared.change.Closing.{Closing}
 use Rattle.ak_membership.specs.declared.change.MemberFault.{MemberFault}
 use Rattle.ak_membership.specs.declared.change.MemberFault.TheVariants.{NotUp, UnknownMember, NotMember, Unlisted, ForeignCount, TooManyUniques, NoMemory}
 use Rattle.ak_membership.specs.declared.state.MembershipState.{MembershipState}
-use Rattle.ak_membership.specs.Membership.{Outcome, started, knowing, is_gone}
+use Rattle.ak_membership.specs.Membership.{Outcome, started, knowing, is_gone, is_member_with, may_count}
 use Rattle.ak_membership.specs.Closing.{is_noted}
 
 -- the version that was last shown is stored as its counts
@@ -70,9 +71,9 @@ pub record IsSameProcess (old new : MembershipState) : Type 0 where
   pub settings : new.settings ≡ old.settings
 
 -- out of memory is one of the answers of a call that may refuse
-abbrev pub or_no_memory : {E : Type 0} → Result Change E → Result Change MemberFault
+abbrev pub or_no_memory : Result Change AllocError → Result Change MemberFault
 or_no_memory (Ok change) = Ok change
-or_no_memory (Err error) = Err NoMemory
+or_no_memory (Err error) = Err (NoMemory error)
 
 -- What a call that may refuse answered and left: the rule's change; or the rule's refusal, and nothing changed. Memory runs out
 -- only where the rule allows that, and then nothing changed.
@@ -84,14 +85,34 @@ Answers free outcome old (Err NotMember) new = (outcome ≡ Err NotMember) × (n
 Answers free outcome old (Err Unlisted) new = (outcome ≡ Err Unlisted) × (new ≡ old)
 Answers free outcome old (Err (ForeignCount own theirs)) new = (outcome ≡ Err (ForeignCount own theirs)) × (new ≡ old)
 Answers free outcome old (Err (TooManyUniques union)) new = (outcome ≡ Err (TooManyUniques union)) × (new ≡ old)
-Answers free outcome old (Err NoMemory) new = free × (new ≡ old)
+Answers free outcome old (Err (NoMemory _)) new = free × (new ≡ old)
 
 -- What accepting a gossip answered and left: it is known then; or the refusal, and nothing changed.
 abbrev pub Receives : GossipState → MembershipState → Result Received GossipFault → MembershipState → Type 0
 Receives incoming old (Ok received) new = (g : GossipState) × (receive old.me old.gossip incoming ≡ Ok (received, g)) × (new ≡ knowing g old)
 Receives incoming old (Err (gossip.ForeignCount own theirs)) new = (receive old.me old.gossip incoming ≡ Err (gossip.ForeignCount own theirs)) × (new ≡ old)
 Receives incoming old (Err (gossip.TooManyUniques union)) new = (receive old.me old.gossip incoming ≡ Err (gossip.TooManyUniques union)) × (new ≡ old)
-Receives incoming old (Err gossip.NoMemory) new = new ≡ old
+Receives incoming old (Err (gossip.NoMemory _)) new = new ≡ old
+
+-- a number is left for an update
+abbrev pub IsCounting : MembershipState → Type 0
+IsCounting m = IsTrue (may_count m)
+
+-- a process that asks to join may become a member: it is no member and no tombstone, and a number is left
+abbrev pub MayAdmit : UniqueModel → MembershipState → Type 0
+MayAdmit from m = IsCounting m × (is_known m.gossip.view.standings from ≡ false)
+
+-- a member may be downed: it is not Down, and a number is left
+abbrev pub MayDown : UniqueModel → MembershipState → Type 0
+MayDown who m = IsCounting m × (is_member_with is_down m.gossip.view.standings who ≡ false)
+
+-- the node does not know itself, neither as a member nor as a tombstone
+abbrev pub IsUnknown : MembershipState → Type 0
+IsUnknown m = is_known m.gossip.view.standings m.me ≡ false
+
+-- a gossip knows the node, as a member or as a tombstone
+abbrev pub IsKnownIn : GossipState → MembershipState → Type 0
+IsKnownIn incoming m = IsTrue (is_known incoming.view.standings m.me)
 
 -- the rule does not refuse
 abbrev pub IsAccepted : Result Outcome MemberFault → Type 0

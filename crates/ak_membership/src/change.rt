@@ -1,4 +1,8 @@
+ghost use Rattle.std.specs.Prelude.{◌≡◌};
+ghost use Rattle.ak_membership.specs.declared.change.MemberFault.TheVariants.{NoMemory};
+
 use ak_member::Effects;
+use std::alloc::AllocError;
 
 /// What a membership answers to whom it was asked by.
 #[derive(Clone, Copy, Debug, PartialEq, Eq)]
@@ -38,7 +42,15 @@ pub enum MemberFault {
     TooManyUniques { union: u32 },
     /// Out of memory: the membership is as it was. A request to join, to leave or to down answers it only where the rules
     /// refuse nothing; of a gossip no clause says so.
-    NoMemory,
+    NoMemory(AllocError),
+}
+
+impl From<AllocError> for MemberFault {
+    ghost from_gives = { λ error fault. fault ≡ NoMemory error };
+
+    fn from(error: AllocError) -> MemberFault {
+        MemberFault::NoMemory(error)
+    }
 }
 
 /// What is due after an event.

@@ -6,7 +6,7 @@ ghost use Rattle.ak_member.specs.Standing as standing;
 ghost use Rattle.ak_schedule.specs.Settings.{is_listed};
 ghost use Rattle.ak_leader.specs.Leader as leads;
 ghost use Rattle.ak_membership.specs.Membership as rules;
-ghost use Rattle.ak_membership.specs.MembershipContracts.{Makes, Answers, IsAccepted, RestsIf, LeavesAtRest, IsWatching, KnowsItself, Receives, or_no_memory};
+ghost use Rattle.ak_membership.specs.MembershipContracts.{Makes, Answers, IsAccepted, IsCounting, IsKnownIn, IsUnknown, MayAdmit, MayDown, RestsIf, LeavesAtRest, IsWatching, KnowsItself, Receives, or_no_memory};
 ghost use Rattle.ak_membership.specs.Sight.{is_news};
 ghost use Rattle.ak_membership.specs.Tick as ticks;
 
@@ -83,10 +83,7 @@ fn one(alloc: Global, effect: Effect) -> Result<Effects, AllocError>
 fn or_no_memory(change: Result<Change, AllocError>) -> Result<Change, MemberFault>
     ensures { result ≡ or_no_memory change }
 {
-    match change {
-        Ok(change) => Ok(change),
-        Err(_) => Err(MemberFault::NoMemory),
-    }
+    Ok(change?)
 }
 
 // A gossip that was received so may show other members than those that were known.
@@ -211,8 +208,11 @@ impl MembershipState {
     fn raise(&mut self, alloc: Global, who: &Unique, status: Status) -> Result<Change, AllocError>
         requires { IsTrue (rules.may_count self.old) → MayUpdate self.old.me (Effect.Rise who.now status 0 ∷ []) self.old.gossip }
         ensures ok { IfOk result (λ change. Makes (rules.update (Effect.Rise who.now status 0 ∷ []) self.old) self.new change) }
-        ensures err { OnErr result (self.new ≡ self.old) }
+        ensures err { OnErr result (IsCounting self.old × (self.new ≡ self.old)) }
     {
+        if !self.may_count() {
+            return Ok(unchanged(alloc));
+        }
         let raised = who.copy(alloc)?;
         let effects = one(alloc, Effect::Rise(raised, status, 0))?;
         self.update(alloc, effects)
@@ -222,6 +222,7 @@ impl MembershipState {
         requires { KnowsItself self.old.me self.old.gossip }
         ensures ok { IfOk result (λ change. Makes (rules.found self.old) self.new change) }
         ensures err { OnErr result (self.new ≡ self.old) }
+        ensures memory { OnErr result (IsUnknown self.old) }
     {
         if self.knows(&self.me) {
             return Ok(unchanged(alloc));
@@ -235,7 +236,7 @@ impl MembershipState {
     }
 
     pub(crate) fn leave(&mut self, alloc: Global, who: &Unique) -> Result<Change, MemberFault>
-        ensures { Answers (IsAccepted (rules.leave who.now self.old)) (rules.leave who.now self.old) self.old result self.new }
+        ensures { Answers (IsCounting self.old × IsAccepted (rules.leave who.now self.old)) (rules.leave who.now self.old) self.old result self.new }
     {
         if !self.is_member() {
             return Err(MemberFault::NotMember);
@@ -251,7 +252,7 @@ impl MembershipState {
     }
 
     pub(crate) fn down(&mut self, alloc: Global, who: &Unique) -> Result<Change, MemberFault>
-        ensures { Answers (IsAccepted (rules.down who.now self.old)) (rules.down who.now self.old) self.old result self.new }
+        ensures { Answers (MayDown who.now self.old × IsAccepted (rules.down who.now self.old)) (rules.down who.now self.old) self.old result self.new }
     {
         if !self.is_member() {
             return Err(MemberFault::NotMember);
@@ -267,7 +268,7 @@ impl MembershipState {
     }
 
     pub(crate) fn on_join(&mut self, alloc: Global, from: &Unique) -> Result<Change, MemberFault>
-        ensures { Answers (IsAccepted (rules.on_join from.now self.old)) (rules.on_join from.now self.old) self.old result self.new }
+        ensures { Answers (MayAdmit from.now self.old × IsAccepted (rules.on_join from.now self.old)) (rules.on_join from.now self.old) self.old result self.new }
     {
         if !self.is_member() {
             return Err(MemberFault::NotMember);
@@ -298,8 +299,11 @@ impl MembershipState {
     fn replace(&mut self, alloc: Global, from: &Unique) -> Result<Change, AllocError>
         requires { IsTrue (rules.is_member self.old) }
         ensures ok { IfOk result (λ change. Makes (rules.update_any (rules.replaced from.now self.old.gossip.view.standings) self.old) self.new change) }
-        ensures err { OnErr result (self.new ≡ self.old) }
+        ensures err { OnErr result (IsCounting self.old × (self.new ≡ self.old)) }
     {
+        if !self.may_count() {
+            return Ok(unchanged(alloc));
+        }
         self.gossip.invariant();
         let effects = downed_beside(alloc, from, self.gossip.members())?;
         self.update_any(alloc, effects)
@@ -310,7 +314,7 @@ impl MembershipState {
         requires member { IsTrue (rules.is_member self.old) }
         requires room { false ≡ nat_le rules.most_at_join (map.len self.old.gossip.view.standings) }
         ensures ok { IfOk result (λ change. Makes (rules.admitted from.now self.old) self.new change) }
-        ensures err { OnErr result (self.new ≡ self.old) }
+        ensures err { OnErr result (IsCounting self.old × (self.new ≡ self.old)) }
     {
         if !self.may_count() {
             return Ok(unchanged(alloc));
@@ -331,7 +335,7 @@ impl MembershipState {
         at_rest: &mut bool,
     ) -> Result<Change, MemberFault>
         requires { RestsIf at_rest.old self.old }
-        ensures answers { Answers (Unit {0}) (rules.on_gossip incoming.now self.old) self.old result self.new }
+        ensures answers { Answers (IsKnownIn incoming.now self.old) (rules.on_gossip incoming.now self.old) self.old result self.new }
         ensures rest { RestsIf at_rest.new self.new }
     {
         if !self.is_known_in(incoming) {
@@ -344,7 +348,7 @@ impl MembershipState {
             Err(GossipFault::TooManyUniques { union }) => {
                 return Err(MemberFault::TooManyUniques { union });
             }
-            Err(GossipFault::NoMemory) => return Err(MemberFault::NoMemory),
+            Err(GossipFault::NoMemory(error)) => return Err(error.into()),
             Ok(received) => return Ok(self.hears(alloc, received, incoming, *at_rest)),
         }
     }
@@ -362,7 +366,7 @@ impl MembershipState {
     {
         let before = match self.gossip.copy(alloc) {
             Ok(before) => before,
-            Err(_) => return Err(GossipFault::NoMemory),
+            Err(error) => return Err(error.into()),
         };
         match self.gossip.receive(alloc, &self.me, incoming) {
             Ok(received) => {
@@ -640,6 +644,7 @@ impl MembershipState {
         requires watching { IsWatching self.old }
         ensures ok { IfOk result (λ change. Makes (ticks.tick self.old) self.new change) }
         ensures err { OnErr result (self.new ≡ self.old) }
+        ensures memory { OnErr result (IsTrue (rules.is_member self.old)) }
     {
         if !self.is_member() {
             return Ok(unchanged(alloc));

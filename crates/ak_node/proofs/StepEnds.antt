@@ -119,7 +119,7 @@ module _ (m : MembershipState) where
   received_leaves : (g : GossipState) (r : Result (Received × GossipState) GossipFault) → LeavesOk m (on_received g m r)
   received_leaves g (Err (gossip_fault.ForeignCount own theirs)) = tt
   received_leaves g (Err (gossip_fault.TooManyUniques union)) = tt
-  received_leaves g (Err gossip_fault.NoMemory) = itself_left
+  received_leaves g (Err (gossip_fault.NoMemory _)) = itself_left
   received_leaves g (Ok r) = record { settings = refl; settled = refl }
 
   gossip_leaves : (g : GossipState) → LeavesOk m (membership.on_gossip g m)

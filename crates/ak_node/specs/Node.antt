@@ -131,7 +131,7 @@ number_of fault.NotMember = 3
 number_of fault.Unlisted = 4
 number_of (fault.ForeignCount own theirs) = 5
 number_of (fault.TooManyUniques union) = 6
-number_of fault.NoMemory = 0
+number_of (fault.NoMemory _) = 0
 
 -- what the membership answers, or that it refuses
 abbrev pub unless_refused : (membership.Outcome → Outcome) → State → Result membership.Outcome MemberFault → Outcome

@@ -50,10 +50,13 @@ pub record IsNode (n : State) : Type 0 where
 abbrev pub IsSameProcess : State → State → Type 0
 IsSameProcess old new = membership.IsSameProcess old.membership new.membership
 
--- what a spent node still shows: its process and its settings; it has forgotten what it knew
+-- what a spent node still shows: its process and its settings, whether it runs, and how many steps it made before the one that
+-- failed; it has forgotten what it knew
 pub record IsLeftOver (old new : State) : Type 0 where
   pub process : IsSameProcess old new
   pub forgot : known new ≡ nothing_known
+  pub runs : new.runs ≡ old.runs
+  pub steps : new.steps ≡ old.steps
 
 -- a node that has stopped answers an event with no action, and knows what it knew
 abbrev pub IsSilent : State → State → List Action → Type 0

@@ -7,18 +7,18 @@ use ak_membership::{Change, MemberFault};
 use ak_wire::{Action, Actions};
 use std::alloc::{AllocError, Global};
 
-// The number of a refusal; running out of memory has none.
-fn number_of(fault: &MemberFault) -> u8
-    ensures { result ≡ rules.number_of fault.now }
+// The number of a refusal, from 1 on; where memory ran out, the error with which it did.
+fn number_of(fault: &MemberFault) -> Result<u8, AllocError>
+    ensures { IfOk result (λ number. (number ≡ rules.number_of fault.now) × (1 ≤ number)) }
 {
     match fault {
-        MemberFault::NotUp => 1,
-        MemberFault::UnknownMember => 2,
-        MemberFault::NotMember => 3,
-        MemberFault::Unlisted => 4,
-        MemberFault::ForeignCount { own: _, theirs: _ } => 5,
-        MemberFault::TooManyUniques { union: _ } => 6,
-        MemberFault::NoMemory => 0,
+        MemberFault::NotUp => Ok(1),
+        MemberFault::UnknownMember => Ok(2),
+        MemberFault::NotMember => Ok(3),
+        MemberFault::Unlisted => Ok(4),
+        MemberFault::ForeignCount { own: _, theirs: _ } => Ok(5),
+        MemberFault::TooManyUniques { union: _ } => Ok(6),
+        MemberFault::NoMemory(error) => Err(*error),
     }
 }
 
@@ -55,9 +55,6 @@ pub(crate) fn refuse(alloc: Global, fault: MemberFault) -> Result<Actions, Alloc
     ensures told { IfOk result (λ actions. actions ≡ Action.Refused (rules.number_of fault) ∷ []) }
     ensures numbered { OnOk result (1 ≤ rules.number_of fault) }
 {
-    let number = number_of(&fault);
-    if number == 0 {
-        return Err(AllocError);
-    }
+    let number = number_of(&fault)?;
     one(alloc, Action::Refused(number))
 }

@@ -611,10 +611,12 @@ fn offered(entity: &EntityId, payload: u64)
 #[derive(Drop)]
 pub struct Node {
     state: State,
-    spent: bool,
+    // The error with which it ran out of memory.
+    failed: Option<AllocError>,
 }
 
 impl Model for Node {
+    ghost use Rattle.std.specs.Prelude.{is_some};
     ghost use Rattle.ak_node.specs.NodeContracts.{NodeModel, IsNode, HasForgotten};
     ghost use Rattle.ak_node.specs.Sends.{KnowsProcesses, KeepsBallots, KeepsSettled, KeepsShards};
     ghost use Rattle.std.specs.Coded.{codes};
@@ -626,9 +628,9 @@ impl Model for Node {
 
     ghost coded = { Prim.hlevel (codes, membership.the_row.coded, coded_singleton, coded_sharding) };
 
-    ghost view = { λ n. record { state = n.state; spent = n.spent } };
+    ghost view = { λ n. record { state = n.state; spent = is_some n.failed } };
 
-    ghost invariant = { λ n. IsNode n.state × HasForgotten n.spent n.state × KnowsProcesses n.state × KeepsBallots n.state.singleton × KeepsSettled n.state × KeepsShards n.state };
+    ghost invariant = { λ n. IsNode n.state × HasForgotten (is_some n.failed) n.state × KnowsProcesses n.state × KeepsBallots n.state.singleton × KeepsSettled n.state × KeepsShards n.state };
 }
 
 impl Node {
@@ -649,14 +651,15 @@ impl Node {
         };
         Ok(Node {
             state,
-            spent: false,
+            failed: None,
         })
     }
 
     /// Gives the node one event, and answers its actions; a node that has stopped answers none, and knows what it knew. A packet
     /// that comes has to be valid, as `decode` answers it; then each packet that the node sends is valid too: it has a spelling
     /// as bytes. While it runs and knows anybody, it is a member of its own view, and not Down. Once out of memory the node is
-    /// spent: it still shows its process and its settings, and has forgotten what it knew.
+    /// spent: it still shows its process and its settings, whether it runs and how many steps it made before, and has forgotten
+    /// what it knew.
     pub fn step(&mut self, alloc: Global, event: NodeEvent) -> Result<Actions, AllocError>
         requires steps { self.old.state.steps < 2 ^ 62 }
         requires comes { ComesValid event }
@@ -683,11 +686,13 @@ impl Node {
         ensures alive { OnOk result (self.old.spent ≡ false) × OnOk result (self.new.spent ≡ false) }
         ensures spent { OnErr result ((self.new.spent ≡ true) × IsLeftOver self.old.state self.new.state) }
     {
-        if self.spent {
-            return Err(AllocError);
+        if let Some(error) = self.failed {
+            return Err(error);
         }
         event.said();
         self.state.process();
+        let runs = self.state.runs;
+        let steps = self.state.steps;
         match self.state.step(alloc, event) {
             Ok(actions) => {
                 self.state.membership.invariant();
@@ -698,7 +703,9 @@ impl Node {
                 self.state.membership.forget(alloc);
                 self.state.singleton = Singleton::new(alloc);
                 self.state.sharding.forget(alloc);
-                self.spent = true;
+                self.state.runs = runs;
+                self.state.steps = steps;
+                self.failed = Some(error);
                 Err(error)
             }
         }

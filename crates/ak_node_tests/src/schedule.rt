@@ -227,7 +227,7 @@ fn a_fault_shows_as_its_code(rt: HostRuntime) -> Result<(), Fail> {
     let faults = [
         (LineFault::Malformed, "S1"),
         (LineFault::BadHeader, "S2"),
-        (LineFault::NoMemory, "memory"),
+        (LineFault::NoMemory(AllocError), "memory"),
     ];
     for (fault, code) in &faults {
         assert!(rt; shows_as(rt.alloc(), fault, code)?);

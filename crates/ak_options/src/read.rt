@@ -7,7 +7,7 @@ ghost use Rattle.ak_options.specs.CommandLine.{IsCommandName};
 use crate::command::{Command, Request};
 use crate::options::{are_options, number_or, only_number, only_value};
 use crate::request::{is_text, read_request};
-use ak_address::{Address, Text, is_address, parse_address};
+use ak_address::{Address, AddressFault, Text, is_address, parse_address};
 use ak_schedule::LineFault;
 use std::alloc::{AllocError, Global};
 
@@ -130,12 +130,15 @@ fn address_and_request(
 {
     let say = match read_request(alloc, text) {
         Ok(say) => say,
-        Err(LineFault::NoMemory) => return Err(AllocError),
+        Err(LineFault::NoMemory(error)) => return Err(error),
         Err(LineFault::Malformed) => return Ok(None),
         Err(LineFault::BadHeader) => return Ok(None),
     };
     match parse_address(alloc, address) {
         Ok(to) => Ok(Some((to, say))),
-        Err(_) => Err(AllocError),
+        Err(AddressFault::NoMemory(error)) => Err(error),
+        Err(AddressFault::BadHost) => Ok(None),
+        Err(AddressFault::BadPort) => Ok(None),
+        Err(AddressFault::BadUid) => Ok(None),
     }
 }

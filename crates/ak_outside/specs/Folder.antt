@@ -17,7 +17,7 @@ GivesFile files name most (Bytes bytes) = content name files ≡ Some bytes
 GivesFile files name most TooLarge = (bytes : List ℕ) × (content name files ≡ Some bytes) × (most < length bytes)
 GivesFile files name most NoFile = content name files ≡ None
 GivesFile files name most Failed = ⊤
-GivesFile files name most NoMemory = ⊤
+GivesFile files name most (NoMemory _) = ⊤
 
 -- what was loaded has no more bytes than may be
 abbrev pub FitsMost : Loaded → ℕ → Type 0
@@ -25,7 +25,7 @@ FitsMost (Bytes bytes) most = length bytes ≤ most
 FitsMost TooLarge most = ⊤
 FitsMost NoFile most = ⊤
 FitsMost Failed most = ⊤
-FitsMost NoMemory most = ⊤
+FitsMost (NoMemory _) most = ⊤
 
 -- a failed load has its cause, and another counts no fault
 abbrev pub LoadCause : ℕ → ℕ → Loaded → Type 0
@@ -33,7 +33,7 @@ LoadCause old new (Bytes bytes) = new ≡ old
 LoadCause old new TooLarge = new ≡ old
 LoadCause old new NoFile = new ≡ old
 LoadCause old new Failed = Rose old new
-LoadCause old new NoMemory = new ≡ old
+LoadCause old new (NoMemory _) = new ≡ old
 
 -- a search in files that are known does not fail
 abbrev pub FoundSo : Loaded → Type 0
@@ -41,14 +41,14 @@ FoundSo (Bytes bytes) = ⊤
 FoundSo TooLarge = ⊤
 FoundSo NoFile = ⊤
 FoundSo Failed = ⊥
-FoundSo NoMemory = ⊤
+FoundSo (NoMemory _) = ⊤
 
 abbrev pub HasFailed : Loaded → Type 0
 HasFailed (Bytes bytes) = ⊥
 HasFailed TooLarge = ⊥
 HasFailed NoFile = ⊥
 HasFailed Failed = ⊤
-HasFailed NoMemory = ⊥
+HasFailed (NoMemory _) = ⊥
 
 -- where the bytes of a file are known they were read whole, or are more than may be
 abbrev pub ReadsFile : Option (List ℕ) → ℕ → Loaded → Type 0
@@ -56,4 +56,4 @@ ReadsFile known most (Bytes bytes) = IfSome known (λ all. bytes ≡ all)
 ReadsFile known most TooLarge = IfSome known (λ all. most < length all)
 ReadsFile known most NoFile = ⊥
 ReadsFile known most Failed = ⊤
-ReadsFile known most NoMemory = ⊤
+ReadsFile known most (NoMemory _) = ⊤

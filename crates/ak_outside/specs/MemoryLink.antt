@@ -60,7 +60,7 @@ LoadDone old new (loaded.Bytes bytes) = new ≡ record old { loads = one_made ol
 LoadDone old new loaded.TooLarge = new ≡ record old { loads = one_made old.loads }
 LoadDone old new loaded.NoFile = new ≡ record old { loads = one_made old.loads }
 LoadDone old new loaded.Failed = ⊥
-LoadDone old new loaded.NoMemory = new ≡ record old { loads = one_made old.loads }
+LoadDone old new (loaded.NoMemory _) = new ≡ record old { loads = one_made old.loads }
 
 -- a listed bind failed, and is counted as a call and as a fault
 abbrev pub BindFailed : Wire → Wire → Bound → Type 0

@@ -1,10 +1,11 @@
 // Where named files are.
 ghost use Rattle.std.specs.Prelude.{◌≡◌, ℕ, ◌≤◌, List, Option, IfSome};
 ghost use Rattle.ak_outside.specs.declared.folder.MemoryFile.{MemoryFile};
+ghost use Rattle.ak_outside.specs.declared.folder.Loaded.TheVariants.{NoMemory};
 ghost use Rattle.ak_outside.specs.Folder.{GivesFile, FitsMost, LoadCause};
 
 use ak_address::Text;
-use std::alloc::Global;
+use std::alloc::{AllocError, Global};
 
 /// A file by its name, with its bytes.
 #[derive(Debug, Drop)]
@@ -25,7 +26,15 @@ pub enum Loaded {
     /// The folder has failed and counted it.
     Failed,
     /// Memory ran out.
-    NoMemory,
+    NoMemory(AllocError),
+}
+
+impl From<AllocError> for Loaded {
+    ghost from_gives = { λ error loaded. loaded ≡ NoMemory error };
+
+    fn from(error: AllocError) -> Loaded {
+        Loaded::NoMemory(error)
+    }
 }
 
 /// Files by their names. Each fault is counted; that there is no file, or a file that is too large, is none: this project's choice.

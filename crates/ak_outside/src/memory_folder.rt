@@ -89,7 +89,7 @@ fn found(alloc: Global, files: &[MemoryFile], name: &Text, most: usize) -> Loade
     }
     match bytes.copy(alloc) {
         Ok(bytes) => Loaded::Bytes(bytes),
-        Err(_) => Loaded::NoMemory,
+        Err(error) => error.into(),
     }
 }
 

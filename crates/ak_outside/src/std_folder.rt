@@ -104,7 +104,7 @@ fn read_file<S: Source>(alloc: Global, source: &mut S, most: usize) -> Loaded
 {
     match read_most(alloc, source, most) {
         Ok(answer) => answer,
-        Err(_) => Loaded::NoMemory,
+        Err(error) => error.into(),
     }
 }
 

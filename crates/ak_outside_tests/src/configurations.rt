@@ -141,7 +141,7 @@ fn is_fault(fault: &ConfigFault, code: &str, key: &str) -> bool {
         ConfigFault::BadAddress(at) => code == "C6" && is_key(at, key),
         ConfigFault::SelfUnlisted(at) => code == "C7" && is_key(at, key),
         ConfigFault::Repeated(at) => code == "C8" && is_key(at, key),
-        ConfigFault::NoMemory => false,
+        ConfigFault::NoMemory(_) => false,
     }
 }
 
@@ -218,7 +218,7 @@ fn all_show(alloc: Global, cases: &[(&str, &str)]) -> Result<bool, AllocError> {
 #[test]
 fn faults_show_their_codes(rt: HostRuntime) -> Result<(), Fail> {
     assert!(rt; all_show(rt.alloc(), &SHOWN)?);
-    assert!(rt; shows(rt.alloc(), &ConfigFault::NoMemory, "memory")?);
+    assert!(rt; shows(rt.alloc(), &ConfigFault::NoMemory(AllocError), "memory")?);
     Ok(())
 }
 

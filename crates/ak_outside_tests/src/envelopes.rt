@@ -43,7 +43,7 @@ fn number_of(got: Got) -> u8 {
         Got::Bad(number) => number,
         Got::Quiet => 9,
         Got::Failed => 10,
-        Got::NoMemory => 11,
+        Got::NoMemory(_) => 11,
     }
 }
 

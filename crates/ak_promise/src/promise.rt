@@ -1,4 +1,4 @@
-ghost use Rattle.std.specs.Prelude.{◌≡◌, ◌≢◌, ◌||◌, true, IfOk, IsOk, OnOk, OnErr, Some, option_copied};
+ghost use Rattle.std.specs.Prelude.{◌≡◌, ◌≢◌, ◌||◌, true, IfOk, IsOk, OnOk, OnErr, None, Some, option_copied};
 ghost use Rattle.std.specs.Ordering.{is_eq};
 ghost use Rattle.ak_promise.specs.Promise.{unpromised, bound, freed, Answers, after_ask, answer_after, answer_to, Releases, after_release, is_last, is_some_ballot, answer_by};
 ghost use Rattle.ak_address.specs.Unique.{unique_cmp};
@@ -100,10 +100,11 @@ impl Promise {
     }
 
     /// Releases the last ballot, whichever it is, with a version: the floor covers the version from now on. Where nothing was
-    /// promised nothing changes. After an error the promise is as it was.
+    /// promised nothing changes, and no memory is taken. After an error the promise is as it was.
     pub fn release_last(&mut self, alloc: Global, version: &Version) -> Result<(), AllocError>
         ensures ok { OnOk result (self.new ≡ freed version.now self.old) }
         ensures err { OnErr result (self.new ≡ self.old) }
+        ensures nothing { self.old.last ≡ None → IsOk result }
     {
         if self.last.is_some() {
             return self.let_go(alloc, version);

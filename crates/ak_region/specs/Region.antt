@@ -1,5 +1,5 @@
 -- What a node does for the shards (Akka's Cluster Sharding, "How it works").
-use Rattle.std.specs.Prelude.{ℕ, ◌+◌, ◌==◌, nat_le, Bool, not, List, [], ◌∷◌, ◌++◌, length, map, replicate, slice_index_or, slice_set, is_some, Option, None, Some, if◌then◌else◌}
+use Rattle.std.specs.Prelude.{ℕ, ◌+◌, ◌==◌, nat_le, ⊤, Bool, not, List, [], ◌∷◌, ◌++◌, length, map, replicate, slice_index_or, slice_set, is_some, Option, None, Some, if◌then◌else◌}
 use Rattle.std.specs.List.{filter, list_any}
 use Rattle.ak_address.specs.Unique.{UniqueModel}
 use Rattle.ak_member.specs.Standing.{Standings}
@@ -40,6 +40,13 @@ abbrev pub route : UniqueModel → RegionModel → List ℕ → Offered
 route me region entity =
     let slot = slot_of region (entity_shard region entity) in
     if receives slot then Delivered entity else kept (is_full region) entity (other_home me slot)
+
+-- memory may be wanted for it: for the name of another home, or for room in the buffer
+abbrev pub TakesRoom : Offered → Type 0
+TakesRoom (Delivered entity) = ⊥
+TakesRoom (Forwarded home entity) = ⊤
+TakesRoom Buffered = ⊤
+TakesRoom (Dropped entity) = ⊥
 
 -- a buffered message goes to the end
 abbrev pub after_offer : Offered → Message → RegionModel → RegionModel

@@ -40,7 +40,7 @@ pub(crate) fn wait(
 ) -> Result<Offered, AllocError>
     ensures answer { IfOk result (λ offered. offered ≡ kept (nat_le most (length buffer.old.items)) entity None) }
     ensures after { IfOk result (λ offered. buffer.new.items ≡ after_wait offered (record { entity = entity; payload = payload }) buffer.old.items) }
-    ensures err { OnErr result (buffer.new.items ≡ buffer.old.items) }
+    ensures err { OnErr result ((nat_le most (length buffer.old.items) ≡ false) × (buffer.new.items ≡ buffer.old.items)) }
 {
     if buffer.len() >= most as usize {
         return Ok(Offered::Dropped(entity));

@@ -1,8 +1,8 @@
-ghost use Rattle.std.specs.Prelude.{◌≡◌, ◌≤◌, ◌<◌, length, IfOk, OnOk, OnErr, IfSome};
+ghost use Rattle.std.specs.Prelude.{◌≡◌, ◌≤◌, ◌<◌, [], length, IfOk, OnOk, OnErr, IfSome, IsTrue};
 ghost use Rattle.ak_region.specs.Shards.{ShardSlot};
 ghost use Rattle.ak_region.specs.RegionModel.{RegionModel, Message, IsRegion};
-ghost use Rattle.ak_region.specs.Slot.{at_home, host_answer, after_host, begun, gives_up, handed_off};
-ghost use Rattle.ak_region.specs.Region.{new_region, slot_of, with_slot, entity_shard, route, after_offer, flushed, after_flush, wanted, after_forget, hosts_any, reports};
+ghost use Rattle.ak_region.specs.Slot.{at_home, host_answer, after_host, begun, gives_up, handed_off, can_flush};
+ghost use Rattle.ak_region.specs.Region.{new_region, slot_of, with_slot, entity_shard, route, TakesRoom, after_offer, flushed, after_flush, wanted, after_forget, hosts_any, reports};
 
 use crate::buffer::{take_those_for, wait, wanted_in};
 use crate::homes::{add_home, are_members, keep_members};
@@ -134,7 +134,7 @@ impl Region {
 
     /// What comes of a message to an entity: it is delivered where the entity's shard is hosted here and not held; it is
     /// forwarded where the shard is not held and its home is another node; else it waits, or is dropped where as many wait as
-    /// may. After an error nothing has changed; only memory can fail.
+    /// may. After an error nothing has changed; only memory can fail, and only of a message that is forwarded or waits.
     #[tactic(auto, using(crate::proofs::StoredLemmas::at_all))]
     pub fn offer(
         &mut self,
@@ -145,7 +145,7 @@ impl Region {
     ) -> Result<Offered, AllocError>
         ensures answer { IfOk result (λ offered. offered ≡ route me.now self.old entity) }
         ensures after { IfOk result (λ offered. self.new ≡ after_offer offered (record { entity = entity; payload = payload }) self.old) }
-        ensures err { OnErr result (self.new ≡ self.old) }
+        ensures err { OnErr result (TakesRoom (route me.now self.old entity) × (self.new ≡ self.old)) }
     {
         let shard = self.shard_of(&entity);
         if receives_at(&self.told, shard) {
@@ -218,8 +218,8 @@ impl Region {
     }
 
     /// The messages that wait for the shard leave the buffer, in their order, where it is not held and is hosted here or has
-    /// its home at another node; the others keep their order. Elsewhere none leaves. Only memory can fail, and then nothing
-    /// is said of what still waits.
+    /// its home at another node; the others keep their order. Elsewhere none leaves, and no memory is taken. Only memory can
+    /// fail, and then nothing waits any more: what waited is lost, and who calls is told so.
     #[tactic(auto, using(crate::proofs::StoredLemmas::at_all, crate::proofs::StoredLemmas::all_length))]
     pub fn flush(
         &mut self,
@@ -230,12 +230,17 @@ impl Region {
         requires { shard < length self.old.slots }
         ensures left { IfOk result (λ gone. gone.items ≡ flushed me.now shard self.old) }
         ensures stayed { OnOk result (self.new ≡ after_flush me.now shard self.old) }
+        ensures lost { OnErr result (IsTrue (can_flush me.now (slot_of self.old shard)) × (self.new ≡ record self.old { messages = [] })) }
         ensures shards { length self.new.slots ≡ length self.old.slots }
     {
         if !can_flush_at(&self.told, me, shard) {
             return Ok(Vec::new(alloc));
         }
-        take_those_for(alloc, &mut self.buffer, self.shards, shard)
+        let taken = take_those_for(alloc, &mut self.buffer, self.shards, shard);
+        if taken.is_err() {
+            self.buffer.clear();
+        }
+        taken
     }
 
     /// The shards whose home is asked for: those for which a message waits, each once, in the order of the first message, but

@@ -70,7 +70,7 @@ kind_is k ws e h = same_kind (event_kind e) k (named (kind_name k ∷ ws) ws (ki
 pub refused : {T U : Type 0} (P : T → Type 0) (Q : U → Type 0) (fault : LineFault) → Reads P (Err fault) → ((u : U) → Q u → (t : T) × P t) → ((t : T) → P t → (u : U) × Q u) → Reads Q (Err fault)
 refused P Q Malformed none part whole_of = λ u whole. none (part u whole).0 (part u whole).1
 refused P Q BadHeader none part whole_of = none
-refused P Q NoMemory some part whole_of = whole_of some.0 some.1
+refused P Q (NoMemory _) some part whole_of = whole_of some.0 some.1
 
 start_of : (ws : List (List ℕ)) (e : Event) → event_kind e ≡ kind.TheVariants.Start → SpellsWords (codes "start" ∷ ws) e → (u : UniqueModel) × SpellsOne ws u
 start_of ws (Start u) k h = let rest : ws ≡ h.0 ∷ [] = cc in (u, (h.0, rest, h.2))

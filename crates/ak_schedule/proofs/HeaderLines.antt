@@ -19,4 +19,4 @@ pub header_fault : {T : Type 0} (P : T → Type 0) (which : Header) (line : List
     → old.read ≡ 0 → RefusesValue P fault → ((new : SettingsModel) → Sets which (words line) old.settings new → (t : T) × P t) → HeaderAnswers (Err fault) line old old
 header_fault P which line old Malformed is first none part = none
 header_fault P which line old BadHeader is first none part = (refl, header_refused which line old is (λ new sets. none (part new sets).0 (part new sets).1))
-header_fault P which line old NoMemory is first none part = (refl, first)
+header_fault P which line old (NoMemory _) is first none part = (refl, first)

@@ -81,13 +81,13 @@ pub listing_refused : (names rest after : List (List ℕ)) (name : List ℕ) (li
     → RefusesValue (SpellsNext name listed) fault → RefusesValue (SpellsAddresses names) fault
 listing_refused names rest after name listed Malformed cut so_far h = h
 listing_refused names rest after name listed BadHeader cut so_far h = spelled_no_further names rest after name listed cut so_far h
-listing_refused names rest after name listed NoMemory cut so_far h = tt
+listing_refused names rest after name listed (NoMemory _) cut so_far h = tt
 
 -- a fault of a part is the fault of the whole
 pub value_refused : {T U : Type 0} (P : T → Type 0) (Q : U → Type 0) (fault : LineFault) → RefusesValue P fault → ((u : U) → Q u → (t : T) × P t) → RefusesValue Q fault
 value_refused P Q Malformed none part = none
 value_refused P Q BadHeader none part = λ u whole. none (part u whole).0 (part u whole).1
-value_refused P Q NoMemory none part = tt
+value_refused P Q (NoMemory _) none part = tt
 
 -- an address that is among the others does not follow
 pub not_twice : (name : List ℕ) (listed : List AddressModel) (a : AddressModel) → SpellsAddress name a → Contains listed a → (b : AddressModel) → SpellsNext name listed b → ⊥

@@ -71,13 +71,13 @@ abbrev pub HeaderAnswers : Result Bool LineFault → List ℕ → Drafted → Dr
 HeaderAnswers (Ok done) line old new = ReadsHeader line old new × (IsTrue done ↔ (new.read ≡ 9))
 HeaderAnswers (Err Malformed) line old new = ⊥
 HeaderAnswers (Err BadHeader) line old new = (new ≡ old) × ((next : Drafted) → ReadsHeader line old next → ⊥)
-HeaderAnswers (Err NoMemory) line old new = (new ≡ old) × (old.read ≡ 0)
+HeaderAnswers (Err (NoMemory _)) line old new = (new ≡ old) × (old.read ≡ 0)
 
 -- a header's value is refused exactly where none is spelled
 abbrev pub RefusesValue : {T : Type 0} → (T → Type 0) → LineFault → Type 0
 RefusesValue Spells Malformed = ⊥
 RefusesValue {T} Spells BadHeader = (value : T) → Spells value → ⊥
-RefusesValue Spells NoMemory = Unit {0}
+RefusesValue Spells (NoMemory _) = Unit {0}
 
 -- the words spell these addresses, of which there are 1 to 32 different ones
 abbrev pub SpellsAddresses : List (List ℕ) → List AddressModel → Type 0

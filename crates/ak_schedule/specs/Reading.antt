@@ -10,7 +10,7 @@ abbrev pub Reads : {T : Type 0} → (T → Type 0) → Result T LineFault → Ty
 Reads Spells (Ok value) = Spells value
 Reads {T} Spells (Err Malformed) = (value : T) → Spells value → ⊥
 Reads Spells (Err BadHeader) = ⊥
-Reads {T} Spells (Err NoMemory) = (value : T) × Spells value
+Reads {T} Spells (Err (NoMemory _)) = (value : T) × Spells value
 
 -- one word, which spells the unique
 abbrev pub SpellsOne : List (List ℕ) → UniqueModel → Type 0

@@ -115,9 +115,7 @@ fn read_addresses(alloc: Global, names: &[u8]) -> Result<Vec<Address>, LineFault
     let mut rest = names;
     'names: while let Some((name, after_it)) = next_word(rest) {
         let address = next_address(alloc, name, &listed)?;
-        if listed.push(address).is_err() {
-            return Err(LineFault::NoMemory);
-        }
+        listed.push(address)?;
         rest = after_it;
     }
     if listed.is_empty() {
@@ -154,6 +152,6 @@ fn listed_address(alloc: Global, name: &[u8]) -> Result<Address, LineFault>
         Err(AddressFault::BadHost) => return Err(LineFault::BadHeader),
         Err(AddressFault::BadPort) => return Err(LineFault::BadHeader),
         Err(AddressFault::BadUid) => return Err(LineFault::BadHeader),
-        Err(AddressFault::NoMemory) => return Err(LineFault::NoMemory),
+        Err(AddressFault::NoMemory(error)) => return Err(error.into()),
     }
 }

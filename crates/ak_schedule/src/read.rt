@@ -167,7 +167,7 @@ fn read_offer(alloc: Global, rest: &[u8]) -> Result<Event, LineFault>
         Err(fault) => return Err(fault),
         Ok(who) => match Text::from_bytes(alloc, entity) {
             Ok(name) => return Ok(Event::Offer(who, EntityId::of(name), payload)),
-            Err(_) => return Err(LineFault::NoMemory),
+            Err(error) => return Err(error.into()),
         },
     }
 }
@@ -209,7 +209,7 @@ fn unique_of(alloc: Global, word: &[u8]) -> Result<Unique, LineFault>
         Err(AddressFault::BadHost) => return Err(LineFault::Malformed),
         Err(AddressFault::BadPort) => return Err(LineFault::Malformed),
         Err(AddressFault::BadUid) => return Err(LineFault::Malformed),
-        Err(AddressFault::NoMemory) => return Err(LineFault::NoMemory),
+        Err(AddressFault::NoMemory(error)) => return Err(error.into()),
     }
 }
 
@@ -221,7 +221,7 @@ fn address_of(alloc: Global, word: &[u8]) -> Result<Address, LineFault>
         Err(AddressFault::BadHost) => return Err(LineFault::Malformed),
         Err(AddressFault::BadPort) => return Err(LineFault::Malformed),
         Err(AddressFault::BadUid) => return Err(LineFault::Malformed),
-        Err(AddressFault::NoMemory) => return Err(LineFault::NoMemory),
+        Err(AddressFault::NoMemory(error)) => return Err(error.into()),
     }
 }
 

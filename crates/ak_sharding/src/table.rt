@@ -1,4 +1,4 @@
-ghost use Rattle.std.specs.Prelude.{◌≡◌, length, IfOk, OnOk, IsTrue};
+ghost use Rattle.std.specs.Prelude.{◌≡◌, length, IfOk, OnOk, OnErr, IsTrue};
 ghost use Rattle.ak_sharding.specs.Coordinates as rules;
 
 use crate::sharding::Sharding;
@@ -23,7 +23,8 @@ impl Sharding {
 
     #[tactic(auto, using(crate::proofs::TableLengths::own_table_length))]
     fn begin_table(&mut self, alloc: Global, me: &Unique) -> Result<(), AllocError>
-        ensures { OnOk result (self.new ≡ rules.begins_table me.now self.old) }
+        ensures ok { OnOk result (self.new ≡ rules.begins_table me.now self.old) }
+        ensures err { OnErr result (self.new ≡ self.old) }
     {
         let table = self.own_table(alloc, me)?;
         self.coordinator = Some(table);
@@ -37,14 +38,15 @@ impl Sharding {
     }
 
     /// What a tick does for the singleton is done with the table: an asking begins with one that is made of the node's own reports,
-    /// and where an asking ends there is none. Only memory can fail.
+    /// and where an asking ends there is none. Only memory can fail, and then nothing has changed.
     pub fn follow_tick(
         &mut self,
         alloc: Global,
         rule: TickRule,
         me: &Unique,
     ) -> Result<(), AllocError>
-        ensures { OnOk result (self.new ≡ rules.tabled_by rule me.now self.old) }
+        ensures ok { OnOk result (self.new ≡ rules.tabled_by rule me.now self.old) }
+        ensures err { OnErr result (self.new ≡ self.old) }
     {
         match rule {
             TickRule::Rests => Ok(()),
@@ -58,9 +60,11 @@ impl Sharding {
         }
     }
 
-    /// Where the ballot of an asking was outdone, the table is made anew of the node's own reports. Only memory can fail.
+    /// Where the ballot of an asking was outdone, the table is made anew of the node's own reports. Only memory can fail, and then
+    /// nothing has changed.
     pub fn begin_if(&mut self, alloc: Global, outdone: bool, me: &Unique) -> Result<(), AllocError>
-        ensures { OnOk result (self.new ≡ rules.begins_if outdone me.now self.old) }
+        ensures ok { OnOk result (self.new ≡ rules.begins_if outdone me.now self.old) }
+        ensures err { OnErr result (self.new ≡ self.old) }
     {
         if outdone {
             return self.begin_table(alloc, me);
@@ -69,7 +73,7 @@ impl Sharding {
     }
 
     /// Where a grant is the first of its process, its reports are learnt, as they are while the node asks or is active. Only
-    /// memory can fail.
+    /// memory can fail, and then there is no table any more.
     #[tactic(auto, using(crate::proofs::TableLengths::learnt_length))]
     pub fn learn_if(
         &mut self,
@@ -80,7 +84,8 @@ impl Sharding {
         told: &[Report],
     ) -> Result<(), AllocError>
         requires { IsTrue (rules.are_of_shards (length self.old.region.slots) told.now) }
-        ensures { OnOk result (self.new ≡ rules.learns_if first around.now from.now told.now self.old) }
+        ensures ok { OnOk result (self.new ≡ rules.learns_if first around.now from.now told.now self.old) }
+        ensures lost { OnErr result (self.new ≡ rules.ends_table self.old) }
     {
         if !first {
             return Ok(());

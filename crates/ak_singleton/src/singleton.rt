@@ -1,4 +1,4 @@
-ghost use Rattle.std.specs.Prelude.{◌≡◌, ◌<◌, ◌≤◌, IfOk, IfSome, OnOk, OnErr, None, Some, option_copied};
+ghost use Rattle.std.specs.Prelude.{◌≡◌, ◌≢◌, ◌<◌, ◌≤◌, IfOk, IsOk, IfSome, OnOk, OnErr, None, Some, option_copied};
 ghost use Rattle.ak_address.specs.Uniques.{no_one};
 ghost use Rattle.ak_promise.specs.Promise.{Answers, answer_to, asked, bound, is_last, is_some_ballot, released_by};
 ghost use Rattle.ak_singleton.specs.Singleton.{unasked, only, is_some_process, is_candidate, is_holder_finished, needed_but, next_term, own_ballot, opened, closed, renewed, takes_part, may_open_after, may_open, rule_of, tick_rule, after_rule, steps_of, is_first_grant, after_granted, is_asking, is_outdone, after_old, active_term, ended, may_activate, after_activation};
@@ -280,7 +280,7 @@ impl Singleton {
     }
 
     /// The ballot was handed over by its process with a floor: the answer and what is promised then are those of
-    /// `Promise::release`. After an error it is as it was.
+    /// `Promise::release`. Any other ballot than the last one changes nothing and takes no memory. After an error it is as it was.
     pub fn on_done(
         &mut self,
         alloc: Global,
@@ -289,12 +289,13 @@ impl Singleton {
     ) -> Result<bool, AllocError>
         ensures ok { IfOk result (λ released. (released ≡ is_last self.old.promise ballot.now) × (self.new ≡ record self.old { promise = released_by self.old.promise ballot.now floor.now })) }
         ensures err { OnErr result (self.new ≡ self.old) }
+        ensures other { self.old.promise.last ≢ Some ballot.now → IsOk result }
     {
         self.promise.release(alloc, ballot, floor)
     }
 
-    /// The ballot was released with a floor: the answer and what is promised then are those of `Promise::release`. After an
-    /// error it is as it was.
+    /// The ballot was released with a floor: the answer and what is promised then are those of `Promise::release`. Any other
+    /// ballot than the last one changes nothing and takes no memory. After an error it is as it was.
     pub fn on_release(
         &mut self,
         alloc: Global,
@@ -303,6 +304,7 @@ impl Singleton {
     ) -> Result<bool, AllocError>
         ensures ok { IfOk result (λ released. (released ≡ is_last self.old.promise ballot.now) × (self.new ≡ record self.old { promise = released_by self.old.promise ballot.now floor.now })) }
         ensures err { OnErr result (self.new ≡ self.old) }
+        ensures other { self.old.promise.last ≢ Some ballot.now → IsOk result }
     {
         self.promise.release(alloc, ballot, floor)
     }

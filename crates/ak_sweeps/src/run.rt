@@ -73,7 +73,7 @@ fn turn(
             Ok(true)
         }
         Err(Refused::Invalid(_)) => Ok(false),
-        Err(Refused::NoMemory) => Err(AllocError),
+        Err(Refused::NoMemory(error)) => Err(error),
     }
 }
 

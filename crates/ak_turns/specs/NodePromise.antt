@@ -72,7 +72,7 @@ fault_text (Range key) = codes "C5 " ++ key
 fault_text (BadAddress key) = codes "C6 " ++ key
 fault_text (SelfUnlisted key) = codes "C7 " ++ key
 fault_text (Repeated key) = codes "C8 " ++ key
-fault_text NoMemory = codes "memory"
+fault_text (NoMemory _) = codes "memory"
 
 abbrev pub refusal_line : List ℕ → List ℕ
 refusal_line text = codes "error 3 " ++ text ++ 10 ∷ []

@@ -62,6 +62,6 @@ fn explain_fault<N: Notes>(alloc: Global, fault: &ConfigFault, notes: &mut N) {
             key,
             b" has an address twice",
         ),
-        ConfigFault::NoMemory => {}
+        ConfigFault::NoMemory(_) => {}
     }
 }

@@ -32,6 +32,16 @@ pub(crate) enum Unloaded {
     NoMemory,
 }
 
+impl From<AllocError> for Unloaded {
+    ghost use Rattle.ak_turns.specs.declared.node.Unloaded.TheVariants.{NoMemory};
+
+    ghost from_gives = { λ _ why. why ≡ NoMemory };
+
+    fn from(_error: AllocError) -> Unloaded {
+        Unloaded::NoMemory
+    }
+}
+
 // The configuration that the file of this name is.
 fn load<F: Folder>(alloc: Global, name: &Text, folder: &mut F) -> Result<Config, Unloaded>
     ensures count { F.faults folder.old ≤ F.faults folder.new }
@@ -41,13 +51,13 @@ fn load<F: Folder>(alloc: Global, name: &Text, folder: &mut F) -> Result<Config,
     match folder.load(alloc, name, MOST_CONFIG) {
         Loaded::Bytes(bytes) => match read_config(alloc, bytes.bytes()) {
             Ok(config) => Ok(config),
-            Err(ConfigFault::NoMemory) => Err(Unloaded::NoMemory),
+            Err(ConfigFault::NoMemory(error)) => Err(error.into()),
             Err(fault) => Err(Unloaded::Refused(fault)),
         },
         Loaded::TooLarge => Err(Unloaded::TooLarge),
         Loaded::NoFile => Err(Unloaded::NoFile),
         Loaded::Failed => Err(Unloaded::Failed),
-        Loaded::NoMemory => Err(Unloaded::NoMemory),
+        Loaded::NoMemory(error) => Err(error.into()),
     }
 }
 
@@ -64,7 +74,7 @@ fn print_fault(fault: &ConfigFault, out: &mut Vec<u8>) -> Result<(), AllocError>
         ConfigFault::BadAddress(key) => print_keyed(b"C6 ", key, out),
         ConfigFault::SelfUnlisted(key) => print_keyed(b"C7 ", key, out),
         ConfigFault::Repeated(key) => print_keyed(b"C8 ", key, out),
-        ConfigFault::NoMemory => print_bytes(b"memory", out),
+        ConfigFault::NoMemory(_) => print_bytes(b"memory", out),
     }
 }
 

@@ -34,7 +34,7 @@ fn hear<L: Link>(alloc: Global, link: &mut L, buffer: &mut [u8]) -> Result<Optio
         Got::Bad(fault) => Ok(Some(Happening::Bad(fault))),
         Got::Quiet => Ok(None),
         Got::Failed => Err(End::Link),
-        Got::NoMemory => Err(End::Memory),
+        Got::NoMemory(error) => Err(error.into()),
     }
 }
 

@@ -30,7 +30,7 @@ of_eight Count n e = subst (λ (k : ℕ). (1 ≤ k) × (k ≤ 8)) (some_of 5 n e
 of_eight Order n e = subst (λ (k : ℕ). (1 ≤ k) × (k ≤ 8)) (some_of 6 n e) (omega arith, omega arith)
 of_eight Range n e = subst (λ (k : ℕ). (1 ≤ k) × (k ≤ 8)) (some_of 7 n e) (omega arith, omega arith)
 of_eight Trailing n e = subst (λ (k : ℕ). (1 ≤ k) × (k ≤ 8)) (some_of 8 n e) (omega arith, omega arith)
-of_eight NoMemory n e = absurd (not_None n (sym e))
+of_eight (NoMemory _) n e = absurd (not_None n (sym e))
 
 numbered : {A : Type 0} (r : Result A WireFault) (n : ℕ) → first_fault r ≡ Some n → (1 ≤ n) × (n ≤ 8)
 numbered (Ok x) n e = absurd (not_None n (sym e))

@@ -296,7 +296,7 @@ fn a_fault_shows_as_its_code(rt: HostRuntime) -> Result<(), Fail> {
         (WireFault::Order, "W6"),
         (WireFault::Range, "W7"),
         (WireFault::Trailing, "W8"),
-        (WireFault::NoMemory, "memory"),
+        (WireFault::NoMemory(AllocError), "memory"),
     ];
     for (fault, code) in &faults {
         assert!(rt; shows_as(rt.alloc(), fault, code)?, "{code}");

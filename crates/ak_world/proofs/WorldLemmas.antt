@@ -22,7 +22,6 @@ use Rattle.ak_wire.specs.declared.action.Action.{Action}
 use Rattle.ak_wire.specs.declared.action.Action.TheVariants as action
 use Rattle.ak_wire.specs.declared.action.Action.TheVariants.{Send, Update}
 use Rattle.ak_world.specs.declared.world.Refused.{Refused}
-use Rattle.ak_world.specs.declared.world.Refused as refused
 use Rattle.ak_world.specs.declared.world.Reason as reason
 use Rattle.ak_world.specs.declared.world.Step.{Step}
 use Rattle.ak_history.specs.History.{entries_of}
@@ -35,7 +34,7 @@ use Rattle.ak_wire.specs.Wire.{sent, effects_of, envelope_of, put}
 use Rattle.ak_wire.proofs.Sending.{sent-append}
 use Rattle.ak_world.proofs.IndexLemmas.{set_at, push_at}
 use Rattle.ak_world.proofs.WhatHappened.{begins, steps, nobody, IsAnswer, happened}
-use Rattle.ak_world.specs.WorldContracts.{states, IsReady, Went, Keeps, IsAccepted, Scenes}
+use Rattle.ak_world.specs.WorldContracts.{states, IsReady, Went, Keeps, IsAccepted, IsNoMemory, Scenes}
 
 -- ---- what actions send and record, by parts
 -- one more action
@@ -240,8 +239,8 @@ pub accepted-too : (a b : Result Done reason.Reason) → b ≡ a → IsAccepted 
 accepted-too a b same accepted = (accepted.0, same ∙ accepted.1)
 
 -- memory ran out at an event that is accepted
-pub ran-out : (w v : WorldState) (a : Result Done reason.Reason) (r : Result Step Refused) (why : Refused) → IsAccepted a → r ≡ Err why → why ≡ refused.TheVariants.NoMemory → Scenes w a r v
-ran-out w v a r why accepted is none = subst (λ x. Scenes w a x v) (sym (is ∙ ap done none)) accepted
+pub ran-out : (w v : WorldState) (a : Result Done reason.Reason) (r : Result Step Refused) (why : Refused) → IsAccepted a → r ≡ Err why → IsNoMemory why → Scenes w a r v
+ran-out w v a r why accepted is none = subst (λ x. Scenes w a x v) (sym (is ∙ ap done none.1)) accepted
   where
     done : Refused → Result Step Refused
     done f = Err f
@@ -285,7 +284,7 @@ went-kept w u v index e n m actions s at state_is actions_are between kept =
 -- the same of both answers: what is not kept ran out of memory
 pub kept-scenes : (w u v : WorldState) (index : ℕ) (e : NodeEvent) (n m : State) (actions : List Action) (r : Result Step Refused)
     → slice_get w.nodes index ≡ Some n → m ≡ (step e n).0 → actions ≡ (step e n).1 → u ≡ record w { nodes = set w.nodes index m }
-    → IfOk r (λ s. Keeps index (me_of m) actions u s v) → IfErr r (λ why. why ≡ refused.TheVariants.NoMemory)
+    → IfOk r (λ s. Keeps index (me_of m) actions u s v) → IfErr r IsNoMemory
     → Scenes w (gives e index (slice_get w.nodes index) w) r v
 kept-scenes w u v index e n m actions (Ok s) at state_is actions_are between kept none = went-kept w u v index e n m actions s at state_is actions_are between kept
 kept-scenes w u v index e n m actions (Err why) at state_is actions_are between kept none =

@@ -1,4 +1,5 @@
 -- Words of the contracts of a world's calls.
+use Rattle.std.specs.declared.alloc.AllocError.{AllocError}
 use Rattle.std.specs.Prelude.{◌≡◌, ℕ, ◌+◌, ◌^◌, ◌<◌, ◌≤◌, Bool, true, false, List, [], ◌∷◌, ◌++◌, map, length, slice_get, Option, None, Some, Result, Ok, Err, ⊤}
 use Rattle.ak_address.specs.Unique.{UniqueModel}
 use Rattle.ak_schedule.specs.Settings.{SettingsModel}
@@ -12,7 +13,7 @@ use Rattle.ak_world.specs.declared.world.Refused as refused
 use Rattle.ak_node.specs.declared.node.State.{State}
 use Rattle.ak_node.specs.declared.node.NodeEvent.{NodeEvent}
 use Rattle.ak_node.specs.NodeContracts.{NodeModel}
-use Rattle.ak_world.specs.World.{WorldState, Done, node_of, gives, acts, happens, recorded, run}
+use Rattle.ak_world.specs.World.{WorldState, Done, node_of, gives, acts, happens, recorded, empty_world, run}
 use Rattle.ak_world.specs.Margin.{IsMargin}
 use Rattle.ak_world.specs.Double.{Doubled, IsFirstDouble}
 use Rattle.ak_world.specs.declared.double.Double.{Double}
@@ -72,11 +73,15 @@ pub record Stayed (old : WorldState) (answer : Result Done Reason) (why : Reason
 abbrev pub IsAccepted : Result Done Reason → Type 0
 IsAccepted answer = (done : Done) × (answer ≡ Ok done)
 
+-- memory ran out
+abbrev pub IsNoMemory : Refused → Type 0
+IsNoMemory why = (error : AllocError) × (why ≡ refused.TheVariants.NoMemory error)
+
 -- What a call answered and left is what the definitions answer. Memory runs out only where the event is accepted.
 abbrev pub Scenes : WorldState → Result Done Reason → Result Step Refused → WorldState → Type 0
 Scenes old answer (Ok step) new = Went old answer step new
 Scenes old answer (Err (refused.TheVariants.Invalid why)) new = Stayed old answer why new
-Scenes old answer (Err refused.TheVariants.NoMemory) new = IsAccepted answer
+Scenes old answer (Err (refused.TheVariants.NoMemory _)) new = IsAccepted answer
 
 -- Which node acts, or why none does: the same for every event that the process may be given.
 abbrev pub Acts : UniqueModel → WorldState → Result ℕ Reason → Type 0
@@ -103,27 +108,29 @@ pub record Refuses (event : Event) (old : WorldModel) (why : Reason) (new : Worl
   pub unchanged : new ≡ old
 
 -- Memory ran out, at an event that is accepted or because the world was spent before. The world is spent: it still shows
--- its settings and the events that it accepted.
+-- its settings and the events that it accepted, and nothing else has happened in it any more.
 pub record Spends (event : Event) (old new : WorldModel) : Type 0 where
   pub accepted : old.spent ≡ false → IsAccepted (happens old.settings event old.state)
   pub spent : new.spent ≡ true
   pub same_settings : new.settings ≡ old.settings
   pub same_events : new.events ≡ old.events
+  pub emptied : new.state ≡ empty_world
 
 -- what a call of `apply` answered, by cases
 abbrev pub Applies : Event → WorldModel → Result Step Refused → WorldModel → Type 0
 Applies event old (Ok step) new = Accepts event old step new
 Applies event old (Err (refused.TheVariants.Invalid why)) new = Refuses event old why new
-Applies event old (Err refused.TheVariants.NoMemory) new = Spends event old new
+Applies event old (Err (refused.TheVariants.NoMemory _)) new = Spends event old new
 
 -- a double as the definitions know it
 abbrev pub doubled_of : Double → Doubled
 doubled_of d = record { entity = d.entity; active = d.first; started = d.second; step = d.step }
 
--- what is true of what a world keeps: it is the run of its events, unless it is spent; the marks are the margin and the first double
+-- what is true of what a world keeps: it is the run of its events, unless it is spent, and then it is empty; the marks are the margin and the first double
 -- of its events; and each process that was started has a uid from 1 on, as the type of a process says
 pub record IsWorld (settings : SettingsModel) (w : WorldState) (events : List Event) (margin : Margin) (double : Option Doubled) (spent : Bool) : Type 0 where
   pub is_run : spent ≡ false → w ≡ run settings events
+  pub is_empty : spent ≡ true → w ≡ empty_world
   pub is_margin : IsMargin settings events margin
   pub is_double : IsFirstDouble settings events double
   pub uids : HaveUids (run settings events)

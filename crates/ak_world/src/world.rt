@@ -24,7 +24,7 @@ ghost use Rattle.ak_node.specs.Node as rules_of_nodes;
 ghost use Rattle.ak_node.specs.Sends.{AreValid, ComesValid};
 ghost use Rattle.ak_world.specs.Double.{IsFirstDouble};
 ghost use Rattle.ak_world.specs.Homes.{HasOneHome};
-ghost use Rattle.ak_world.specs.WorldContracts.{AreSpelled, Applies, Scenes, IsReady, Acts, Keeps, states, state_of, doubled_of};
+ghost use Rattle.ak_world.specs.WorldContracts.{AreSpelled, Applies, Scenes, IsNoMemory, IsReady, Acts, Keeps, states, state_of, doubled_of};
 ghost use Rattle.ak_world.specs.DoubleMark.{NextDouble};
 ghost use Rattle.ak_node.specs.NodeContracts.{NodeModel};
 
@@ -69,7 +69,7 @@ pub enum Refused {
     /// The event may not happen in this world.
     Invalid(Reason),
     /// Memory ran out; the event may happen.
-    NoMemory,
+    NoMemory(AllocError),
 }
 
 /// What an event did: the acting node, by its start number from 0 on, or none for a delivery that reached nobody;
@@ -206,9 +206,7 @@ impl Scene {
             Ok(index) => index,
             Err(why) => return Err(Refused::Invalid(why)),
         };
-        let Ok(target) = target.copy(alloc) else {
-            return Err(Refused::NoMemory);
-        };
+        let target = target.copy(alloc)?;
         self.give(alloc, index, NodeEvent::Join(target))
     }
 
@@ -221,9 +219,7 @@ impl Scene {
             Ok(index) => index,
             Err(why) => return Err(Refused::Invalid(why)),
         };
-        let Ok(member) = member.copy(alloc) else {
-            return Err(Refused::NoMemory);
-        };
+        let member = member.copy(alloc)?;
         self.give(alloc, index, NodeEvent::Leave(member))
     }
 
@@ -236,9 +232,7 @@ impl Scene {
             Ok(index) => index,
             Err(why) => return Err(Refused::Invalid(why)),
         };
-        let Ok(member) = member.copy(alloc) else {
-            return Err(Refused::NoMemory);
-        };
+        let member = member.copy(alloc)?;
         self.give(alloc, index, NodeEvent::Down(member))
     }
 
@@ -257,9 +251,7 @@ impl Scene {
             Ok(index) => index,
             Err(why) => return Err(Refused::Invalid(why)),
         };
-        let Ok(entity) = entity.copy(alloc) else {
-            return Err(Refused::NoMemory);
-        };
+        let entity = entity.copy(alloc)?;
         self.give(alloc, index, NodeEvent::Offer(entity, payload))
     }
 
@@ -342,7 +334,7 @@ impl Scene {
         requires index { index < length self.old.nodes.items }
         ensures settings { self.new.settings ≡ self.old.settings }
         ensures kept { (n : State) → slice_get (state_of self.old).nodes index ≡ Some n → IfOk result (λ step. Keeps index (rules_of_nodes.me_of n) actions (state_of self.old) step (state_of self.new)) }
-        ensures refused { IfErr result (λ why. why ≡ Refused.NoMemory) }
+        ensures refused { IfErr result IsNoMemory }
     {
         let first_packet = self.next_packet();
         keep_packets(actions.as_slice(), &mut self.packets)?;
@@ -376,6 +368,17 @@ impl Scene {
             Event::Offer(who, entity, payload) => self.offer(alloc, who, entity, *payload),
             Event::Stop(who) => self.act(alloc, who, NodeEvent::Stop),
         }
+    }
+
+    // Nothing has happened any more. What is kept is given back.
+    fn clear(&mut self, alloc: Global)
+        ensures settings { self.new.settings ≡ self.old.settings }
+        ensures empty { state_of self.new ≡ rules.empty_world }
+    {
+        self.nodes.clear();
+        self.packets.clear();
+        self.history = History::empty(alloc);
+        self.founded = false;
     }
 
     // Whether the margin was kept, after a step of this number.
@@ -479,20 +482,18 @@ fn keep_entries(
 impl From<AllocError> for Refused {
     ghost use Rattle.ak_world.specs.declared.world.Refused.TheVariants.{NoMemory};
 
-    ghost from_gives = { λ _ e. e ≡ NoMemory };
+    ghost from_gives = { λ error refused. refused ≡ NoMemory error };
 
-    fn from(_error: AllocError) -> Refused {
-        Refused::NoMemory
+    fn from(error: AllocError) -> Refused {
+        Refused::NoMemory(error)
     }
 }
 
 impl<T: Drop> From<AllocFailed<T>> for Refused {
-    ghost use Rattle.ak_world.specs.declared.world.Refused.TheVariants.{NoMemory};
+    ghost from_gives = { λ _ refused. IsNoMemory refused };
 
-    ghost from_gives = { λ _ e. e ≡ NoMemory };
-
-    fn from(_error: AllocFailed<T>) -> Refused {
-        Refused::NoMemory
+    fn from(error: AllocFailed<T>) -> Refused {
+        Refused::NoMemory(error.into())
     }
 }
 
@@ -565,13 +566,15 @@ fn count_of(events: &[KeptEvent]) -> u64
 }
 
 /// A world: the run of its settings over the events that it accepted. Once out of memory it is spent: it still shows its
-/// settings and the events that it accepted, and each later event answers that it is out of memory.
+/// settings, the events that it accepted, and the margin and the first double of these; its nodes, packets and history are empty;
+/// and each later event answers that it is out of memory.
 #[derive(Drop)]
 pub struct World {
     scene: Scene,
     accepted: Vec<KeptEvent>,
     marks: Marks,
-    is_spent: bool,
+    // The error with which it ran out of memory.
+    failed: Option<AllocError>,
 }
 
 impl Model for World {
@@ -585,6 +588,7 @@ impl Model for World {
     ghost use Rattle.ak_wire.specs.Stored.{coded_counts};
     ghost use Rattle.ak_singleton.specs.SingletonView.{coded_singleton};
     ghost use Rattle.ak_sharding.specs.ShardingView.{coded_sharding};
+    ghost use Rattle.std.specs.Prelude.{is_some};
     ghost use Rattle.std.specs.Option.{option_map};
     ghost use Rattle.ak_world.specs.WorldContracts.{WorldModel, state_of, doubled_of, IsWorld};
 
@@ -592,9 +596,9 @@ impl Model for World {
 
     ghost coded = { Prim.hlevel (codes, coded_address, coded_unique, coded_uniques, coded_settings, coded_gossip, coded_ballot, coded_counts, membership.the_row.coded, coded_singleton, coded_sharding) };
 
-    ghost view = { λ w. record { settings = w.scene.settings; state = state_of w.scene; events = w.accepted.items; spent = w.is_spent } };
+    ghost view = { λ w. record { settings = w.scene.settings; state = state_of w.scene; events = w.accepted.items; spent = is_some w.failed } };
 
-    ghost invariant = { λ w. IsWorld w.scene.settings (state_of w.scene) w.accepted.items w.marks.margin (option_map doubled_of w.marks.double) w.is_spent };
+    ghost invariant = { λ w. IsWorld w.scene.settings (state_of w.scene) w.accepted.items w.marks.margin (option_map doubled_of w.marks.double) (is_some w.failed) };
 }
 
 impl World {
@@ -616,7 +620,7 @@ impl World {
                 margin: Margin::Kept,
                 double: None,
             },
-            is_spent: false,
+            failed: None,
         }
     }
 
@@ -676,8 +680,8 @@ impl World {
     {
         self.scene.settings.invariant();
         start_has_uid(event);
-        if self.is_spent {
-            return Err(Refused::NoMemory);
+        if let Some(error) = self.failed {
+            return Err(error.into());
         }
         match self.scene.happens(alloc, event) {
             Ok(step) => {
@@ -689,15 +693,17 @@ impl World {
                     &mut self.accepted,
                     &mut self.marks,
                 );
-                if kept.is_ok() {
-                    return Ok(step);
+                if let Err(error) = kept {
+                    self.scene.clear(alloc);
+                    self.failed = Some(error);
+                    return Err(error.into());
                 }
-                self.is_spent = true;
-                Err(Refused::NoMemory)
+                Ok(step)
             }
-            Err(Refused::NoMemory) => {
-                self.is_spent = true;
-                Err(Refused::NoMemory)
+            Err(Refused::NoMemory(error)) => {
+                self.scene.clear(alloc);
+                self.failed = Some(error);
+                Err(error.into())
             }
             Err(Refused::Invalid(why)) => Err(Refused::Invalid(why)),
         }

@@ -71,7 +71,7 @@ fn try_event(alloc: Global, world: &mut World, event: &Event) -> Result<Outcome,
     match world.apply(alloc, event) {
         Ok(step) => Ok(Outcome::Acts(step.node)),
         Err(Refused::Invalid(why)) => Ok(Outcome::Refused(why)),
-        Err(Refused::NoMemory) => Err("out of memory")?,
+        Err(Refused::NoMemory(_)) => Err("out of memory")?,
     }
 }
 

@@ -15,13 +15,13 @@ pub returns-clause-read : goal.returns-clause-read
 returns-clause-read c =
     let bytes = c.args.bytes.now in
     let checked : ChecksPort (before_byte 58 bytes) (after_byte 58 bytes) (Ok c.in_ok-port.port) = rw (c.split_at_byte.ensures.before, c.split_at_byte.ensures.after) at (c.in_ok-port.ensures {u = tt}) in
-    address_read bytes (record { host = c.in-Ok.host; port = c.in_ok-port.port }) (c.in-Ok.ensures {u = tt} ∙ c.split_at_byte.ensures.before) checked
+    address_read bytes (record { host = c.in_ok-host.host; port = c.in_ok-port.port }) (c.in_ok-host.ensures {u = tt} ∙ c.split_at_byte.ensures.before) checked
 
 pub returns-clause-only : goal.returns-clause-only
 returns-clause-only c = λ a spelt. address_same c.args.bytes.now _ a (returns-clause-read c) spelt
 
-pub returns-in_default-clause-memory : goal.returns-in_default-clause-memory
-returns-in_default-clause-memory c =
+pub returns-in_err-host-clause-memory : goal.returns-in_err-host-clause-memory
+returns-in_err-host-clause-memory c =
     λ _.
     let bytes = c.args.bytes.now in
     let checked : ChecksPort (before_byte 58 bytes) (after_byte 58 bytes) (Ok c.in_ok-port.port) = rw (c.split_at_byte.ensures.before, c.split_at_byte.ensures.after) at (c.in_ok-port.ensures {u = tt}) in

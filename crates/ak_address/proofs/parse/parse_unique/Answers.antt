@@ -29,13 +29,13 @@ returns-clause-read c =
     let found = c.in-Some.ensures.found in
     let rest : c.split_at_byte-2.result.1.now ≡ after_byte 35 (after_byte 58 bytes) = c.split_at_byte-2.ensures.after ∙ ap (λ (b : List ℕ). after_byte 35 b) c.split_at_byte.ensures.after in
     let uid : IsNumber (after_byte 35 (after_byte 58 bytes)) c.in-Some.uid = rw rest at found.0 in
-    unique_read bytes (record { address = record { host = c.in-Ok.host; port = c.in_ok-port.port }; uid = c.in-Some.uid }) (c.in-Ok.ensures {u = tt} ∙ c.split_at_byte.ensures.before) checked uid (omega arith) (omega arith)
+    unique_read bytes (record { address = record { host = c.in_ok-host.host; port = c.in_ok-port.port }; uid = c.in-Some.uid }) (c.in_ok-host.ensures {u = tt} ∙ c.split_at_byte.ensures.before) checked uid (omega arith) (omega arith)
 
 pub returns-clause-only : goal.returns-clause-only
 returns-clause-only c = λ u spelt. unique_same c.args.bytes.now _ u (returns-clause-read c) spelt
 
-pub returns-in_default-from_bytes-clause-memory : goal.returns-in_default-from_bytes-clause-memory
-returns-in_default-from_bytes-clause-memory c =
+pub returns-in_err-host-clause-memory : goal.returns-in_err-host-clause-memory
+returns-in_err-host-clause-memory c =
     λ _.
     let bytes = c.args.bytes.now in
     let checked : ChecksPort (before_byte 58 bytes) (before_byte 35 (after_byte 58 bytes)) (Ok c.in_ok-port.port) = rw (c.split_at_byte.ensures.before, c.split_at_byte-2.ensures.before, c.split_at_byte.ensures.after) at (c.in_ok-port.ensures {u = tt}) in

@@ -3,8 +3,11 @@ use Rattle.ak_schedule.specs.Kind.{kind_name}
 use Rattle.ak_schedule.specs.declared.kind.Kind as kind
 use Rattle.ak_schedule.specs.Schedule.{SpellsWords}
 use Rattle.ak_address.specs.Spelling.{SpellsUnique}
-use Rattle.std.proofs.Common.{◌∷◌, ap, codes, refl}
+use Rattle.std.proofs.Common.{◌∷◌, ap, codes, refl, sym, subst, Err}
+use Rattle.ak_schedule.specs.declared.event.Event.{Event}
 use Rattle.ak_schedule.specs.declared.event.Event.TheVariants.{Offer}
+use Rattle.ak_schedule.specs.declared.fault.LineFault.{LineFault}
+use Rattle.ak_schedule.specs.Reading.{Reads}
 use Rattle.ak_schedule.proofs.EventWords.{refused, offer_at}
 use Rattle.ak_schedule.proofs.read.read_offer.Goals as goal
 
@@ -17,4 +20,5 @@ returns-in-Err c =
 
 pub returns-in-Err-from_bytes : goal.returns-in-Err-from_bytes
 returns-in-Err-from_bytes c =
-    (Offer c.in-Ok.who c.in-Some.entity.now c.in-Some-number_of.payload, (c.in-Some.who.now, c.in-Some.payload.now, ap (λ l. codes "offer" ∷ l) c.in-Some.ensures, c.in-Ok.ensures, c.if-not-is_entity.ensures.0 refl, c.in-Some-number_of.ensures))
+    let some : (e : Event) × SpellsWords (kind_name kind.TheVariants.Offer ∷ words c.args.rest.now) e = (Offer c.in-Ok.who c.in-Some.entity.now c.in-Some-number_of.payload, (c.in-Some.who.now, c.in-Some.payload.now, ap (λ l. codes "offer" ∷ l) c.in-Some.ensures, c.in-Ok.ensures, c.if-not-is_entity.ensures.0 refl, c.in-Some-number_of.ensures)) in
+    subst (λ (fault : LineFault). Reads (SpellsWords (kind_name kind.TheVariants.Offer ∷ words c.args.rest.now)) (Err fault)) (sym c.into.ensures) some

@@ -2,7 +2,7 @@ use Rattle.std.proofs.Common.{subst, sym, true≢false}
 use Rattle.ak_membership.specs.Knowledge.{nothing_given}
 use Rattle.ak_membership.specs.declared.state.MembershipState.{MembershipState}
 use Rattle.ak_membership.specs.Membership.{leave}
-use Rattle.ak_membership.specs.MembershipContracts.{IsSameProcess, Answers, IsAccepted}
+use Rattle.ak_membership.specs.MembershipContracts.{IsSameProcess, Answers, IsAccepted, IsCounting}
 use Rattle.ak_membership.proofs.MembershipLemmas.{answered_keeps, answered_same}
 use Rattle.ak_membership.proofs.Walk.{leave_learns}
 use Rattle.ak_membership.proofs.membership.Membership.leave.Goals as goal
@@ -14,7 +14,7 @@ invariant_of-self c = (
 )
 
 pub returns-clause-answers : goal.returns-clause-answers
-returns-clause-answers c = subst (λ (m : MembershipState). Answers (IsAccepted (leave c.args.who.now m)) (leave c.args.who.now m) m c.leave.result c.leave.new.self) c.self.view_is c.leave.ensures
+returns-clause-answers c = subst (λ (m : MembershipState). Answers (IsCounting m × IsAccepted (leave c.args.who.now m)) (leave c.args.who.now m) m c.leave.result c.leave.new.self) c.self.view_is c.leave.ensures
 
 pub returns-clause-same : goal.returns-clause-same
 returns-clause-same c = subst (λ (m : MembershipState). IsSameProcess m c.leave.new.self) c.self.view_is (answered_same c.self.inside.state c.leave.new.self nothing_given _ _ c.leave.result (leave_learns nothing_given c.self.inside.state c.args.who.now) c.leave.ensures)

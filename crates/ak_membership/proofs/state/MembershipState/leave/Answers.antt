@@ -7,4 +7,4 @@ raise-requires c = may_leave c.args.self.now c.invariant.ensures c.args.who.now 
 pub returns : goal.returns
 returns c =
     answered_or _ _ c.args.self.now c.raise.new.self c.raise.result c.or_no_memory.result c.or_no_memory.ensures
-    (leaves c.args.who.now c.args.self.now c.if-not-is_member.ensures c.if-not-has_member.ensures c.if-not-is_up.ensures) c.raise.ensures.ok c.raise.ensures.err
+    (leaves c.args.who.now c.args.self.now c.if-not-is_member.ensures c.if-not-has_member.ensures c.if-not-is_up.ensures) c.raise.ensures.ok _ (λ counting. counting) c.raise.ensures.err

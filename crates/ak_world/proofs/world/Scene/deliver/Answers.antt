@@ -42,7 +42,7 @@ returns-in_err-actions-clause-scenes c =
     let packet : numbered c.args.self.now.packets.items c.args.number ≡ Some c.in-Some.packet.now =
     sym (ap (λ (ps : List Envelope). numbered ps c.args.number) c.deref.ensures.value) ∙ sym c.in-Some.ensures in
     let p = err_from_is_err_and c.from_residual.result c.from_residual.ensures.1 in
-    ran-out (state_of c.args.self.now) _ _ _ p.0 (delivery-accepted (state_of c.args.self.now) c.args.number c.in-Some.packet.now packet (sym c.is_full-is_full.ensures ∙ c.if-is_full.false)) p.1 p.2
+    ran-out (state_of c.args.self.now) _ _ _ p.0 (delivery-accepted (state_of c.args.self.now) c.args.number c.in-Some.packet.now packet (sym c.is_full-is_full.ensures ∙ c.if-is_full.false)) p.1 (_, p.2)
 
 pub returns-in_default-receiver_of-clause-scenes : goal.returns-in_default-receiver_of-clause-scenes
 returns-in_default-receiver_of-clause-scenes c =

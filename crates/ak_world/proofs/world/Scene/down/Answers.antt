@@ -1,8 +1,11 @@
 use Rattle.ak_node.specs.declared.node.NodeEvent.TheVariants.{Down}
 use Rattle.ak_world.specs.WorldContracts.{state_of}
-use Rattle.ak_world.proofs.WorldLemmas.{accepted-too, given-accepted}
+use Rattle.std.proofs.lemmas.Result.{err_from_is_err_and}
+use Rattle.ak_world.proofs.WorldLemmas.{accepted-too, given-accepted, ran-out}
 use Rattle.ak_world.proofs.world.Scene.down.Goals as goal
 
-pub returns-in_default-clause-scenes : goal.returns-in_default-clause-scenes
-returns-in_default-clause-scenes c =
-    accepted-too _ _ (c.in-Ok.ensures.1 (Down c.args.member.now)) (given-accepted (Down c.args.member.now) c.in-Ok.index (state_of c.args.self.now) c.in-Ok.ensures.0)
+pub returns-in_err-member-clause-scenes : goal.returns-in_err-member-clause-scenes
+returns-in_err-member-clause-scenes c =
+    let p = err_from_is_err_and c.from_residual.result c.from_residual.ensures.1 in
+    ran-out (state_of c.args.self.now) _ _ _ p.0
+    (accepted-too _ _ (c.in-Ok.ensures.1 (Down c.args.member.now)) (given-accepted (Down c.args.member.now) c.in-Ok.index (state_of c.args.self.now) c.in-Ok.ensures.0)) p.1 (_, p.2)
