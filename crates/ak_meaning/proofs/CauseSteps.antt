@@ -46,6 +46,7 @@ use Rattle.ak_wire.specs.declared.envelope.Message.{Message}
 use Rattle.ak_wire.specs.declared.envelope.Message.TheVariants as message
 use Rattle.ak_meaning.specs.Causes as cause
 use Rattle.ak_meaning.specs.Causes.{IsCause, LeadsSettled, TicksNow, members_at}
+use Rattle.ak_meaning.proofs.DecisionLemmas.{decision_presupposes}
 use Rattle.ak_meaning.proofs.MembershipOf.{allowed, told_to, given_to}
 
 -- ---- effects that an outcome tells
@@ -193,7 +194,8 @@ module _ (n : State) (ev : NodeEvent) where
     decides_it : decides m ≡ true → (x : Effect) → Contains (decided m) x → Why x
     decides_it is x there =
         let d = downed_has (is_against (decide m.settings.strategy m.gossip.view m.me) (unreachable_members m.gossip.view) m.me) (members_of m.gossip.view.standings) x there in
-        subst Why (sym d.4) (cause.IsCause.downs_decided d.0.0 ticks (record { decides = is; downed = subst (Contains (decided m)) d.4 there }))
+        let before = decision_presupposes n is in
+        subst Why (sym d.4) (cause.IsCause.downs_decided d.0.0 ticks (record { decides = is; counted = before.0; lost = before.1; downed = subst (Contains (decided m)) d.4 there }))
 
     updated_why : All Why (updates m)
     updated_why =

@@ -4,8 +4,10 @@ pub mod RingLaws
 pub mod SilenceLaws
 pub mod MembershipOf
 pub mod WhatCame
+pub mod SightLemmas
 pub mod StandstillSteps
 pub mod StandstillRuns
+pub mod DecisionLemmas
 pub mod CauseSteps
 pub mod CauseRuns
 pub mod ReceivedLaws

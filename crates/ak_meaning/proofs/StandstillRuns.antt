@@ -34,6 +34,7 @@ use Rattle.ak_meaning.specs.Standstill.{IsAt, TicksAt, TicksBetween, StoodStill,
 use Rattle.ak_meaning.proofs.CauseSteps.{told_why}
 use Rattle.ak_meaning.proofs.MembershipOf.{step_told}
 use Rattle.ak_meaning.proofs.CountingLemmas.{once_none, once_more}
+use Rattle.ak_meaning.proofs.SightLemmas.{shown_alike}
 use Rattle.ak_meaning.proofs.StandstillSteps.{member_ticks, step_still}
 use Rattle.ak_meaning.proofs.WhatCame.{IsAnswer, starts_now, steps, nobody, came, take_end, run_next}
 
@@ -223,7 +224,8 @@ decision_stood settings events index time d = by_answer (happens settings (Tick 
         record {
           from = r.from;
           earlier = r.earlier;
-          same = λ between a b first last at_a at_b who. r.same between a first last at_a who ∙ ap (λ (x : State). sight (known x).view who) (same_Some n b (sym at ∙ at_b));
+          same = λ between a b first last at_a at_b who.
+              shown_alike (known a).view (known b).view who (r.same between a first last at_a who ∙ ap (λ (x : State). sight (known x).view who) (same_Some n b (sym at ∙ at_b)));
           ticks = record {
             some = time ∷ r.ticked;
             them = λ t there. elim (first_or_rest time t r.ticked there) [

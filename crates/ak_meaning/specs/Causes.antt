@@ -1,7 +1,7 @@
 -- Why each entry of a run was made: at which step, by which node, on which event, and for what cause (Akka's Cluster
 -- Specification, "Membership Lifecycle", "Leader" and "Failure Detector"; Split Brain Resolver; that only settled views have a
 -- leader that acts, and the founding, are this project's choice).
-use Rattle.std.specs.Prelude.{◌≡◌, ◌⊎◌, ℕ, ◌+◌, ◌<◌, ◌≤◌, false, true, take, List, Some, Contains, IsTrue}
+use Rattle.std.specs.Prelude.{◌≡◌, ◌≢◌, ◌⊎◌, ℕ, ◌+◌, ◌<◌, ◌≤◌, false, true, take, List, Some, Contains, IsTrue}
 use Rattle.ak_address.specs.Distinct.{distinct}
 use Rattle.ak_address.specs.Unique.{UniqueModel}
 use Rattle.ak_address.specs.Uniques.{has}
@@ -13,7 +13,9 @@ use Rattle.ak_leader.specs.Leader.{leader}
 use Rattle.ak_leader.specs.Led.{IsMemberWith}
 use Rattle.ak_member.specs.declared.effect.Effect.{Effect}
 use Rattle.ak_member.specs.declared.effect.Effect.TheVariants.{Joined, Rise, Removed, Observed}
+use Rattle.ak_member.specs.declared.status.Status.{Status}
 use Rattle.ak_member.specs.declared.status.Status.TheVariants.{Joining, Up, Leaving, Exiting, Down}
+use Rattle.ak_member.specs.Age.{counts}
 use Rattle.ak_member.specs.Standing.{Standings, is_member}
 use Rattle.ak_membership.specs.Tick.{decides, joining_addresses, silent}
 use Rattle.ak_node.specs.declared.node.NodeEvent.{NodeEvent}
@@ -76,9 +78,27 @@ pub record Founds (n : State) : Type 0 where
   pub agreed : IsTrue (is_converged (known n).view (known n).seen)
   pub enough : settling_size n.membership.settings.strategy ≤ distinct (joining_addresses (members_at n))
 
--- its resolver's turn has come, and the decision downs this process
+-- some process is a member with a status that counts
+pub record SomebodyCounts (n : State) : Type 0 where
+  pub who : UniqueModel
+  pub status : Status
+  pub member : IsMemberWith (members_at n) who status
+  pub counts : IsTrue (counts status)
+
+-- some process other than the node itself is a member, is not Down, and is unreachable
+pub record SomebodyIsLost (n : State) : Type 0 where
+  pub who : UniqueModel
+  pub other : who ≢ me_of n
+  pub status : Status
+  pub member : IsMemberWith (members_at n) who status
+  pub not_down : status ≢ Down
+  pub unreachable : IsUnreachable (known n).view who
+
+-- its resolver's turn has come, somebody counts and somebody else is lost, and the decision downs this process
 pub record DecidesAgainst (n : State) (who : UniqueModel) : Type 0 where
   pub decides : IsTrue (decides n.membership)
+  pub counted : SomebodyCounts n
+  pub lost : SomebodyIsLost n
   pub downed : Contains (downs (decide n.membership.settings.strategy (known n).view (me_of n)) (known n).view (me_of n)) (Rise who Down 0)
 
 -- ---- why a node writes an effect

@@ -1,13 +1,16 @@
 -- A resolver waits: it decides at a tick only where what the node's view shows of members has stood still for as many of its ticks
 -- as the settings ask (Akka's Split Brain Resolver, "stable-after").
-use Rattle.std.specs.Prelude.{◌≡◌, ℕ, ◌≤◌, List, length, take, slice_get, Some, Contains, IsTrue}
+use Rattle.std.specs.Prelude.{◌≡◌, ◌↔◌, ℕ, ◌≤◌, List, length, take, slice_get, Some, Contains, IsTrue}
 use Rattle.ak_address.specs.Unique.{UniqueModel}
+use Rattle.ak_leader.specs.Led.{IsMemberWith}
 use Rattle.ak_member.specs.declared.effect.Effect.{Effect}
 use Rattle.ak_member.specs.declared.effect.Effect.TheVariants.{Rise}
+use Rattle.ak_member.specs.declared.status.Status.{Status}
 use Rattle.ak_member.specs.declared.status.Status.TheVariants.{Down}
-use Rattle.ak_membership.specs.Sight.{sight}
+use Rattle.ak_member.specs.View.{View}
 use Rattle.ak_node.specs.declared.node.State.{State}
 use Rattle.ak_node.specs.Node.{known, is_member}
+use Rattle.ak_reach.specs.Unreachable.{IsUnreachable}
 use Rattle.ak_schedule.specs.Settings.{SettingsModel}
 use Rattle.ak_schedule.specs.declared.event.Event.{Event}
 use Rattle.ak_schedule.specs.declared.event.Event.TheVariants.{Tick}
@@ -42,6 +45,12 @@ pub record TicksAt (settings : SettingsModel) (events : List Event) (index time 
 abbrev pub TicksBetween : SettingsModel → List Event → ℕ → ℕ → ℕ → ℕ → Type 0
 TicksBetween settings events index from to time = (from ≤ time) × (time ≤ to) × TicksAt settings events index time
 
+-- Both views show the process as a member with the same status, or both as none; and a member is unreachable in both, or in
+-- neither.
+pub record AreShownAlike (v w : View) (who : UniqueModel) : Type 0 where
+  pub status : (status : Status) → IsMemberWith v.standings who status ↔ IsMemberWith w.standings who status
+  pub reach : (status : Status) → IsMemberWith v.standings who status → IsUnreachable v who ↔ IsUnreachable w who
+
 -- At a step the node of this number has stood still: from some time on its view has shown each process as it does now, whether it
 -- is a member, its status and whether it is unreachable; and since then it has ticked as a member at least as often as the
 -- settings ask, this step included.
@@ -49,7 +58,7 @@ pub record StoodStill (settings : SettingsModel) (events : List Event) (index ti
   pub from : ℕ
   pub earlier : from ≤ time
   pub same : (between : ℕ) (n m : State) → from ≤ between → between ≤ time → IsAt settings events between index n → IsAt settings events time index m
-      → (who : UniqueModel) → sight (known n).view who ≡ sight (known m).view who
+      → (who : UniqueModel) → AreShownAlike (known n).view (known m).view who
   pub ticks : AreAtLeast (TicksBetween settings events index from time) settings.stable
 
 -- at a tick the node of this number downs somebody

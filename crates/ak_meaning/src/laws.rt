@@ -97,8 +97,9 @@ pub fn silence_is_counted_over_runs()
 {}
 
 /// Over every list of events: a node downs somebody at a tick only where its view has stood still. From some time on it has shown
-/// each process as it does now (whether it is a member, its status, and whether it is unreachable), and since then, with this
-/// tick, the node has ticked as a member at least as often as the settings ask (Akka's Split Brain Resolver, "stable-after").
+/// each process as it does now (as a member with the same status, or as none; and a member as unreachable, or as reachable), and
+/// since then, with this tick, the node has ticked as a member at least as often as the settings ask (Akka's Split Brain
+/// Resolver, "stable-after").
 pub fn a_decision_waits_for_a_standstill()
     ensures { (settings : SettingsModel) (events : List Event) (index time : ℕ) → DownsAt settings events index time → StoodStill settings events index time }
 {}
@@ -118,9 +119,9 @@ pub fn an_accepted_gossip_leaves_the_merge()
 /// Over every list of events: each effect of each entry of the history was written at a step of its author, a running node, for a
 /// cause. It founded, or admitted who asked. A rise to Up was made by the founding or by a leader in a settled view, one to
 /// Exiting by such a leader, one to Leaving where it was asked, one to Down where it was asked, where another process at that
-/// address asked to join, or by a decision. A removal was made by such a leader: as confirmed only of one that said that it stops,
-/// and else of one that was Down and unreachable. Who founds was given the event to found the cluster before (Akka's Cluster
-/// Specification, "Membership Lifecycle").
+/// address asked to join, or by a decision, where some member counted, and another one than the author was unreachable and not
+/// Down. A removal was made by such a leader: as confirmed only of one that said that it stops, and else of one that was Down and
+/// unreachable. Who founds was given the event to found the cluster before (Akka's Cluster Specification, "Membership Lifecycle").
 pub fn each_entry_has_a_cause()
     ensures caused { (settings : SettingsModel) (events : List Event) (entry : Entry) → Contains (run settings events).history entry → (effect : Effect) → Contains entry.effects effect → IsCaused settings events entry effect }
     ensures founder { (settings : SettingsModel) (events : List Event) (time index : ℕ) (n : State) → IsAt settings events time index n → IsTrue n.membership.founder → WasToldToFound settings events index time }
