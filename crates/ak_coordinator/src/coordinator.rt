@@ -11,7 +11,7 @@ use crate::orders::{Order, orders_of};
 use crate::tick::{begin_one, hurry_each, notice_each};
 use ak_address::{Unique, Uniques};
 use ak_allocation::Load;
-use ak_schedule::Settings;
+use ak_settings::Settings;
 use ak_settled::Settled;
 use ak_shard_id::Report;
 use std::alloc::{AllocError, Global};

@@ -14,7 +14,7 @@ use crate::loads::loads_in;
 use ak_address::{Unique, Uniques};
 use ak_allocation::rebalance;
 use ak_member::Members;
-use ak_schedule::Settings;
+use ak_settings::Settings;
 use ak_settled::Settled;
 use std::alloc::{AllocError, Global};
 

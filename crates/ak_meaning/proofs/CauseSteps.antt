@@ -40,7 +40,7 @@ use Rattle.ak_node.specs.declared.node.NodeEvent.{NodeEvent}
 use Rattle.ak_node.specs.declared.node.NodeEvent.TheVariants as event
 use Rattle.ak_node.specs.declared.node.State.{State}
 use Rattle.ak_reach.specs.Unreachable.{unreachable_members}
-use Rattle.ak_schedule.specs.Settings.{is_listed, settling_size}
+use Rattle.ak_settings.specs.Settings.{is_listed, settling_size}
 use Rattle.ak_wire.specs.declared.envelope.Envelope.{Envelope}
 use Rattle.ak_wire.specs.declared.envelope.Message.{Message}
 use Rattle.ak_wire.specs.declared.envelope.Message.TheVariants as message

@@ -11,7 +11,7 @@ use Rattle.ak_member.specs.Standing.{Standings, member_of, members_of, has_statu
 use Rattle.ak_member.specs.Standing as standing
 use Rattle.ak_member.proofs.MembersLaws.{members_have}
 use Rattle.ak_gossip.proofs.InvariantLemmas.{and_first, and_second}
-use Rattle.ak_schedule.specs.Settings.{settling_size}
+use Rattle.ak_settings.specs.Settings.{settling_size}
 use Rattle.ak_converge.specs.Convergence.{is_converged}
 use Rattle.ak_leader.specs.Leader.{leaders_effects, greatest_number, founding_effects}
 use Rattle.ak_leader.specs.Led.{IsMemberWith, LedTo}

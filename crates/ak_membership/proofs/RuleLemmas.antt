@@ -21,7 +21,7 @@ use Rattle.ak_detector.specs.Detector as detector
 use Rattle.ak_detector.proofs.DetectorLaws.{silent_watched, ticked_same}
 use Rattle.ak_downing.specs.Downing.{decide, is_against}
 use Rattle.ak_leader.specs.Leader.{leader, leaders_effects, founding_effects}
-use Rattle.ak_schedule.specs.Settings.{is_listed}
+use Rattle.ak_settings.specs.Settings.{is_listed}
 use Rattle.ak_membership.specs.declared.change.Change.{Change}
 use Rattle.ak_membership.specs.declared.change.MemberFault.{MemberFault}
 use Rattle.ak_membership.specs.declared.change.MemberFault.TheVariants.{NotUp, UnknownMember, NotMember, Unlisted, TooManyUniques}

@@ -13,7 +13,7 @@ use Rattle.ak_member.specs.Standing.{members_of, is_down, is_up}
 use Rattle.ak_gossip.specs.declared.gossip.GossipFault.TheVariants as fault
 use Rattle.ak_gossip.specs.Gossip.{GossipState, is_known, accepted, noted, most_uniques}
 use Rattle.ak_gossip.proofs.InvariantLemmas.{and_first, member_known}
-use Rattle.ak_schedule.specs.Settings.{is_listed}
+use Rattle.ak_settings.specs.Settings.{is_listed}
 use Rattle.ak_reach.specs.Unreachable.{unreachable_members}
 use Rattle.ak_downing.specs.Downing.{decide, is_against}
 use Rattle.ak_leader.specs.Leader.{leaders_effects, founding_effects}

@@ -17,7 +17,7 @@ use Rattle.ak_member.specs.Standing as standing
 use Rattle.ak_gossip.specs.declared.gossip.Received as received
 use Rattle.ak_gossip.specs.declared.gossip.GossipFault as fault
 use Rattle.ak_gossip.specs.Gossip.{GossipState, nothing_known, is_known, updated, receive}
-use Rattle.ak_schedule.specs.Settings.{SettingsModel, is_listed}
+use Rattle.ak_settings.specs.Settings.{SettingsModel, is_listed}
 use Rattle.ak_downing.specs.Downing.{all_downed}
 use Rattle.ak_detector.specs.Detector.{heard}
 use Rattle.ak_settled.specs.Settled.{unsettled}

@@ -16,7 +16,7 @@ use Rattle.ak_member.specs.Standing.{Standings, is_down, members_of, is_joining}
 use Rattle.ak_member.specs.Standing as standing
 use Rattle.ak_member.specs.View.{Row}
 use Rattle.ak_reach.specs.Unreachable.{unreachable_members}
-use Rattle.ak_schedule.specs.Settings.{settling_size}
+use Rattle.ak_settings.specs.Settings.{settling_size}
 use Rattle.ak_converge.specs.Convergence.{is_converged, is_settled}
 use Rattle.ak_detector.specs.Detector as detector
 use Rattle.ak_downing.specs.Downing.{decide, downs}

@@ -3,7 +3,7 @@ ghost use Rattle.std.specs.FinMap as map;
 ghost use Rattle.ak_address.specs.Uniques.{has};
 ghost use Rattle.ak_gossip.specs.Gossip.{MayUpdate, is_known};
 ghost use Rattle.ak_member.specs.Standing as standing;
-ghost use Rattle.ak_schedule.specs.Settings.{is_listed};
+ghost use Rattle.ak_settings.specs.Settings.{is_listed};
 ghost use Rattle.ak_leader.specs.Leader as leads;
 ghost use Rattle.ak_membership.specs.Membership as rules;
 ghost use Rattle.ak_membership.specs.MembershipContracts.{Makes, Answers, IsAccepted, IsCounting, IsKnownIn, IsUnknown, MayAdmit, MayDown, RestsIf, LeavesAtRest, IsWatching, KnowsItself, Receives, or_no_memory};
@@ -24,8 +24,8 @@ use ak_downing::{decide, downs};
 use ak_gossip::{Gossip, GossipFault, Received};
 use ak_leader::{actions, founding, leader};
 use ak_member::{Effect, Effects, Status};
-use ak_schedule::{Settings, Strategy};
 use ak_select::peer;
+use ak_settings::{Settings, Strategy};
 use ak_settled::Settled;
 use std::alloc::{AllocError, Global};
 

@@ -15,7 +15,7 @@ use Rattle.ak_membership.specs.Tick as ticks
 use Rattle.ak_membership.proofs.MembershipLemmas.{waits_version, waits_standings}
 use Rattle.ak_membership.proofs.Walk.{tick_learns}
 use Rattle.ak_promise.specs.Promise.{is_some_ballot}
-use Rattle.ak_schedule.specs.Settings.{SettingsModel}
+use Rattle.ak_settings.specs.Settings.{SettingsModel}
 use Rattle.ak_address.proofs.UniquesLaws.{has-no_one}
 use Rattle.ak_field.specs.Ranges.{IsEntity}
 use Rattle.ak_promise.specs.Ballot.{BallotModel, IsBallot}

@@ -13,7 +13,7 @@ use Rattle.ak_member.specs.Standing.{is_exiting}
 use Rattle.ak_gossip.specs.Gossip.{GossipState}
 use Rattle.ak_gossip.proofs.InvariantLemmas.{and_first, and_second}
 use Rattle.ak_detector.proofs.DetectorLaws.{watched_member}
-use Rattle.ak_schedule.specs.Settings.{SettingsModel}
+use Rattle.ak_settings.specs.Settings.{SettingsModel}
 use Rattle.ak_settled.specs.Settled.{version_of, standings_of, after_note, IsCounting}
 use Rattle.ak_settled.proofs.SettledLaws.{counting_none, counting_noted}
 use Rattle.ak_settled.specs.SettledView.{SettledModel}

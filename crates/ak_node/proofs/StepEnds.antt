@@ -36,7 +36,7 @@ use Rattle.ak_membership.specs.Knowledge.{Learns, Given, nothing_given}
 use Rattle.ak_membership.specs.Tick as ticks
 use Rattle.ak_membership.proofs.Walk.{found_learns, leave_learns, down_learns, tick_learns, join_learns, gossip_learns}
 use Rattle.ak_promise.specs.Ballot.{BallotModel}
-use Rattle.ak_schedule.specs.Settings.{SettingsModel, is_listed}
+use Rattle.ak_settings.specs.Settings.{SettingsModel, is_listed}
 use Rattle.ak_settled.specs.SettledView.{SettledView, SettledModel}
 use Rattle.ak_settled.specs.Settled.{version_of, is_finished, after_tick, after_note, ticked, ending}
 use Rattle.ak_promise.specs.Promise.{is_some_ballot, released_by}

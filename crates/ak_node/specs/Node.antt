@@ -13,7 +13,7 @@ use Rattle.ak_member.specs.declared.status.Status.{Status}
 use Rattle.ak_member.specs.Standing.{member_of, members_of, tombstone_of, is_exiting}
 use Rattle.ak_member.specs.Age.{counted_pairs}
 use Rattle.ak_gossip.specs.Gossip.{GossipState}
-use Rattle.ak_schedule.specs.Settings.{SettingsModel}
+use Rattle.ak_settings.specs.Settings.{SettingsModel}
 use Rattle.ak_membership.specs.declared.change.Closing.{Closing}
 use Rattle.ak_membership.specs.declared.change.MemberFault.{MemberFault}
 use Rattle.ak_membership.specs.declared.change.MemberFault.TheVariants as fault

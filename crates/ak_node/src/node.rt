@@ -17,7 +17,7 @@ use ak_field::EntityId;
 use ak_gossip::Gossip;
 use ak_membership::{Change, Closing, Membership, Reply};
 use ak_promise::Ballot;
-use ak_schedule::Settings;
+use ak_settings::Settings;
 use ak_settled::Settled;
 use ak_sharding::Sharding;
 use ak_singleton::Singleton;

@@ -1,11 +1,11 @@
 -- Which lines are the next header.
 use Rattle.std.proofs.Common.{◌≡◌, ℕ, List, Err, subst, refl}
 use Rattle.std.specs.Prelude.{Some, slice_get}
-use Rattle.ak_schedule.specs.declared.settings.Header.{Header}
+use Rattle.ak_schedule.specs.declared.draft.Header.{Header}
 use Rattle.ak_schedule.specs.declared.fault.LineFault.{LineFault}
 use Rattle.ak_schedule.specs.declared.fault.LineFault.TheVariants.{Malformed, BadHeader, NoMemory}
 use Rattle.ak_schedule.specs.Line.{words}
-use Rattle.ak_schedule.specs.Settings.{SettingsModel}
+use Rattle.ak_settings.specs.Settings.{SettingsModel}
 use Rattle.ak_schedule.specs.Schedule.{headers, Sets}
 use Rattle.ak_schedule.specs.Draft.{Drafted, ReadsHeader, HeaderAnswers, RefusesValue}
 

@@ -4,11 +4,11 @@ use Rattle.std.specs.List.{AllZip}
 use Rattle.std.specs.Coded.{Coded, code_by, coded×, coded_ℕ}
 use Rattle.ak_address.specs.Unique.{AddressModel}
 use Rattle.ak_address.specs.Spelling.{SpellsAddress}
-use Rattle.ak_schedule.specs.declared.settings.Strategy.TheVariants.{DownAll}
-use Rattle.ak_schedule.specs.declared.settings.Header.{Header}
+use Rattle.ak_settings.specs.declared.settings.Strategy.TheVariants.{DownAll}
+use Rattle.ak_schedule.specs.declared.draft.Header.{Header}
 use Rattle.ak_schedule.specs.declared.fault.LineFault.{LineFault}
 use Rattle.ak_schedule.specs.declared.fault.LineFault.TheVariants.{Malformed, BadHeader, NoMemory}
-use Rattle.ak_schedule.specs.Settings.{SettingsModel, IsListing, IsStrategy, IsWithin, coded_settings}
+use Rattle.ak_settings.specs.Settings.{SettingsModel, IsListing, IsStrategy, IsWithin, coded_settings}
 use Rattle.ak_schedule.specs.Schedule.{headers, SetsHeader}
 
 -- how many headers are read, and the settings by then

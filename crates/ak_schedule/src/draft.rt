@@ -4,12 +4,26 @@ ghost use Rattle.ak_schedule.specs.Draft.{first_draft, HeaderAnswers};
 use crate::fault::LineFault;
 use crate::header::{read_listing, read_setting, read_strategy};
 use crate::line::MOST_BYTES;
-use crate::settings::{Settings, Strategy};
 use ak_address::Address;
+use ak_settings::{Settings, Strategy};
 use std::alloc::Global;
 use std::marker::Model;
 
 const HEADERS: u32 = 9;
+
+/// The nine header lines of a schedule, in their order.
+#[derive(Clone, Copy, Debug, PartialEq, Eq)]
+pub enum Header {
+    Listed,
+    Strategy,
+    Margin,
+    Deadline,
+    Stable,
+    Shards,
+    Buffer,
+    Threshold,
+    Limit,
+}
 
 /// The header lines of a schedule, as far as they are read. Until a line sets it a setting has a first
 /// value: no address, the strategy that downs all, and 1.

@@ -7,8 +7,8 @@ ghost use Rattle.ak_schedule.specs.Schedule.{SpellsListing, SpellsSetting, Spell
 use crate::fault::LineFault;
 use crate::kind::is_text;
 use crate::line::{next_word, one_word, two_words};
-use crate::settings::{Strategy, contains_address};
 use ak_address::{Address, AddressFault, parse_address, parse_number};
+use ak_settings::{Strategy, contains_address};
 use std::alloc::Global;
 
 const MOST_LISTED: usize = 32;

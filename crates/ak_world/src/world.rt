@@ -19,7 +19,7 @@ ghost use Rattle.ak_settled.specs.SettledView.{NotedView};
 ghost use Rattle.ak_node.specs.declared.node.State.{State};
 ghost use Rattle.ak_world.specs.InRun.{WasStarted, HasStopped, AllServe, RunAlone, IsConfirmed, IsNamedIn, IsSettled, HasNoted};
 ghost use Rattle.ak_world.specs.SettledLine.{WasSettled, IsOverHalf, AreInLine};
-ghost use Rattle.ak_schedule.specs.Settings.{settling_size};
+ghost use Rattle.ak_settings.specs.Settings.{settling_size};
 ghost use Rattle.ak_node.specs.Node as rules_of_nodes;
 ghost use Rattle.ak_node.specs.Sends.{AreValid, ComesValid};
 ghost use Rattle.ak_world.specs.Double.{IsFirstDouble};
@@ -35,7 +35,8 @@ use ak_address::{Address, Unique};
 use ak_field::EntityId;
 use ak_history::History;
 use ak_node::{Node, NodeEvent, is_for};
-use ak_schedule::{Event, Settings};
+use ak_schedule::Event;
+use ak_settings::Settings;
 use ak_wire::{Action, Actions, Envelope, Packet};
 use std::alloc::{AllocError, AllocFailed, Global};
 use std::marker::Model;
@@ -580,7 +581,7 @@ pub struct World {
 impl Model for World {
     ghost use Rattle.std.specs.Coded.{codes};
     ghost use Rattle.ak_address.specs.Unique.{coded_address, coded_unique};
-    ghost use Rattle.ak_schedule.specs.Settings.{coded_settings};
+    ghost use Rattle.ak_settings.specs.Settings.{coded_settings};
     ghost use Rattle.ak_gossip.specs.Gossip.{coded_gossip};
     ghost use Rattle.ak_member.specs.View.{coded_uniques};
     ghost use Rattle.ak_membership.specs.contracts.membership.Membership as membership;

@@ -2,7 +2,8 @@ ghost use Rattle.std.specs.Prelude.{◌+◌, ◌<◌, ◌≤◌, length, OnOk};
 
 // The stories of all tests of worlds, and how one goes.
 use crate::{double, fold, life, line, margin, seen};
-use ak_schedule::{Draft, Event, LineFault, Settings, read_line};
+use ak_schedule::{Draft, Event, LineFault, read_line};
+use ak_settings::Settings;
 use ak_world::{Reason, Refused, World};
 use std::alloc::Global;
 use std::test::Fail;

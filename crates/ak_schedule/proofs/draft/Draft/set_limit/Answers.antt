@@ -1,5 +1,5 @@
 use Rattle.std.proofs.Common.{◌≡◌, ap, ◌∙◌, refl, rules}
-use Rattle.ak_schedule.specs.declared.settings.Header as header
+use Rattle.ak_schedule.specs.declared.draft.Header as header
 use Rattle.ak_schedule.specs.Draft.{Drafted}
 use Rattle.ak_schedule.proofs.HeaderLines.{header_refused}
 use Rattle.ak_schedule.proofs.draft.Draft.set_limit.Goals as goal

@@ -1,6 +1,8 @@
-ghost use Rattle.std.specs.Prelude.{◌≡◌, ◌↔◌, IsTrue, IfOk, Contains};
-ghost use Rattle.ak_schedule.specs.Settings.{IsSettings, is_listed, settling_size};
+ghost use Rattle.std.specs.Prelude.{◌≡◌, ◌↔◌, IsTrue, IfOk, Contains, MatchOption};
+ghost use Rattle.ak_settings.specs.Settings as model;
+ghost use Rattle.ak_settings.specs.Settings.{IsSettings, is_listed, settling_size};
 
+use crate::ranges::{are_ticks, is_listing, is_strategy};
 use ak_address::Address;
 use std::alloc::{AllocError, Global};
 use std::marker::Model;
@@ -12,20 +14,6 @@ pub enum Strategy {
     StaticQuorum(u32),
     KeepMajority,
     DownAll,
-}
-
-/// The nine header lines of a schedule, in their order.
-#[derive(Clone, Copy, Debug, PartialEq, Eq)]
-pub enum Header {
-    Listed,
-    Strategy,
-    Margin,
-    Deadline,
-    Stable,
-    Shards,
-    Buffer,
-    Threshold,
-    Limit,
 }
 
 /// The settings of a run. That each is in its range is an invariant of the type; the ranges are this
@@ -55,7 +43,7 @@ pub struct Settings {
 }
 
 impl Model for Settings {
-    ghost use Rattle.ak_schedule.specs.Settings.{SettingsModel, coded_settings, IsSettings};
+    ghost use Rattle.ak_settings.specs.Settings.{SettingsModel, coded_settings, IsSettings};
 
     ghost Value = { SettingsModel };
 
@@ -66,7 +54,54 @@ impl Model for Settings {
     ghost invariant = { λ s. IsSettings (record { listed = s.listed.items; strategy = s.strategy; margin = s.margin; deadline = s.deadline; stable = s.stable; shards = s.shards; buffer = s.buffer; threshold = s.threshold; limit = s.limit }) };
 }
 
+/// Into how many shards entities are divided where nobody chooses.
+pub const DEFAULT_SHARDS: u32 = 1_000;
+
+/// How many messages a region keeps where nobody chooses.
+pub const DEFAULT_BUFFER: u32 = 100_000;
+
+/// How many shards more than the least loaded region one may have where nobody chooses.
+pub const DEFAULT_THRESHOLD: u32 = 1;
+
+/// How many shards may move at the same time where nobody chooses.
+pub const DEFAULT_LIMIT: u32 = 3;
+
 impl Settings {
+    /// Settings for who wants membership, a resolver or a singleton, and no shards: of shards they say what a configuration
+    /// says that does not name them (1,000 shards, room for 100,000 messages, threshold 1, limit 3). None exactly where the
+    /// addresses, the strategy or one of the three numbers of ticks is out of its range. Takes no memory.
+    pub fn of_membership(
+        listed: Vec<Address>,
+        strategy: Strategy,
+        margin: u32,
+        deadline: u32,
+        stable: u32,
+    ) -> Option<Settings>
+        ensures { let asked = model.of_membership listed.items strategy margin deadline stable in
+            MatchOption result (IsSettings asked → ⊥) (λ settings. (settings ≡ asked) × IsSettings asked) }
+    {
+        if !is_listing(&listed) {
+            return None;
+        }
+        if !is_strategy(strategy) {
+            return None;
+        }
+        if !are_ticks(margin, deadline, stable) {
+            return None;
+        }
+        Some(Settings {
+            listed,
+            strategy,
+            margin,
+            deadline,
+            stable,
+            shards: DEFAULT_SHARDS,
+            buffer: DEFAULT_BUFFER,
+            threshold: DEFAULT_THRESHOLD,
+            limit: DEFAULT_LIMIT,
+        })
+    }
+
     /// Tells a proof that each setting is in its range. It does nothing.
     pub fn invariant(&self)
         ensures { IsSettings self.now }
@@ -114,7 +149,7 @@ impl Settings {
 }
 
 /// True exactly where the address is among these. Takes no memory.
-pub(crate) fn contains_address(listed: &[Address], at: &Address) -> bool
+pub fn contains_address(listed: &[Address], at: &Address) -> bool
     ensures value { result ≡ is_listed listed.now at.now }
     ensures meaning { IsTrue result ↔ Contains listed.now at.now }
 {

@@ -8,7 +8,7 @@ use Rattle.std.specs.declared.cmp.Ordering.TheVariants.{Less, Equal, Greater}
 use Rattle.std.specs.Cmp.{tied_itself}
 use Rattle.ak_address.specs.Unique.{AddressModel, address_cmp}
 use Rattle.ak_address.proofs.OrderLemmas.{address_total, address_exact}
-use Rattle.ak_schedule.specs.Settings.{is_listed}
+use Rattle.ak_settings.specs.Settings.{is_listed}
 
 contains_later : (b a : AddressModel) (listed : List AddressModel) → Contains listed a → Contains (b ∷ listed) a
 contains_later b a listed c = (suc c.0, omega (arith, c.1), c.2)

@@ -1,5 +1,5 @@
 use Rattle.std.proofs.Common.{◌≡◌, take}
-use Rattle.ak_schedule.proofs.settings.copy_addresses.Given as goal
+use Rattle.ak_settings.proofs.settings.copy_addresses.Given as goal
 
 -- as many as were seen
 abbrev pub invariant-addresses : goal.invariant-addresses

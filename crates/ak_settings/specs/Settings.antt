@@ -1,13 +1,13 @@
 -- The settings of a run: at which addresses processes may start, and through which they may join, and the limits of the
 -- rules. Ranges are this project's choice.
-use Rattle.std.specs.Prelude.{◌≡◌, ◌≢◌, ℕ, ◌≤◌, ◌⊎◌, Bool, true, false, List, length, refl}
+use Rattle.std.specs.Prelude.{◌≡◌, ◌≢◌, ℕ, ◌≤◌, ◌⊎◌, ◌&&◌, Bool, true, false, not, List, [], ◌∷◌, length, refl}
 use Rattle.std.proofs.Common.{inl, inr}
 use Rattle.std.specs.Coded.{Coded, code_by, coded×, coded⊎, coded_ℕ, coded_bool, coded_list}
 use Rattle.std.specs.List.{AllByRecursion, AllPairs, list_any}
 use Rattle.std.specs.Ordering.{is_eq}
 use Rattle.ak_address.specs.Unique.{AddressModel, IsAddress, address_cmp, coded_address}
-use Rattle.ak_schedule.specs.declared.settings.Strategy.{Strategy}
-use Rattle.ak_schedule.specs.declared.settings.Strategy.TheVariants.{StaticQuorum, KeepMajority, DownAll}
+use Rattle.ak_settings.specs.declared.settings.Strategy.{Strategy}
+use Rattle.ak_settings.specs.declared.settings.Strategy.TheVariants.{StaticQuorum, KeepMajority, DownAll}
 
 pub record SettingsModel : Type 0 where
   pub listed : List AddressModel
@@ -50,6 +50,39 @@ pub record IsSettings (s : SettingsModel) : Type 0 where
 -- an address is listed: a process may start there, and join through it
 abbrev pub is_listed : List AddressModel → AddressModel → Bool
 is_listed listed a = list_any (λ b. is_eq (address_cmp b a)) listed
+
+-- no address stands twice
+abbrev pub all_different : List AddressModel → Bool
+all_different [] = true
+all_different (a ∷ others) = not (is_listed others a) && all_different others
+
+-- what is said of shards where nobody chooses: as many shards and as many waiting messages as there may be, a shard moves where
+-- a region has more than one more than another, and three may move at the same time
+abbrev pub default_shards : ℕ
+default_shards = 1000
+
+abbrev pub default_buffer : ℕ
+default_buffer = 100000
+
+abbrev pub default_threshold : ℕ
+default_threshold = 1
+
+abbrev pub default_limit : ℕ
+default_limit = 3
+
+-- settings that say of shards what is said where nobody chooses
+abbrev pub of_membership : List AddressModel → Strategy → ℕ → ℕ → ℕ → SettingsModel
+of_membership listed strategy margin deadline stable = record {
+  listed = listed;
+  strategy = strategy;
+  margin = margin;
+  deadline = deadline;
+  stable = stable;
+  shards = default_shards;
+  buffer = default_buffer;
+  threshold = default_threshold;
+  limit = default_limit;
+}
 
 -- how many addresses a settled view counts at least
 abbrev pub settling_size : Strategy → ℕ
