@@ -1,13 +1,12 @@
 -- The tick of a coordinator (Akka's Cluster Sharding, "Shard rebalancing": a hand-off begins with every region, then the home
 -- hands the shard off; that a shard leaves an Exiting home first, and how many move at once, are this project's).
 use Rattle.std.specs.Prelude.{ℕ, ◌+◌, ◌==◌, nat_lt, Bool, false, not, ◌&&◌, List, [], ◌∷◌, ◌++◌, length, map, Option, None, Some, if◌then◌else◌}
-use Rattle.std.specs.FinMap as finmap
 use Rattle.std.specs.List.{filter}
 use Rattle.ak_address.specs.Unique.{UniqueModel}
 use Rattle.ak_address.specs.Uniques.{UniqueSet, how_many, in_order, set_of}
 use Rattle.ak_allocation.specs.declared.load.Load.{Load}
 use Rattle.ak_allocation.specs.Allocation.{overloaded}
-use Rattle.ak_member.specs.Standing.{Standings, member_of, is_exiting}
+use Rattle.ak_member.specs.Standing.{Standings, is_member_with, is_exiting}
 use Rattle.ak_member.specs.declared.status.Status.{Status}
 use Rattle.ak_settled.specs.SettledView.{SettledView}
 use Rattle.ak_settled.specs.Settled.{standings_of, is_finished}
@@ -37,20 +36,13 @@ noticed margin settled entry =
     if has_finished_home margin settled entry.home then freed entry else record entry { waits = unfinished margin settled entry.waits }
 
 -- ---- which shard begins to move
-abbrev pub is_exiting_as : Option (Status × ℕ) → Bool
-is_exiting_as None = false
-is_exiting_as (Some member) = is_exiting member.0
-
 -- a member, with its status and number, is Exiting
 abbrev pub is_exiting_pair : UniqueModel × (Status × ℕ) → Bool
 is_exiting_pair pair = is_exiting pair.1.0
 
-abbrev pub is_exiting_member : Standings → UniqueModel → Bool
-is_exiting_member s who = is_exiting_as (member_of (finmap.get s who))
-
 abbrev pub has_exiting_home : Standings → Option Home → Bool
 has_exiting_home s None = false
-has_exiting_home s (Some home) = is_exiting_member s home.owner
+has_exiting_home s (Some home) = is_member_with is_exiting s home.owner
 
 -- the shard does not move, and its home is Exiting
 abbrev pub leaves_exiting : Standings → ShardEntry → Bool

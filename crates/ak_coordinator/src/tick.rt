@@ -68,23 +68,15 @@ fn moving(entries: &[Entry]) -> usize
     entries.iter().filter(|entry| entry.moves()).count()
 }
 
-// Whether the member at a pair is Exiting.
-fn is_exiting_at(members: &Members, pair: usize) -> bool
-    ensures { result ≡ list_any is_exiting_pair (member_pairs (option_to_list (slice_get (map.entries members.now) pair))) }
-{
-    match members.member_at_pair(pair) {
-        Some(member) => member.status.is_exiting(),
-        None => false,
-    }
-}
-
 // Whether any member is Exiting.
 fn any_exiting(members: &Members) -> bool
     ensures { result ≡ list_any is_exiting_pair (members_of members.now) }
 {
     'pairs: for pair in 0..members.uniques() {
-        if is_exiting_at(members, pair) {
-            return true;
+        if let Some(member) = members.member_at_pair(pair) {
+            if member.status.is_exiting() {
+                return true;
+            }
         }
     }
     false

@@ -12,7 +12,7 @@ use Rattle.ak_member.specs.declared.effect.Effect.{Effect}
 use Rattle.ak_member.specs.declared.effect.Effect.TheVariants.{Joined, Rise}
 use Rattle.ak_member.specs.declared.status.Status.{Status}
 use Rattle.ak_member.specs.declared.status.Status.TheVariants.{Leaving, Down}
-use Rattle.ak_member.specs.Standing.{Standings, member_of, members_of, has_status, is_down, is_up}
+use Rattle.ak_member.specs.Standing.{Standings, member_of, members_of, has_status, is_down, is_up, is_member_with}
 use Rattle.ak_member.specs.Standing as standing
 use Rattle.ak_gossip.specs.declared.gossip.Received as received
 use Rattle.ak_gossip.specs.declared.gossip.GossipFault as fault
@@ -50,10 +50,6 @@ started me settings =
 -- a node is a member where it is one of its own view
 abbrev pub is_member : MembershipState → Bool
 is_member m = standing.is_member m.gossip.view.standings m.me
-
--- a process is a member, and its status passes a test
-abbrev pub is_member_with : (Status → Bool) → Standings → UniqueModel → Bool
-is_member_with test s who = has_status test (member_of (map.get s who))
 
 -- a node that its view shows as Down or as a tombstone is gone; one that its view does not know is not
 abbrev pub is_gone : MembershipState → Bool

@@ -12,14 +12,14 @@ use Rattle.ak_gossip.specs.declared.gossip.Received.TheVariants as received
 use Rattle.ak_gossip.specs.declared.gossip.GossipFault.{GossipFault}
 use Rattle.ak_gossip.specs.declared.gossip.GossipFault.TheVariants as gossip
 use Rattle.ak_gossip.specs.Gossip.{GossipState, is_known, receive}
-use Rattle.ak_member.specs.Standing.{is_member, is_down}
+use Rattle.ak_member.specs.Standing.{is_member, is_down, is_member_with}
 use Rattle.ak_settled.specs.Settled.{version_of}
 use Rattle.ak_membership.specs.declared.change.Change.{Change}
 use Rattle.ak_membership.specs.declared.change.Closing.{Closing}
 use Rattle.ak_membership.specs.declared.change.MemberFault.{MemberFault}
 use Rattle.ak_membership.specs.declared.change.MemberFault.TheVariants.{NotUp, UnknownMember, NotMember, Unlisted, ForeignCount, TooManyUniques, NoMemory}
 use Rattle.ak_membership.specs.declared.state.MembershipState.{MembershipState}
-use Rattle.ak_membership.specs.Membership.{Outcome, started, knowing, is_gone, is_member_with, may_count}
+use Rattle.ak_membership.specs.Membership.{Outcome, started, knowing, is_gone, may_count}
 use Rattle.ak_membership.specs.Closing.{is_noted}
 
 -- the version that was last shown is stored as its counts

@@ -12,7 +12,7 @@ use Rattle.ak_member.specs.declared.effect.Effect.{Effect}
 use Rattle.ak_member.specs.declared.effect.Effect.TheVariants.{Observed}
 use Rattle.ak_member.specs.declared.status.Status.{Status}
 use Rattle.ak_member.specs.Age.{counts}
-use Rattle.ak_member.specs.Standing.{Standings, is_down, members_of, is_joining}
+use Rattle.ak_member.specs.Standing.{Standings, is_down, members_of, is_joining, is_member_with}
 use Rattle.ak_member.specs.Standing as standing
 use Rattle.ak_member.specs.View.{Row}
 use Rattle.ak_reach.specs.Unreachable.{unreachable_members}
@@ -24,7 +24,7 @@ use Rattle.ak_leader.specs.Leader.{leader, leaders_effects, founding_effects}
 use Rattle.ak_select.specs.Select.{peer}
 use Rattle.ak_settled.specs.Settled.{after_tick}
 use Rattle.ak_membership.specs.declared.state.MembershipState.{MembershipState}
-use Rattle.ak_membership.specs.Membership.{Outcome, unchanged, update, update_any, is_member, is_member_with}
+use Rattle.ak_membership.specs.Membership.{Outcome, unchanged, update, update_any, is_member}
 
 -- ---- who is silent
 -- whom the node finds silent with this tick

@@ -13,7 +13,7 @@ ghost use Rattle.ak_membership.specs.Tick as ticks;
 use crate::change::{Change, MemberFault, Reply};
 use crate::lost::{has_lost, lacks, members_among, some_counts};
 use crate::members::{
-    downed_beside, has_member_beside, is_down, is_joining, is_known, is_up, joining_addresses,
+    downed_beside, has_member_beside, is_down, is_joining, is_known, joining_addresses,
 };
 use crate::sight::moves;
 use ak_address::{Address, Unique, Uniques};
@@ -132,14 +132,8 @@ impl MembershipState {
         self.settings.is_listed(&who.address)
     }
 
-    fn is_up(&self, who: &Unique) -> bool
-        ensures { result ≡ rules.is_member_with standing.is_up self.now.gossip.view.standings who.now }
-    {
-        is_up(self.gossip.members(), who)
-    }
-
     fn is_down(&self, who: &Unique) -> bool
-        ensures { result ≡ rules.is_member_with standing.is_down self.now.gossip.view.standings who.now }
+        ensures { result ≡ standing.is_member_with standing.is_down self.now.gossip.view.standings who.now }
     {
         is_down(self.gossip.members(), who)
     }
@@ -244,7 +238,7 @@ impl MembershipState {
         if !self.has_member(who) {
             return Err(MemberFault::UnknownMember);
         }
-        if !self.is_up(who) {
+        if !self.gossip.members().is_up(who) {
             return Err(MemberFault::NotUp);
         }
         self.gossip.invariant();

@@ -5,10 +5,9 @@ use Rattle.ak_address.specs.Unique.{AddressModel, UniqueModel, IsUnique, unique_
 use Rattle.ak_address.proofs.TableLaws.{get-empty, entries-empty}
 use Rattle.ak_gossip.specs.Gossip.{GossipState, IsGossip, is_known}
 use Rattle.ak_member.specs.declared.status.Status.{Status}
-use Rattle.ak_member.specs.Standing.{is_exiting}
+use Rattle.ak_member.specs.Standing.{is_exiting, is_member_with}
 use Rattle.ak_membership.specs.declared.change.MemberFault.{MemberFault}
 use Rattle.ak_membership.specs.Membership as membership
-use Rattle.ak_membership.specs.Membership.{is_member_with}
 use Rattle.ak_membership.specs.Closing.{notes}
 use Rattle.ak_membership.specs.Knowledge.{nothing_given}
 use Rattle.ak_membership.specs.Tick as ticks

@@ -18,13 +18,13 @@ use Rattle.ak_member.specs.declared.effect.Effect.{Effect}
 use Rattle.ak_member.specs.declared.effect.Effect.TheVariants.{Observed}
 use Rattle.ak_leader.specs.Leader.{leaders_effects, founding_effects}
 use Rattle.ak_member.specs.Standing as standing
-use Rattle.ak_member.specs.Standing.{Standings, is_exiting}
+use Rattle.ak_member.specs.Standing.{Standings, is_exiting, is_member_with}
 use Rattle.ak_membership.specs.declared.change.MemberFault.{MemberFault}
 use Rattle.ak_membership.specs.declared.change.Reply.{Reply}
 use Rattle.ak_membership.specs.declared.change.Reply.TheVariants as reply
 use Rattle.ak_membership.specs.declared.state.MembershipState.{MembershipState}
 use Rattle.ak_membership.specs.Membership as membership
-use Rattle.ak_membership.specs.Membership.{made, update, update_any, unchanged, may_count, is_member_with}
+use Rattle.ak_membership.specs.Membership.{made, update, update_any, unchanged, may_count}
 use Rattle.ak_membership.specs.Tick as ticks
 use Rattle.ak_membership.specs.Tick.{gossip_peer}
 use Rattle.ak_membership.specs.Closing.{is_viewed, stops, notes}

@@ -1,6 +1,4 @@
 ghost use Rattle.std.specs.Prelude.{◌≡◌, ◌<◌, ◌≤◌, ◌^◌, ◌++◌, ◌∷◌, [], not, true, false, IfOk, OnOk, OnErr, option_copied, option_map};
-ghost use Rattle.ak_member.specs.Standing.{is_exiting};
-ghost use Rattle.ak_membership.specs.Membership as rules_of_membership;
 ghost use Rattle.ak_membership.specs.MembershipContracts.{IsWatching};
 ghost use Rattle.ak_membership.specs.Tick as rules_of_ticks;
 ghost use Rattle.std.specs.FinMap as finmap;
@@ -241,15 +239,6 @@ impl State {
         Ok(Actions::empty(alloc))
     }
 
-    fn is_exiting(&self) -> bool
-        ensures { result ≡ rules_of_membership.is_member_with is_exiting (rules.known self.now).view.standings (rules.me_of self.now) }
-    {
-        match self.membership.my_status() {
-            Some(status) => status.is_exiting(),
-            None => false,
-        }
-    }
-
     // Adds a message to each member that counts: the node stops.
     fn confirms(&self, alloc: Global, actions: &mut Actions) -> Result<(), AllocError>
         ensures { OnOk result (actions.new ≡ actions.old ++ rules.to_each self.now (rules.counted_members self.now) Message.ExitingConfirmed) }
@@ -315,7 +304,8 @@ impl State {
         if self.membership.is_gone() {
             return Ok(());
         }
-        if self.is_exiting() {
+        let members = self.membership.gossip().members();
+        if members.is_exiting(self.membership.me()) {
             self.ends_phase(alloc, actions)?;
             return self.leaves(alloc, word, actions);
         }
