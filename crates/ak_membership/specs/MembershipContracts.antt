@@ -1,6 +1,6 @@
 -- Words of the contracts of a membership's calls.
 use Rattle.std.specs.declared.alloc.AllocError.{AllocError}
-use Rattle.std.specs.Prelude.{◌≡◌, Bool, true, false, Result, Ok, Err, ⊤, IsTrue}
+use Rattle.std.specs.Prelude.{◌≡◌, Bool, true, false, not, is_some, Result, Ok, Err, ⊤, IsTrue}
 use Rattle.std.specs.FinMap as map
 use Rattle.std.specs.Coded.{Coded, coded_ℕ}
 use Rattle.ak_address.specs.Changed.{keys_of}
@@ -86,6 +86,11 @@ Answers free outcome old (Err Unlisted) new = (outcome ≡ Err Unlisted) × (new
 Answers free outcome old (Err (ForeignCount own theirs)) new = (outcome ≡ Err (ForeignCount own theirs)) × (new ≡ old)
 Answers free outcome old (Err (TooManyUniques union)) new = (outcome ≡ Err (TooManyUniques union)) × (new ≡ old)
 Answers free outcome old (Err (NoMemory _)) new = free × (new ≡ old)
+
+-- a call that may refuse made no update: it was refused, or its change tells none
+abbrev pub makes_none : Result Change MemberFault → Bool
+makes_none (Ok change) = not (is_some change.number)
+makes_none (Err fault) = true
 
 -- What accepting a gossip answered and left: it is known then; or the refusal, and nothing changed.
 abbrev pub Receives : GossipState → MembershipState → Result Received GossipFault → MembershipState → Type 0

@@ -6,6 +6,7 @@ pub mod CountedPairs
 pub mod FewerKeys
 pub mod GivesUp
 pub mod MarginEnds
+pub mod NamesKept
 pub mod NodeLemmas
 pub mod NotedNow
 pub mod PhaseSteps

@@ -9,17 +9,17 @@ ghost use Rattle.ak_field.specs.Ranges.{IsEntity};
 ghost use Rattle.ak_node.specs.Sends.{AreValid, ComesValid, IsProcess, IsSaid};
 ghost use Rattle.ak_node.specs.NodeContracts.{Does, IsSameProcess, IsLeftOver, IsSilent, ServesWhileItRuns};
 
-use crate::actions::{one, refuse, tell, told};
+use crate::actions::{one, push_due, refuse, tell, told};
 use ak_address::{Address, Text, Unique};
 use ak_field::EntityId;
 use ak_gossip::Gossip;
-use ak_membership::{Change, Closing, Membership, Reply};
+use ak_membership::{Change, Membership, Reply};
 use ak_promise::Ballot;
 use ak_settings::Settings;
 use ak_settled::Settled;
 use ak_sharding::Sharding;
 use ak_singleton::Singleton;
-use ak_wire::{Action, Actions, Cover, Envelope, Message, SharedEnvelope, sendable};
+use ak_wire::{Action, Actions, Cover, Envelope, Message, SharedEnvelope};
 use std::alloc::{AllocError, Global};
 use std::marker::Model;
 
@@ -550,22 +550,6 @@ impl Given for Envelope {
     {}
 }
 
-// Adds what is due at a closing.
-fn push_due(due: Closing, actions: &mut Actions) -> Result<(), AllocError>
-    ensures { OnOk result (actions.new ≡ actions.old ++ rules.due due) }
-{
-    if due.viewed {
-        actions.push(Action::View)?;
-    }
-    if due.stopped {
-        actions.push(Action::Stopped)?;
-    }
-    if due.settled {
-        actions.push(Action::Settled)?;
-    }
-    Ok(())
-}
-
 /// A packet is for this process, or for whichever is at its address.
 pub fn is_for(me: &Unique, envelope: &Envelope) -> bool
     ensures { result ≡ rules.is_for me.now envelope.now }
@@ -665,6 +649,20 @@ impl Node {
         done
     }
 
+    /// Gives the node one event, as `step` does; the event stays with whoever gave it.
+    pub fn step_on(&mut self, alloc: Global, event: &NodeEvent) -> Result<Actions, AllocError>
+        requires steps { self.old.state.steps < 2 ^ 62 }
+        requires comes { ComesValid event.now }
+        ensures ok { IfOk result (λ actions. Does (rules.step event.now self.old.state) self.new.state actions) }
+        ensures valid { IfOk result (λ actions. AreValid actions) }
+        ensures silent { IfOk result (λ actions. IsSilent self.old.state self.new.state actions) }
+        ensures serves { OnOk result (ServesWhileItRuns self.new.state) }
+        ensures alive { OnOk result (self.old.spent ≡ false) × OnOk result (self.new.spent ≡ false) }
+        ensures spent { OnErr result ((self.new.spent ≡ true) × IsLeftOver self.old.state self.new.state) }
+    {
+        self.take(alloc, event)
+    }
+
     // The event is taken, and stays with whoever gave it.
     fn take<E: Given>(&mut self, alloc: Global, event: &E) -> Result<Actions, AllocError>
         requires steps { self.old.state.steps < 2 ^ 62 }
@@ -686,7 +684,7 @@ impl Node {
         match self.state.step(alloc, event) {
             Ok(actions) => {
                 self.state.membership.invariant();
-                sendable(self.state.membership.gossip());
+                self.state.membership.gossip().invariant();
                 Ok(actions)
             }
             Err(error) => {
