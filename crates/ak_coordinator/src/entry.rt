@@ -264,7 +264,8 @@ impl Entry {
         settled: &Settled,
         margin: u32,
     ) -> Result<(), AllocError>
-        ensures { OnOk result (self.new ≡ noticed margin settled.now.view self.old) }
+        ensures ok { OnOk result (self.new ≡ noticed margin settled.now.view self.old) }
+        ensures err { OnErr result (self.new ≡ self.old) }
     {
         if self.has_finished_home(settled, margin) {
             self.free(alloc);

@@ -1,4 +1,4 @@
-ghost use Rattle.std.specs.Prelude.{◌≡◌, ◌≤◌, ◌<◌, length, slice_get, option_copied, option_to_list, IfOk, OnOk, IfSome, IsSome};
+ghost use Rattle.std.specs.Prelude.{◌≡◌, ◌≤◌, ◌<◌, length, slice_get, option_copied, option_to_list, IfOk, OnOk, OnErr, IfSome, IsSome};
 ghost use Rattle.std.specs.Prelude as list;
 ghost use Rattle.std.specs.List.{filter, list_any};
 ghost use Rattle.std.specs.FinMap as map;
@@ -7,7 +7,7 @@ ghost use Rattle.ak_member.specs.Standing.{member_pairs, members_of};
 ghost use Rattle.ak_settled.specs.Settled.{standings_of};
 ghost use Rattle.ak_coordinator.specs.Entry.{moves};
 ghost use Rattle.ak_coordinator.specs.Coordinator.{entry_of};
-ghost use Rattle.ak_coordinator.specs.Tick.{is_unfinished, unfinished, noticed, hurried, is_exiting_pair, leaves_exiting, leaves_node, first_from, first_leaver, after_begin, moving};
+ghost use Rattle.ak_coordinator.specs.Tick.{is_unfinished, unfinished, noticed, IsPartlyNoticed, hurried, is_exiting_pair, leaves_exiting, leaves_node, first_from, first_leaver, after_begin, moving};
 
 use crate::entry::Entry;
 use crate::loads::loads_in;
@@ -41,7 +41,8 @@ pub(crate) fn notice_each(
     settled: &Settled,
     margin: u32,
 ) -> Result<(), AllocError>
-    ensures { OnOk result (entries.new ≡ list.map (noticed margin settled.now.view) entries.old) }
+    ensures ok { OnOk result (entries.new ≡ list.map (noticed margin settled.now.view) entries.old) }
+    ensures lost { OnErr result (IsPartlyNoticed margin settled.now.view entries.old entries.new) }
 {
     // Whoever is finished was removed, and where nobody was, no shard is looked at.
     if settled.members().buried_len() == 0 {
@@ -146,6 +147,7 @@ pub(crate) fn begin_one(
     requires { length entries.old.items ≤ 1000 }
     ensures after { OnOk result (entries.new.items ≡ after_begin granted.now settled.now.view settings.now.margin settings.now.threshold settings.now.limit entries.old.items) }
     ensures many { length entries.new.items ≡ length entries.old.items }
+    ensures err { OnErr result (entries.new.items ≡ entries.old.items) }
 {
     if moving(entries) >= settings.limit as usize {
         return Ok(());

@@ -1,4 +1,5 @@
 pub mod Steps
+pub mod MemoryLemmas
 pub mod Combined
 pub mod Small
 pub mod Items
