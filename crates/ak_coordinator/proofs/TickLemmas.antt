@@ -1,5 +1,5 @@
 -- Where a tick has nothing to do.
-use Rattle.std.proofs.Common.{◌≡◌, ℕ, Bool, true, false, cond, not, ◌||◌, ◌+◌, List, [], ◌∷◌, drop, slice_get, Option, None, Some, option_to_list, refl, sym, ap, ◌∙◌, arith, map, length}
+use Rattle.std.proofs.Common.{◌≡◌, ℕ, Bool, true, false, cond, not, ◌||◌, ◌+◌, List, [], ◌∷◌, drop, slice_get, Option, None, Some, option_to_list, Result, Ok, Err, OnErr, refl, sym, ap, ◌∙◌, arith, map, length}
 use Rattle.std.proofs.lemmas.Bool.{or_parts, and_right}
 use Rattle.std.proofs.lemmas.List.{nil_from_length}
 use Rattle.std.proofs.lemmas.List.Folds.{list_any-append}
@@ -111,3 +111,8 @@ none_noticed margin settled (entry ∷ table) none =
     ap (λ l. entry ∷ l) (none_noticed margin settled table none)
     ∙ ap (λ e. e ∷ map (noticed margin settled) table) (sym (ap (λ b. cond b (freed entry) (record entry { waits = unfinished margin settled entry.waits })) (lives_at_home margin settled entry.home none)
     ∙ ap (λ (w : UniqueSet). record entry { waits = w }) (ap set_of (all_left margin settled (in_order entry.waits) none) ∙ set_of-in_order entry.waits)))
+
+-- ---- where memory ran out
+pub on_err : {X E P : Type 0} (r : Result X E) → P → OnErr r P
+on_err (Ok x) p = tt
+on_err (Err error) p = p
