@@ -1,5 +1,5 @@
 -- Where a tick has nothing to do.
-use Rattle.std.proofs.Common.{◌≡◌, ℕ, Bool, true, false, cond, not, ◌||◌, ◌+◌, List, [], ◌∷◌, drop, slice_get, Option, None, Some, option_map, option_to_list, refl, sym, ap, ◌∙◌, arith, map, length}
+use Rattle.std.proofs.Common.{◌≡◌, ℕ, Bool, true, false, cond, not, ◌||◌, ◌+◌, List, [], ◌∷◌, drop, slice_get, Option, None, Some, option_map, option_to_list, Result, Ok, Err, OnErr, refl, sym, ap, ◌∙◌, arith, map, length}
 use Rattle.std.proofs.lemmas.Bool.{or_parts, and_right}
 use Rattle.std.proofs.lemmas.List.{nil_from_length}
 use Rattle.std.proofs.lemmas.List.Folds.{list_any-append}
@@ -125,3 +125,8 @@ exiting_there f pairs i found member is at = alone (is_exiting (f member).1.0) �
 pub nobody_there : {M : Type 0} (f : M → UniqueModel × (Status × ℕ)) (pairs : List (UniqueModel × Standing)) (i : ℕ) (found : Option M) → found ≡ None
     → option_to_list (option_map f found) ≡ member_pairs (option_to_list (slice_get pairs i)) → false ≡ list_any is_exiting_pair (member_pairs (option_to_list (slice_get pairs i)))
 nobody_there f pairs i found none at = ap (list_any is_exiting_pair) (ap (λ r. option_to_list (option_map f r)) (sym none) ∙ at)
+
+-- ---- where memory ran out
+pub on_err : {X E P : Type 0} (r : Result X E) → P → OnErr r P
+on_err (Ok x) p = tt
+on_err (Err error) p = p

@@ -8,6 +8,7 @@ use Rattle.ak_address.specs.Unique.{UniqueModel}
 use Rattle.ak_clock.specs.Version.{Counts, relation_by}
 use Rattle.ak_clock.proofs.VersionLaws.{covers_itself, test_from_covers}
 use Rattle.ak_detector.specs.Detector.{watch_ring, watching, heard}
+use Rattle.ak_detector.proofs.DetectorLaws.{watching_again}
 use Rattle.ak_detector.proofs.DetectorLemmas.{keys-heard, keys-ticked}
 use Rattle.ak_detector.proofs.RingLaws.{watches_on}
 use Rattle.ak_member.specs.declared.effect.Effect.{Effect}
@@ -203,3 +204,40 @@ pub rests_closed_again : (m : MembershipState) → IsAtRest m → IsAtRest (clos
 rests_closed_again m rest =
     rests_closed false m rest.here ((λ i. not (rest.here i) && is_noted m) ∙ rest.noted)
     (ap keys_of (watches_on m.me m.gossip.view.standings m.settings.deadline m.detector (keys_of m.detector) refl rest.ring) ∙ rest.ring)
+
+-- ---- a closing after a closing finds nothing due, where the node goes on
+module _ (stopping : Bool) (m : MembershipState) (running : stops stopping m ≡ false) where
+  abbrev pub after : MembershipState
+  after = (close stopping m).0
+
+  here : is_gone m ≡ false
+  here = not_either stopping m stopping (is_gone m) running
+
+  -- what was noted is not noted again
+  not_noted : is_noted after ≡ false
+  not_noted = by_noted (notes stopping m) refl
+    where
+      either : (b : Bool) → (b && false) ≡ false
+      either true = refl
+      either false = refl
+
+      by_noted : (b : Bool) → notes stopping m ≡ b → is_noted after ≡ false
+      by_noted true noted =
+          ap (λ (s : SettledModel). has_settled m && (not (is_some s.view) || is_other (version_of s.view) m.gossip.version)) (ap (λ b. if b then settled.after_note m.gossip.version m.gossip.view.standings m.settled else m.settled) noted)
+          ∙ ap (λ b. has_settled m && b) (no_other m.gossip.version)
+          ∙ either (has_settled m)
+      by_noted false none =
+          ap (λ (s : SettledModel). has_settled m && (not (is_some s.view) || is_other (version_of s.view) m.gossip.version)) (ap (λ b. if b then settled.after_note m.gossip.version m.gossip.view.standings m.settled else m.settled) none)
+          ∙ not_both stopping m (stops stopping m) (is_noted m) running none
+
+  none_due : notes false after ≡ false
+  none_due = (λ i. not (here i) && is_noted after) ∙ not_noted
+
+  pub closed_again : close false after ≡ (after, record { viewed = false; stopped = false; settled = false })
+  closed_again = λ i. (
+    record after {
+      detector = watching_again m.me m.gossip.view.standings m.settings.deadline m.detector i;
+      settled = if none_due i then settled.after_note m.gossip.version m.gossip.view.standings after.settled else after.settled;
+    },
+    record { viewed = no_other m.gossip.version i; stopped = here i; settled = none_due i },
+  )

@@ -11,7 +11,7 @@ ghost use Rattle.ak_membership.specs.Sight.{is_news};
 ghost use Rattle.ak_membership.specs.Tick as ticks;
 
 use crate::change::{Change, MemberFault, Reply};
-use crate::lost::{has_lost, lacks, members_among, some_counts};
+use crate::lost::{has_lost, some_counts};
 use crate::members::{
     downed_beside, has_member_beside, is_down, is_joining, is_known, joining_addresses,
 };
@@ -106,7 +106,7 @@ impl MembershipState {
         self.gossip.members().get(&self.me).is_some()
     }
 
-    fn has_member(&self, who: &Unique) -> bool
+    pub(crate) fn has_member(&self, who: &Unique) -> bool
         ensures { result ≡ standing.is_member self.now.gossip.view.standings who.now }
     {
         self.gossip.members().get(who).is_some()
@@ -516,34 +516,15 @@ impl MembershipState {
         Ok(them)
     }
 
-    // The members that the node's own row names.
-    fn own_subjects(&self, alloc: Global) -> Result<Uniques, AllocError>
-        ensures { IfOk result (λ them. them ≡ ticks.own_subjects self.now) }
-    {
-        match self.gossip.rows().row(&self.me) {
-            Some(row) => members_among(alloc, self.gossip.members(), &row.subjects),
-            None => Ok(Uniques::empty(alloc)),
-        }
-    }
-
-    // Whom the node finds silent is not what its own row says.
-    fn observes(&self, silent: &Uniques, subjects: &Uniques) -> bool
-        requires silent { silent.now ≡ ticks.silent self.now }
-        requires subjects { subjects.now ≡ ticks.own_subjects self.now }
-        ensures { result ≡ ticks.observes self.now }
-    {
-        lacks(subjects, silent) || lacks(silent, subjects)
-    }
-
     // The node observes whom it finds silent.
-    fn observe(&mut self, alloc: Global, silent: Uniques) -> Result<Change, AllocError>
+    fn observe(&mut self, alloc: Global) -> Result<Change, AllocError>
         requires member { IsTrue (rules.is_member self.old) }
         requires watching { IsWatching self.old }
-        requires silent { silent ≡ ticks.silent self.old }
         ensures ok { IfOk result (λ change. Makes (rules.update (Effect.Observed (ticks.silent self.old) ∷ []) self.old) self.new change) }
         ensures err { OnErr result (self.new ≡ self.old) }
     {
         self.gossip.invariant();
+        let silent = self.silent(alloc)?;
         let effects = one(alloc, Effect::Observed(silent))?;
         self.update(alloc, effects)
     }
@@ -597,17 +578,19 @@ impl MembershipState {
         self.update(alloc, effects)
     }
 
-    // At most one update, the first that applies.
+    // At most one update, the first that applies, where a number is left for it.
     fn updates(&mut self, alloc: Global) -> Result<Change, AllocError>
         requires member { IsTrue (rules.is_member self.old) }
         requires watching { IsWatching self.old }
         ensures ok { IfOk result (λ change. Makes (ticks.updates self.old) self.new change) }
         ensures err { OnErr result (self.new ≡ self.old) }
+        ensures memory { OnErr result (IsTrue (ticks.is_due self.old)) }
     {
-        let silent = self.silent(alloc)?;
-        let subjects = self.own_subjects(alloc)?;
-        if self.observes(&silent, &subjects) {
-            return self.observe(alloc, silent);
+        if !self.may_count() {
+            return Ok(unchanged(alloc));
+        }
+        if self.observes() {
+            return self.observe(alloc);
         }
         if self.decides() {
             return self.resolve(alloc);
@@ -638,7 +621,7 @@ impl MembershipState {
         requires watching { IsWatching self.old }
         ensures ok { IfOk result (λ change. Makes (ticks.tick self.old) self.new change) }
         ensures err { OnErr result (self.new ≡ self.old) }
-        ensures memory { OnErr result (IsTrue (rules.is_member self.old)) }
+        ensures memory { OnErr result (IsTrue (rules.is_member self.old) × IsTrue (ticks.is_due self.old)) }
     {
         if !self.is_member() {
             return Ok(unchanged(alloc));

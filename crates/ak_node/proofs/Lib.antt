@@ -2,6 +2,7 @@ pub mod BallotLemmas
 pub mod BallotsKept
 pub mod BallotsSteps
 pub mod ChangeLemmas
+pub mod Concluded
 pub mod CountedPairs
 pub mod FewerKeys
 pub mod GivesUp

@@ -8,6 +8,7 @@ mod laws;
 mod node;
 mod shards;
 
+pub use actions::is_for;
 pub use ak_wire::{Action, Actions};
 pub use laws::steps_update_once;
-pub use node::{Node, NodeEvent, State, is_for};
+pub use node::{Node, NodeEvent, State};

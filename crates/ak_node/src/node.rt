@@ -1,4 +1,4 @@
-ghost use Rattle.std.specs.Prelude.{◌≡◌, ◌<◌, ◌≤◌, ◌^◌, ◌++◌, ◌∷◌, [], not, true, false, IfOk, OnOk, OnErr, option_copied, option_map};
+ghost use Rattle.std.specs.Prelude.{◌≡◌, ◌⊎◌, ◌<◌, ◌≤◌, ◌^◌, ◌++◌, ◌∷◌, [], not, true, false, IfOk, OnOk, OnErr, IsTrue, option_copied, option_map};
 ghost use Rattle.ak_membership.specs.MembershipContracts.{IsWatching};
 ghost use Rattle.ak_membership.specs.Tick as rules_of_ticks;
 ghost use Rattle.std.specs.FinMap as finmap;
@@ -7,9 +7,9 @@ ghost use Rattle.ak_node.specs.Node as rules;
 ghost use Rattle.ak_address.specs.Unique.{IsAddress, IsUnique};
 ghost use Rattle.ak_field.specs.Ranges.{IsEntity};
 ghost use Rattle.ak_node.specs.Sends.{AreValid, ComesValid, IsProcess, IsSaid};
-ghost use Rattle.ak_node.specs.NodeContracts.{Does, IsSameProcess, IsLeftOver, IsSilent, ServesWhileItRuns};
+ghost use Rattle.ak_node.specs.NodeContracts.{Does, IsSameProcess, IsLeftOver, IsSilent, IsConcluded, ServesWhileItRuns, is_idle, may_ask};
 
-use crate::actions::{one, push_due, refuse, tell, told};
+use crate::actions::{is_for, one, push_due, refuse, tell, told};
 use ak_address::{Address, Text, Unique};
 use ak_field::EntityId;
 use ak_gossip::Gossip;
@@ -419,17 +419,23 @@ impl State {
     }
 
     // One event: its rule and then the closing. A node that has stopped does nothing, and a packet for another process is dead.
+    // Where the event changes nothing, nothing is due either, since the step before was concluded.
     fn step<E: Given>(&mut self, alloc: Global, event: &E) -> Result<Actions, AllocError>
         requires steps { self.old.steps < 2 ^ 62 }
         requires ticked { self.old.membership.ticks ≤ self.old.steps }
         requires watching { IsWatching self.old.membership }
+        requires concluded { IsConcluded self.old }
         ensures does { IfOk result (λ actions. Does (rules.step (E.event event.now) self.old) self.new actions) }
         ensures same { IsSameProcess self.old self.new }
+        ensures memory { OnErr result (IsTrue (may_ask (E.event event.now) self.old)) }
     {
         if !self.runs {
             return Ok(Actions::empty(alloc));
         }
         self.steps += 1;
+        if event.is_idle(self) {
+            return Ok(Actions::empty(alloc));
+        }
         self.running_step(alloc, event)
     }
 
@@ -471,6 +477,10 @@ trait Given {
     fn is_dead(&self, me: &Unique) -> bool
         ensures { result ≡ rules.is_dead me.now (event self.now) };
 
+    // It changes nothing: the node is to join a cluster in which it is a member.
+    fn is_idle(&self, state: &State) -> bool
+        ensures { result ≡ is_idle (event self.now) state.now };
+
     // Its rule.
     fn rule(&self, alloc: Global, state: &mut State) -> Result<Actions, AllocError>
         requires ticks { state.old.membership.ticks < 2 ^ 62 }
@@ -492,6 +502,15 @@ impl Given for NodeEvent {
     {
         match self {
             NodeEvent::Packet(envelope) => envelope.is_dead(me),
+            _ => false,
+        }
+    }
+
+    fn is_idle(&self, state: &State) -> bool
+        ensures { result ≡ is_idle self.now state.now }
+    {
+        match self {
+            NodeEvent::Join(_) => state.membership.is_member(),
             _ => false,
         }
     }
@@ -537,6 +556,12 @@ impl Given for Envelope {
         !is_for(me, self)
     }
 
+    fn is_idle(&self, _state: &State) -> bool
+        ensures { result ≡ is_idle (NodeEvent.Packet self.now) _state.now }
+    {
+        false
+    }
+
     fn rule(&self, alloc: Global, state: &mut State) -> Result<Actions, AllocError>
         ensures does { IfOk result (λ actions. Does (rules.rule (NodeEvent.Packet self.now) state.old) state.new actions) }
         ensures same { IsSameProcess state.old state.new }
@@ -548,16 +573,6 @@ impl Given for Envelope {
         requires { ComesValid (NodeEvent.Packet self.now) }
         ensures { IsSaid (NodeEvent.Packet self.now) }
     {}
-}
-
-/// A packet is for this process, or for whichever is at its address.
-pub fn is_for(me: &Unique, envelope: &Envelope) -> bool
-    ensures { result ≡ rules.is_for me.now envelope.now }
-{
-    if !envelope.to.is(&me.address) {
-        return false;
-    }
-    envelope.uid == 0 || envelope.uid == me.uid
 }
 
 // Each tells a proof what is true of every value of a type. They do nothing.
@@ -591,7 +606,7 @@ pub struct Node {
 
 impl Model for Node {
     ghost use Rattle.std.specs.Prelude.{is_some};
-    ghost use Rattle.ak_node.specs.NodeContracts.{NodeModel, IsNode, HasForgotten};
+    ghost use Rattle.ak_node.specs.NodeContracts.{NodeModel, IsNode, HasForgotten, IsConcluded};
     ghost use Rattle.ak_node.specs.Sends.{KnowsProcesses, KeepsBallots, KeepsSettled, KeepsShards};
     ghost use Rattle.std.specs.Coded.{codes};
     ghost use Rattle.ak_membership.specs.contracts.membership.Membership as membership;
@@ -604,7 +619,7 @@ impl Model for Node {
 
     ghost view = { λ n. record { state = n.state; spent = is_some n.failed } };
 
-    ghost invariant = { λ n. IsNode n.state × HasForgotten (is_some n.failed) n.state × KnowsProcesses n.state × KeepsBallots n.state.singleton × KeepsSettled n.state × KeepsShards n.state };
+    ghost invariant = { λ n. IsNode n.state × HasForgotten (is_some n.failed) n.state × KnowsProcesses n.state × KeepsBallots n.state.singleton × KeepsSettled n.state × KeepsShards n.state × IsConcluded n.state };
 }
 
 impl Node {
@@ -631,9 +646,9 @@ impl Node {
 
     /// Gives the node one event, and answers its actions; a node that has stopped answers none, and knows what it knew. A packet
     /// that comes has to be valid, as `decode` answers it; then each packet that the node sends is valid too: it has a spelling
-    /// as bytes. While it runs and knows anybody, it is a member of its own view, and not Down. Once out of memory the node is
-    /// spent: it still shows its process and its settings, whether it runs and how many steps it made before, and has forgotten
-    /// what it knew.
+    /// as bytes. While it runs and knows anybody, it is a member of its own view, and not Down. Memory is asked for while it runs
+    /// alone, and not where a member is to join. Once out of memory the node is spent: it still shows its process and its settings,
+    /// whether it runs and how many steps it made before, and has forgotten what it knew.
     pub fn step(&mut self, alloc: Global, event: NodeEvent) -> Result<Actions, AllocError>
         requires steps { self.old.state.steps < 2 ^ 62 }
         requires comes { ComesValid event }
@@ -643,6 +658,7 @@ impl Node {
         ensures serves { OnOk result (ServesWhileItRuns self.new.state) }
         ensures alive { OnOk result (self.old.spent ≡ false) × OnOk result (self.new.spent ≡ false) }
         ensures spent { OnErr result ((self.new.spent ≡ true) × IsLeftOver self.old.state self.new.state) }
+        ensures memory { OnErr result (self.old.spent ≡ true ⊎ IsTrue (may_ask event self.old.state)) }
     {
         let done = self.take(alloc, &event);
         drop(event);
@@ -659,6 +675,7 @@ impl Node {
         ensures serves { OnOk result (ServesWhileItRuns self.new.state) }
         ensures alive { OnOk result (self.old.spent ≡ false) × OnOk result (self.new.spent ≡ false) }
         ensures spent { OnErr result ((self.new.spent ≡ true) × IsLeftOver self.old.state self.new.state) }
+        ensures memory { OnErr result (self.old.spent ≡ true ⊎ IsTrue (may_ask event.now self.old.state)) }
     {
         self.take(alloc, event)
     }
@@ -673,6 +690,7 @@ impl Node {
         ensures serves { OnOk result (ServesWhileItRuns self.new.state) }
         ensures alive { OnOk result (self.old.spent ≡ false) × OnOk result (self.new.spent ≡ false) }
         ensures spent { OnErr result ((self.new.spent ≡ true) × IsLeftOver self.old.state self.new.state) }
+        ensures memory { OnErr result (self.old.spent ≡ true ⊎ IsTrue (may_ask (E.event event.now) self.old.state)) }
     {
         if let Some(error) = self.failed {
             return Err(error);
@@ -699,7 +717,8 @@ impl Node {
         }
     }
 
-    /// Gives the node a valid packet, as `step` does with such an event; the packet stays with whoever gave it.
+    /// Gives the node a valid packet, as `step` does with such an event; the packet stays with whoever gave it. One that has
+    /// stopped asks for no memory.
     pub fn receive(&mut self, alloc: Global, envelope: &Envelope) -> Result<Actions, AllocError>
         requires steps { self.old.state.steps < 2 ^ 62 }
         requires comes { ComesValid (NodeEvent.Packet envelope.now) }
@@ -709,6 +728,7 @@ impl Node {
         ensures serves { OnOk result (ServesWhileItRuns self.new.state) }
         ensures alive { OnOk result (self.old.spent ≡ false) × OnOk result (self.new.spent ≡ false) }
         ensures spent { OnErr result ((self.new.spent ≡ true) × IsLeftOver self.old.state self.new.state) }
+        ensures memory { OnErr result (self.old.spent ≡ true ⊎ IsTrue self.old.state.runs) }
     {
         self.take(alloc, envelope)
     }

@@ -14,7 +14,7 @@ use Rattle.ak_region.specs.declared.slot.Hosting.TheVariants.{New, Again, Ignore
 use Rattle.ak_region.specs.Shards.{ShardSlot, IsSlot}
 use Rattle.ak_region.specs.Slot.{untold, host_of, host_answer, is_given_up, gives_up, handed_off, without_stranger}
 use Rattle.ak_region.specs.RegionModel.{RegionModel}
-use Rattle.ak_region.specs.Region.{slot_of, with_slot, after_forget, reports_from, reports}
+use Rattle.ak_region.specs.Region.{with_slot, after_forget, reports_from, reports}
 use Rattle.ak_region.specs.Marks.{shown, marks_of, AreSlots}
 
 -- ---- one slot replaced is one mark replaced
@@ -61,15 +61,6 @@ newly_hosts number slot is = by_hosted slot.hosted refl is
     by_hosted : (o : Option ℕ) → slot.hosted ≡ o → host_of number o (nat_lt slot.mark number) ≡ New → (is_some slot.hosted ≡ false) × (slot.mark < number)
     by_hosted None none fits = (ap is_some none, by_newer (nat_lt slot.mark number) refl fits)
     by_hosted (Some m) some fits = absurd (never (m == number) fits)
-
--- a slot that stays as it is leaves the region as it is
-pub slot_same : (region : RegionModel) (shard : ℕ) → shard < length region.slots → with_slot region shard (slot_of region shard) ≡ region
-slot_same region shard inside = ap (λ l. record region { slots = l }) (set_itself region.slots shard inside)
-  where
-    set_itself : (slots : List ShardSlot) (i : ℕ) → i < length slots → set slots i (get_or slots i untold) ≡ slots
-    set_itself [] i less = absurd (omega (arith, less))
-    set_itself (slot ∷ slots) zero less = refl
-    set_itself (slot ∷ slots) (suc i) less = ap (λ l. slot ∷ l) (set_itself slots i (omega (arith, less)))
 
 -- ---- a hand-off
 pub handed_shown : (number : ℕ) (slot : ShardSlot) → IsSlot slot → shown (handed_off number slot) ≡ yielded number (shown slot)
