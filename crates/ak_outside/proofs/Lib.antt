@@ -1,3 +1,4 @@
 pub mod Prefixes
 pub mod Interruptions
 pub mod FileLemmas
+mod Copied

@@ -30,7 +30,7 @@ pub use link::{Bound, Heard, Link, Sent, Taken};
 pub use memory::{MemorySink, MemorySource};
 pub use memory_folder::MemoryFolder;
 pub use memory_link::MemoryLink;
-pub use reader::ReaderSource;
+pub use reader::{MOST_READ, ReaderSource};
 pub use sink::{Sink, Wrote, write_all};
 pub use source::{Read, Source};
 pub use standard::{StdSink, StdSource};

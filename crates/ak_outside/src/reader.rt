@@ -1,15 +1,15 @@
 // A source over any reader.
 ghost use Rattle.std.specs.Prelude.{◌≡◌, ◌≤◌, length, take};
-ghost use Rattle.ak_outside.specs.declared.reader.TheConstants.{SCRATCH};
+ghost use Rattle.ak_outside.specs.declared.reader.TheConstants.{MOST_READ};
 ghost use Rattle.ak_outside.specs.Tries.{Settles, CountsFailure};
-ghost use Rattle.ak_outside.specs.Reads.{FitsBuffer, LeavesRest, GivesFirst, EndsExactly, ReadCause, ReadsInto, ReadsSome, reader_gives, read_count};
+ghost use Rattle.ak_outside.specs.Reads.{FitsBuffer, LeavesRest, GivesFirst, EndsExactly, ReadCause, ReadsInto, reader_gives, read_count};
 
 use crate::source::{Read, Source};
 use crate::tries::{Attempt, Counted};
 use std::io;
 
-// The most bytes of one read.
-const SCRATCH: usize = 8192;
+/// The most bytes that one read of a `ReaderSource` gives, also into a larger buffer. So a buffer of this size is as good as any.
+pub const MOST_READ: usize = 8192;
 
 /// A source of the bytes that a reader gives. An interrupted read is tried again; another error is a fault.
 #[derive(Drop)]
@@ -21,8 +21,8 @@ pub struct ReaderSource<T> {
 #[derive(Drop)]
 struct Scratch<T> {
     reader: T,
-    buffer: [u8; SCRATCH],
-    ghost has_room: { length buffer ≡ SCRATCH },
+    buffer: [u8; MOST_READ],
+    ghost has_room: { length buffer ≡ MOST_READ },
 }
 
 impl<T: io::Read> Attempt<usize> for Scratch<T> {
@@ -41,16 +41,6 @@ fn read_into<T: io::Read>(reader: &mut T, buffer: &mut [u8], room: usize) -> io:
     reader.read(&mut buffer[..room])
 }
 
-// Reads of at most `room` bytes, until one is not interrupted. None is a failure, which is counted.
-fn read_some<T: io::Read>(calls: &mut Counted<Scratch<T>>, room: usize) -> Option<usize>
-    ensures reads { ReadsSome (T.remaining calls.old.caller.reader) (T.remaining calls.new.caller.reader) result room calls.new.caller.buffer }
-    ensures settled { Settles (reader_gives (λ s. T.remaining s.reader) (λ s. s.buffer) room) calls.old.caller result calls.new.caller }
-    ensures count { calls.old.fault_count ≤ calls.new.fault_count }
-    ensures counted { CountsFailure calls.old.fault_count calls.new.fault_count result }
-{
-    calls.call(room)
-}
-
 impl<T: io::Read> ReaderSource<T> {
     /// A source over the reader. It has not failed.
     pub fn over(reader: T) -> Self
@@ -60,7 +50,7 @@ impl<T: io::Read> ReaderSource<T> {
         ReaderSource {
             calls: Counted::new(Scratch {
                 reader,
-                buffer: [0; SCRATCH],
+                buffer: [0; MOST_READ],
             }),
         }
     }
@@ -78,7 +68,7 @@ impl<T: io::Read> Source for ReaderSource<T> {
 
     ghost faults = { λ s. s.calls.fault_count };
 
-    /// One read of at most 8192 bytes. An interrupted one is tried again; another that fails is counted.
+    /// One read of at most `MOST_READ` bytes. An interrupted one is tried again; another that fails is counted.
     fn read(&mut self, buffer: &mut [u8]) -> Read
         ensures count { self.old.calls.fault_count ≤ self.new.calls.fault_count }
         ensures cause { ReadCause self.old.calls.fault_count self.new.calls.fault_count result }
@@ -89,7 +79,7 @@ impl<T: io::Read> Source for ReaderSource<T> {
         ensures settled { Settles (reader_gives (λ s. T.remaining s.reader) (λ s. s.buffer) (length buffer.old)) self.old.calls.caller (read_count result) self.new.calls.caller }
         ensures counted { CountsFailure self.old.calls.fault_count self.new.calls.fault_count (read_count result) }
     {
-        match read_some(&mut self.calls, buffer.len()) {
+        match self.calls.call(buffer.len()) {
             Some(count) => {
                 let given = &self.calls.caller.buffer[..];
                 buffer[..count].copy_from_slice(&given[..count]);

@@ -55,7 +55,7 @@ impl<'a, R: Input> Source for StdSource<'a, R> {
 
     ghost faults = { λ s. s.faults };
 
-    /// One read of at most 8192 bytes. An interrupted one is tried again; another that fails is counted.
+    /// One read of at most `MOST_READ` bytes. An interrupted one is tried again; another that fails is counted.
     fn read(&mut self, buffer: &mut [u8]) -> Read
         ensures count { self.old.faults ≤ self.new.faults }
         ensures cause { ReadCause self.old.faults self.new.faults result }

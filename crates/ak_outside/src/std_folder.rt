@@ -8,7 +8,7 @@ ghost use Rattle.std.specs.Bool.{OnTrue};
 ghost use Rattle.ak_outside.specs.Folder.{FitsMost, LoadCause, HasFailed, ReadsFile};
 
 use crate::folder::{Folder, Loaded};
-use crate::reader::ReaderSource;
+use crate::reader::{MOST_READ, ReaderSource};
 use crate::source::{Read, Source};
 use ak_address::Text;
 use std::alloc::{AllocError, Global};
@@ -114,7 +114,7 @@ fn read_most<S: Source>(alloc: Global, source: &mut S, most: usize) -> Result<Lo
     ensures reads { IfOk result (ReadsFile (S.remaining source.old) most) }
 {
     let mut bytes = Vec::new(alloc);
-    let mut buffer = vec![in alloc; 0; 4096]?;
+    let mut buffer = vec![in alloc; 0; MOST_READ]?;
     'reads: while bytes.len() <= most {
         match source.read(&mut buffer) {
             Read::Failed => return Ok(Loaded::Failed),

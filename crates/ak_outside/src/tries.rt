@@ -36,7 +36,7 @@ impl<C> Counted<C> {
     }
 
     /// Calls until a call is not interrupted, says how many bytes that one moved, and counts it where
-    /// it failed, which is none.
+    /// it failed, which is none. It gives up after 2^64 - 1 interruptions, which is none too.
     pub(crate) fn call<P: Copy>(&mut self, with: P) -> Option<usize>
     where
         C: Attempt<P>,
@@ -44,27 +44,18 @@ impl<C> Counted<C> {
         ensures count { self.old.fault_count ≤ self.new.fault_count }
         ensures counted { CountsFailure self.old.fault_count self.new.fault_count result }
     {
-        let answer = settle(&mut self.caller, with);
-        if answer.is_none() {
-            self.fault_count = self.fault_count.saturating_add(1);
-        }
-        answer
-    }
-}
-
-// Gives up after 2^64 - 1 interruptions, which is none too.
-fn settle<P: Copy, C: Attempt<P>>(caller: &mut C, with: P) -> Option<usize>
-    ensures { Settles (C.gives with) caller.old result caller.new }
-{
-    'tries: for _ in 0..u64::MAX {
-        match caller.attempt(with) {
-            Ok(count) => return Some(count),
-            Err(e) => {
-                if e.kind() != ErrorKind::Interrupted {
-                    return None;
+        'tries: for _ in 0..u64::MAX {
+            match self.caller.attempt(with) {
+                Ok(count) => return Some(count),
+                Err(e) => {
+                    if e.kind() != ErrorKind::Interrupted {
+                        self.fault_count = self.fault_count.saturating_add(1);
+                        return None;
+                    }
                 }
             }
         }
+        self.fault_count = self.fault_count.saturating_add(1);
+        None
     }
-    None
 }

@@ -1,7 +1,7 @@
 // A sink over any writer.
 ghost use Rattle.std.specs.Prelude.{◌≡◌, ◌≤◌, ◌<◌};
 ghost use Rattle.ak_outside.specs.Tries.{Settles, CountsFailure};
-ghost use Rattle.ak_outside.specs.Writes.{FitsPiece, TakesFirst, WriteCause, WritesSome, writer_gives, write_count};
+ghost use Rattle.ak_outside.specs.Writes.{FitsPiece, TakesFirst, WriteCause, writer_gives, write_count};
 
 use crate::sink::{Sink, Wrote};
 use crate::tries::{Attempt, Counted};
@@ -27,16 +27,6 @@ impl<'b, T: io::Write> Attempt<&'b [u8]> for T {
             count => Ok(count),
         }
     }
-}
-
-// Writes of some first bytes of the piece, until one is not interrupted. None is a failure, which is counted.
-fn write_some<T: io::Write>(calls: &mut Counted<T>, piece: &[u8]) -> Option<usize>
-    ensures writes { WritesSome (T.contents calls.old.caller) (T.contents calls.new.caller) result piece.now }
-    ensures settled { Settles (writer_gives T.contents piece.now) calls.old.caller result calls.new.caller }
-    ensures count { calls.old.fault_count ≤ calls.new.fault_count }
-    ensures counted { CountsFailure calls.old.fault_count calls.new.fault_count result }
-{
-    calls.call(piece)
 }
 
 impl<T: io::Write> WriterSink<T> {
@@ -73,7 +63,7 @@ impl<T: io::Write> Sink for WriterSink<T> {
         ensures settled { Settles (writer_gives T.contents bytes.now) self.old.calls.caller (write_count result) self.new.calls.caller }
         ensures counted { CountsFailure self.old.calls.fault_count self.new.calls.fault_count (write_count result) }
     {
-        match write_some(&mut self.calls, bytes) {
+        match self.calls.call(bytes) {
             Some(count) => Wrote::Took(count),
             None => Wrote::Failed,
         }

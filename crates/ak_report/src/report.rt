@@ -366,26 +366,6 @@ fn next_packet(action: &Action, number: u128) -> u128
     }
 }
 
-// An item for each action, each on a line after two spaces.
-fn print_items(
-    gossip: &Gossip,
-    first_packet: u128,
-    actions: &[Action],
-    out: &mut Vec<u8>,
-) -> Result<(), AllocError>
-    requires { first_packet + length (sent actions.now) < 2 ^ 128 }
-    ensures { OnOk result (out.new.items ≡ out.old.items ++ text.actions_text gossip.now first_packet actions.now) }
-{
-    let mut number = first_packet;
-    'actions: for action in actions {
-        print_bytes(b"  ", out)?;
-        print_action(gossip, number, action, out)?;
-        print_bytes(b"\n", out)?;
-        number = next_packet(action, number);
-    }
-    Ok(())
-}
-
 // So many bytes are set aside for an item; most have fewer.
 const ITEM_BYTES: usize = 64;
 
@@ -419,7 +399,12 @@ pub fn append_actions(
     requires { first_packet < 2 ^ 127 }
     ensures { OnOk result (out.new.items ≡ out.old.items ++ text.actions_text gossip.now first_packet actions.now) }
 {
-    print_items(gossip, first_packet, actions.as_slice(), out)
+    let mut number = first_packet;
+    'actions: for action in actions.as_slice() {
+        append_action(gossip, number, action, out)?;
+        number = next_packet(action, number);
+    }
+    Ok(())
 }
 
 /// Appends the item of one action, on a line after two spaces, as `append_actions` does for each: for whoever does something between

@@ -8,7 +8,7 @@ ghost use Rattle.std.specs.Prelude.{◌<◌, ◌^◌};
 ghost use Rattle.ak_node.specs.Sends.{ComesValid};
 ghost use Rattle.ak_wire.specs.Datagram.{IsValid};
 
-use ak_address::{Address, Unique, parse_address, parse_unique};
+use ak_address::{Address, parse_address, parse_unique};
 use ak_node::{Action, Actions, Node, NodeEvent, is_for};
 use ak_outside::{Sink, StdSink};
 use ak_settings::{Settings, Strategy};
@@ -121,15 +121,15 @@ fn found<W: Sink>(
 fn join<W: Sink>(
     alloc: Global,
     node: &mut Node,
-    address: &[u8],
+    target: &Address,
     post: &mut Vec<Vec<u8>>,
     output: &mut W,
 ) -> Result<(), Fault> {
     if node.steps() >= MOST_STEPS {
         return Err(Fault);
     }
-    let address = parse_address(alloc, address).map_err(|_| Fault)?;
-    step(alloc, node, NodeEvent::Join(address), post, output)
+    let target = target.copy(alloc)?;
+    step(alloc, node, NodeEvent::Join(target), post, output)
 }
 
 fn tick<W: Sink>(
@@ -208,6 +208,7 @@ fn deliver_all<W: Sink>(
     Ok(())
 }
 
+// The first node founds the cluster, and the others join it there.
 fn found_and_join<W: Sink>(
     alloc: Global,
     nodes: &mut [Node],
@@ -219,7 +220,7 @@ fn found_and_join<W: Sink>(
     };
     found(alloc, first, post, output)?;
     'others: for node in others {
-        join(alloc, node, b"a:1", post, output)?;
+        join(alloc, node, &first.me().address, post, output)?;
     }
     Ok(())
 }

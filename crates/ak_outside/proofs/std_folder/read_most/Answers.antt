@@ -1,8 +1,9 @@
-use Rattle.std.proofs.Common.{arith, rules, ◌≡◌, ◌<◌, ◌≤◌, ℕ, List, [], ◌++◌, length, take, drop, subst, refl, sym, ap, ◌∙◌}
-use Rattle.std.proofs.lemmas.List.{length-take, take_at}
+use Rattle.std.proofs.Common.{arith, ◌≡◌, ◌<◌, [], ◌++◌, length, take, drop, subst, sym, ap, ◌∙◌}
+use Rattle.std.proofs.lemmas.List.{take_at}
 use Rattle.std.specs.Io.KnownBytes.{Consumes}
 use Rattle.std.proofs.KnownBytes.{Consumes-nil, Consumes-trans}
 use Rattle.ak_outside.proofs.FileLemmas.{reads_whole, reads_more}
+use Rattle.ak_outside.specs.declared.reader.TheConstants.{MOST_READ}
 use Rattle.ak_outside.proofs.std_folder.read_most.Goals as goal
 
 pub reads-init : goal.reads-init
@@ -24,7 +25,7 @@ returns-in-Got-eq0-clause-reads g c =
 pub reads-preserved : goal.reads-preserved
 reads-preserved g c =
     let got = c.read.new.buffer in
-    let room : length got ≡ 4096 = omega (arith, c.read.auto.buffer, ap length c.deref_mut.ensures.value, c.reads.invariant.room) in
+    let room : length got ≡ MOST_READ = omega (arith, c.read.auto.buffer, ap length c.deref_mut.ensures.value, c.reads.invariant.room) in
     let same : length got ≡ c.reads.buffer.len = omega (arith, room, c.reads.invariant.room, c.reads.buffer.ok) in
     let whole : take c.reads.buffer.len (got ++ drop (length got) c.reads.buffer.items) ≡ got = take_at got (drop (length got) c.reads.buffer.items) c.reads.buffer.len same in
     let piece : take c.in-Got.count c.deref-in-Got.result.now ≡ take c.in-Got.count got = ap (take c.in-Got.count) (c.deref-in-Got.ensures.value ∙ whole) in

@@ -1,6 +1,10 @@
-use Rattle.std.proofs.Common.{length, ap, arith}
+use Rattle.std.proofs.Common.{arith, ◌∷◌, [], length, ap}
 use Rattle.ak_wire.proofs.Sending.{sent_most}
 use Rattle.ak_report.proofs.report.append_actions.Goals as goal
 
-pub print_items-requires : goal.print_items-requires
-print_items-requires c = omega (arith, c.requires, ap length c.as_slice.ensures, sent_most c.as_slice.result.now)
+-- no more packets are sent than there are actions
+pub next_packet-number-requires : goal.next_packet-number-requires
+next_packet-number-requires c =
+    let one = sent_most (c.action-item.result ∷ []) in
+    let all = sent_most c.args.actions.now in
+    omega (arith, c.requires, one, all, c.actions.invariant.counted, ap length c.as_slice-action-items.ensures)

@@ -1,7 +1,7 @@
 use Rattle.std.proofs.Common.{◌≡◌, ◌+◌, ◌++◌, length, drop}
 use Rattle.ak_report.specs.ActionText.{actions_text}
 use Rattle.ak_wire.specs.Wire.{sent}
-use Rattle.ak_report.proofs.report.print_items.Given as goal
+use Rattle.ak_report.proofs.report.append_actions.Given as goal
 
 abbrev pub invariant-actions : goal.invariant-actions
 invariant-actions l = record {
