@@ -1,5 +1,5 @@
 -- Homes that are no members are forgotten once.
-use Rattle.std.proofs.Common.{◌≡◌, Bool, true, false, List, [], ◌∷◌, map, Option, None, Some, refl, ap}
+use Rattle.std.proofs.Common.{◌≡◌, Bool, true, false, List, [], ◌∷◌, map, Option, None, Some, if◌then◌else◌, refl, ap}
 use Rattle.ak_address.specs.Unique.{UniqueModel}
 use Rattle.ak_member.specs.Standing.{Standings, is_member}
 use Rattle.ak_region.specs.Shards.{ShardSlot}

@@ -1,4 +1,4 @@
-use Rattle.std.proofs.Common.{◌≡◌, ◌<◌, sym, subst, arith}
+use Rattle.std.proofs.Common.{◌<◌, sym, subst, arith}
 use Rattle.std.proofs.lemmas.Option.{same_Some}
 use Rattle.ak_region.proofs.MarkLemmas.{newly_hosts}
 use Rattle.ak_region.proofs.slot.Slot.host.Goals as goal
