@@ -1,4 +1,4 @@
-use Rattle.std.proofs.Common.{◌≡◌, ◌&&◌, sym, ap, ◌∙◌}
+use Rattle.std.proofs.Common.{◌&&◌, sym, ap, ◌∙◌}
 use Rattle.std.specs.FinMap as map
 use Rattle.ak_address.specs.Uniques.{has}
 use Rattle.ak_address.proofs.UniquesLaws.{has-no_one, has-those}
