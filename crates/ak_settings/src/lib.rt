@@ -5,7 +5,7 @@
 mod ranges;
 mod settings;
 
-pub use ranges::all_different;
+pub use ranges::{MOST_BUFFER, MOST_LISTED, MOST_QUORUM, MOST_SHARDS, MOST_TICKS, all_different};
 pub use settings::{
     DEFAULT_BUFFER, DEFAULT_LIMIT, DEFAULT_SHARDS, DEFAULT_THRESHOLD, Settings, Strategy,
     contains_address,

@@ -8,11 +8,20 @@ ghost use Rattle.ak_settings.specs.Settings.{IsListing, IsStrategy, IsWithin, is
 use crate::settings::{Strategy, contains_address};
 use ak_address::Address;
 
-const MOST_LISTED: usize = 32;
+/// How many addresses are listed at most.
+pub const MOST_LISTED: usize = 32;
 
-const MOST_QUORUM: u32 = 32;
+/// The greatest quorum.
+pub const MOST_QUORUM: u32 = 32;
 
-const MOST_TICKS: u32 = 1_000_000;
+/// The greatest margin, deadline and stable time.
+pub const MOST_TICKS: u32 = 1_000_000;
+
+/// How many shards there are at most; also the greatest threshold and limit, which are numbers of shards.
+pub const MOST_SHARDS: u32 = 1_000;
+
+/// How many messages a region keeps at most.
+pub const MOST_BUFFER: u32 = 100_000;
 
 /// Whether these are 1 to 32 different addresses.
 pub(crate) fn is_listing(listed: &[Address]) -> bool

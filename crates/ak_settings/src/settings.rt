@@ -2,7 +2,7 @@ ghost use Rattle.std.specs.Prelude.{◌≡◌, ◌↔◌, IsTrue, IfOk, Contains
 ghost use Rattle.ak_settings.specs.Settings as model;
 ghost use Rattle.ak_settings.specs.Settings.{IsSettings, is_listed, settling_size};
 
-use crate::ranges::{are_ticks, is_listing, is_strategy};
+use crate::ranges::{MOST_BUFFER, MOST_SHARDS, are_ticks, is_listing, is_strategy};
 use ak_address::Address;
 use std::alloc::{AllocError, Global};
 use std::marker::Model;
@@ -54,11 +54,11 @@ impl Model for Settings {
     ghost invariant = { λ s. IsSettings (record { listed = s.listed.items; strategy = s.strategy; margin = s.margin; deadline = s.deadline; stable = s.stable; shards = s.shards; buffer = s.buffer; threshold = s.threshold; limit = s.limit }) };
 }
 
-/// Into how many shards entities are divided where nobody chooses.
-pub const DEFAULT_SHARDS: u32 = 1_000;
+/// Into how many shards entities are divided where nobody chooses: as many as there may be.
+pub const DEFAULT_SHARDS: u32 = MOST_SHARDS;
 
-/// How many messages a region keeps where nobody chooses.
-pub const DEFAULT_BUFFER: u32 = 100_000;
+/// How many messages a region keeps where nobody chooses: as many as it may.
+pub const DEFAULT_BUFFER: u32 = MOST_BUFFER;
 
 /// How many shards more than the least loaded region one may have where nobody chooses.
 pub const DEFAULT_THRESHOLD: u32 = 1;

@@ -1,7 +1,7 @@
 use Rattle.std.proofs.Common.{◌≡◌, ◌∷◌, codes, refl}
 use Rattle.ak_schedule.specs.Line.{words}
 use Rattle.ak_schedule.proofs.Listing.{strategy_words}
-use Rattle.ak_schedule.proofs.header.read_strategy.Goals as goal
+use Rattle.ak_schedule.proofs.header.strategy_of.Goals as goal
 
 pub returns-then-is_text : goal.returns-then-is_text
 returns-then-is_text c =
