@@ -57,8 +57,14 @@ fn listed(alloc: Global) -> Result<Vec<Address>, Fault> {
 // A side with two of the three addresses goes on. A removed process counts as stopped after 5 ticks, one that is silent for 3 is
 // unreachable, and a side is decided upon after 4 in which nothing changed.
 fn settings(alloc: Global) -> Result<Settings, Fault> {
-    let strategy = Strategy::StaticQuorum(2);
-    Settings::of_membership(listed(alloc)?, strategy, 5, 3, 4).ok_or(Fault)
+    match Settings::of_membership(listed(alloc)?, Strategy::StaticQuorum(2), 5, 3, 4) {
+        Some(mut settings) => {
+            // Nothing is put into a shard here, so there are few.
+            settings.shards = 10;
+            Ok(settings)
+        }
+        None => Err(Fault),
+    }
 }
 
 fn start(alloc: Global, settings: &Settings, process: &[u8]) -> Result<Node, Fault> {
