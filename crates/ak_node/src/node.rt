@@ -1,4 +1,4 @@
-ghost use Rattle.std.specs.Prelude.{◌≡◌, ◌<◌, ◌≤◌, ◌^◌, ◌++◌, ◌∷◌, [], not, true, false, IfOk, OnOk, OnErr, option_copied, option_map};
+ghost use Rattle.std.specs.Prelude.{◌≡◌, ◌<◌, ◌≤◌, ◌^◌, ◌++◌, ◌∷◌, [], not, true, false, IsTrue, IfOk, OnOk, OnErr, option_copied, option_map};
 ghost use Rattle.ak_member.specs.Standing.{is_exiting};
 ghost use Rattle.ak_membership.specs.Membership as rules_of_membership;
 ghost use Rattle.ak_membership.specs.MembershipContracts.{IsWatching};
@@ -12,6 +12,7 @@ ghost use Rattle.ak_node.specs.Sends.{AreValid, ComesValid, IsProcess, IsSaid};
 ghost use Rattle.ak_node.specs.NodeContracts.{Does, IsSameProcess, IsLeftOver, IsSilent, ServesWhileItRuns};
 
 use crate::actions::{one, push_due, refuse, tell, told};
+use crate::own::{is_dead, is_for};
 use ak_address::{Address, Text, Unique};
 use ak_field::EntityId;
 use ak_gossip::Gossip;
@@ -429,7 +430,13 @@ impl State {
     }
 
     // One event: its rule and then the closing. A node that has stopped does nothing, and a packet for another process is dead.
-    fn step<E: Given>(&mut self, alloc: Global, event: &E) -> Result<Actions, AllocError>
+    fn step<E: Given>(
+        &mut self,
+        alloc: Global,
+        event: &E,
+        dead: bool,
+    ) -> Result<Actions, AllocError>
+        requires dead { dead ≡ rules.is_dead (rules.me_of self.old) (E.event event.now) }
         requires steps { self.old.steps < 2 ^ 62 }
         requires ticked { self.old.membership.ticks ≤ self.old.steps }
         requires watching { IsWatching self.old.membership }
@@ -440,17 +447,23 @@ impl State {
             return Ok(Actions::empty(alloc));
         }
         self.steps += 1;
-        self.running_step(alloc, event)
+        self.running_step(alloc, event, dead)
     }
 
     // The event of a node that runs.
-    fn running_step<E: Given>(&mut self, alloc: Global, event: &E) -> Result<Actions, AllocError>
+    fn running_step<E: Given>(
+        &mut self,
+        alloc: Global,
+        event: &E,
+        dead: bool,
+    ) -> Result<Actions, AllocError>
+        requires dead { dead ≡ rules.is_dead (rules.me_of self.old) (E.event event.now) }
         requires ticks { self.old.membership.ticks < 2 ^ 62 }
         requires watching { IsWatching self.old.membership }
         ensures does { IfOk result (λ actions. Does (rules.running_step (E.event event.now) self.old) self.new actions) }
         ensures same { IsSameProcess self.old self.new }
     {
-        if event.is_dead(self.me()) {
+        if dead {
             return one(alloc, Action::Dead);
         }
         self.acts(alloc, event)
@@ -477,10 +490,6 @@ trait Given {
     // The event that it is.
     ghost event: { Self → NodeEvent };
 
-    // A packet for another process is dead.
-    fn is_dead(&self, me: &Unique) -> bool
-        ensures { result ≡ rules.is_dead me.now (event self.now) };
-
     // Its rule.
     fn rule(&self, alloc: Global, state: &mut State) -> Result<Actions, AllocError>
         requires ticks { state.old.membership.ticks < 2 ^ 62 }
@@ -496,15 +505,6 @@ trait Given {
 
 impl Given for NodeEvent {
     ghost event = { λ e. e };
-
-    fn is_dead(&self, me: &Unique) -> bool
-        ensures { result ≡ rules.is_dead me.now self.now }
-    {
-        match self {
-            NodeEvent::Packet(envelope) => envelope.is_dead(me),
-            _ => false,
-        }
-    }
 
     fn rule(&self, alloc: Global, state: &mut State) -> Result<Actions, AllocError>
         requires ticks { state.old.membership.ticks < 2 ^ 62 }
@@ -541,12 +541,6 @@ impl Given for Envelope {
 
     ghost event = { λ p. Packet p };
 
-    fn is_dead(&self, me: &Unique) -> bool
-        ensures { result ≡ rules.is_dead me.now (NodeEvent.Packet self.now) }
-    {
-        !is_for(me, self)
-    }
-
     fn rule(&self, alloc: Global, state: &mut State) -> Result<Actions, AllocError>
         ensures does { IfOk result (λ actions. Does (rules.rule (NodeEvent.Packet self.now) state.old) state.new actions) }
         ensures same { IsSameProcess state.old state.new }
@@ -558,16 +552,6 @@ impl Given for Envelope {
         requires { ComesValid (NodeEvent.Packet self.now) }
         ensures { IsSaid (NodeEvent.Packet self.now) }
     {}
-}
-
-/// A packet is for this process, or for whichever is at its address.
-pub fn is_for(me: &Unique, envelope: &Envelope) -> bool
-    ensures { result ≡ rules.is_for me.now envelope.now }
-{
-    if !envelope.to.is(&me.address) {
-        return false;
-    }
-    envelope.uid == 0 || envelope.uid == me.uid
 }
 
 // Each tells a proof what is true of every value of a type. They do nothing.
@@ -654,7 +638,7 @@ impl Node {
         ensures alive { OnOk result (self.old.spent ≡ false) × OnOk result (self.new.spent ≡ false) }
         ensures spent { OnErr result ((self.new.spent ≡ true) × IsLeftOver self.old.state self.new.state) }
     {
-        let done = self.take(alloc, &event);
+        let done = self.step_on(alloc, &event);
         drop(event);
         done
     }
@@ -670,11 +654,18 @@ impl Node {
         ensures alive { OnOk result (self.old.spent ≡ false) × OnOk result (self.new.spent ≡ false) }
         ensures spent { OnErr result ((self.new.spent ≡ true) × IsLeftOver self.old.state self.new.state) }
     {
-        self.take(alloc, event)
+        let dead = is_dead(self.me(), event);
+        self.take(alloc, event, dead)
     }
 
-    // The event is taken, and stays with whoever gave it.
-    fn take<E: Given>(&mut self, alloc: Global, event: &E) -> Result<Actions, AllocError>
+    // The event is taken, and stays with whoever gave it, who says whether it is a packet for another process.
+    fn take<E: Given>(
+        &mut self,
+        alloc: Global,
+        event: &E,
+        dead: bool,
+    ) -> Result<Actions, AllocError>
+        requires dead { dead ≡ rules.is_dead (rules.me_of self.old.state) (E.event event.now) }
         requires steps { self.old.state.steps < 2 ^ 62 }
         requires comes { ComesValid (E.event event.now) }
         ensures ok { IfOk result (λ actions. Does (rules.step (E.event event.now) self.old.state) self.new.state actions) }
@@ -691,7 +682,7 @@ impl Node {
         self.state.process();
         let runs = self.state.runs;
         let steps = self.state.steps;
-        match self.state.step(alloc, event) {
+        match self.state.step(alloc, event, dead) {
             Ok(actions) => {
                 self.state.membership.invariant();
                 self.state.membership.gossip().invariant();
@@ -720,7 +711,23 @@ impl Node {
         ensures alive { OnOk result (self.old.spent ≡ false) × OnOk result (self.new.spent ≡ false) }
         ensures spent { OnErr result ((self.new.spent ≡ true) × IsLeftOver self.old.state self.new.state) }
     {
-        self.take(alloc, envelope)
+        let dead = !is_for(self.me(), envelope);
+        self.take(alloc, envelope, dead)
+    }
+
+    /// Gives the node a valid packet that is for it, as `receive` does; whoever found that it is asked already.
+    pub fn receive_own(&mut self, alloc: Global, envelope: &Envelope) -> Result<Actions, AllocError>
+        requires own { IsTrue (rules.is_for (rules.me_of self.old.state) envelope.now) }
+        requires steps { self.old.state.steps < 2 ^ 62 }
+        requires comes { ComesValid (NodeEvent.Packet envelope.now) }
+        ensures ok { IfOk result (λ actions. Does (rules.step (NodeEvent.Packet envelope.now) self.old.state) self.new.state actions) }
+        ensures valid { IfOk result (λ actions. AreValid actions) }
+        ensures silent { IfOk result (λ actions. IsSilent self.old.state self.new.state actions) }
+        ensures serves { OnOk result (ServesWhileItRuns self.new.state) }
+        ensures alive { OnOk result (self.old.spent ≡ false) × OnOk result (self.new.spent ≡ false) }
+        ensures spent { OnErr result ((self.new.spent ≡ true) × IsLeftOver self.old.state self.new.state) }
+    {
+        self.take(alloc, envelope, false)
     }
 
     /// The process that it is.
