@@ -30,7 +30,7 @@ use Rattle.ak_wire.specs.Datagram.{IsBody}
 use Rattle.ak_node.specs.declared.node.State.{State}
 use Rattle.ak_node.specs.declared.node.NodeEvent.{NodeEvent}
 use Rattle.ak_node.specs.declared.node.NodeEvent.TheVariants as event
-use Rattle.ak_node.specs.Node.{known as knows, me_of, nothing, running_step, step}
+use Rattle.ak_node.specs.Node.{nothing, running_step, step}
 use Rattle.ak_node.specs.Change.{given_by, asker_in}
 use Rattle.ak_node.specs.Sends.{KnowsProcesses, IsProcess, IsSaid}
 use Rattle.ak_node.proofs.StepChanges.{step_changes}

@@ -3,9 +3,8 @@
 ghost use Rattle.std.specs.Prelude.{◌≡◌, ◌≤◌, ◌++◌, ◌∷◌, [], IfOk, OnOk};
 ghost use Rattle.ak_node.specs.Node as rules;
 
-use ak_address::Unique;
 use ak_membership::{Change, Closing, MemberFault};
-use ak_wire::{Action, Actions, Envelope};
+use ak_wire::{Action, Actions};
 use std::alloc::{AllocError, Global};
 
 // The number of a refusal, from 1 on; where memory ran out, the error with which it did.
@@ -74,14 +73,4 @@ pub(crate) fn refuse(alloc: Global, fault: MemberFault) -> Result<Actions, Alloc
 {
     let number = number_of(&fault)?;
     one(alloc, Action::Refused(number))
-}
-
-/// A packet is for this process, or for whichever is at its address.
-pub fn is_for(me: &Unique, envelope: &Envelope) -> bool
-    ensures { result ≡ rules.is_for me.now envelope.now }
-{
-    if !envelope.to.is(&me.address) {
-        return false;
-    }
-    envelope.uid == 0 || envelope.uid == me.uid
 }

@@ -4,12 +4,12 @@ ghost use Rattle.ak_membership.specs.Tick as rules_of_ticks;
 ghost use Rattle.std.specs.FinMap as finmap;
 ghost use Rattle.ak_region.specs.Region as regions;
 ghost use Rattle.ak_node.specs.Node as rules;
-ghost use Rattle.ak_address.specs.Unique.{IsAddress, IsUnique};
-ghost use Rattle.ak_field.specs.Ranges.{IsEntity};
 ghost use Rattle.ak_node.specs.Sends.{AreValid, ComesValid, IsProcess, IsSaid};
 ghost use Rattle.ak_node.specs.NodeContracts.{Does, IsSameProcess, IsLeftOver, IsSilent, IsConcluded, ServesWhileItRuns, is_idle, may_ask};
 
-use crate::actions::{is_for, one, push_due, refuse, tell, told};
+use crate::actions::{one, push_due, refuse, tell, told};
+use crate::own::{is_dead, is_for};
+use crate::ranges::{address, offered, process};
 use ak_address::{Address, Text, Unique};
 use ak_field::EntityId;
 use ak_gossip::Gossip;
@@ -420,7 +420,13 @@ impl State {
 
     // One event: its rule and then the closing. A node that has stopped does nothing, and a packet for another process is dead.
     // Where the event changes nothing, nothing is due either, since the step before was concluded.
-    fn step<E: Given>(&mut self, alloc: Global, event: &E) -> Result<Actions, AllocError>
+    fn step<E: Given>(
+        &mut self,
+        alloc: Global,
+        event: &E,
+        dead: bool,
+    ) -> Result<Actions, AllocError>
+        requires dead { dead ≡ rules.is_dead (rules.me_of self.old) (E.event event.now) }
         requires steps { self.old.steps < 2 ^ 62 }
         requires ticked { self.old.membership.ticks ≤ self.old.steps }
         requires watching { IsWatching self.old.membership }
@@ -436,17 +442,23 @@ impl State {
         if event.is_idle(self) {
             return Ok(Actions::empty(alloc));
         }
-        self.running_step(alloc, event)
+        self.running_step(alloc, event, dead)
     }
 
     // The event of a node that runs.
-    fn running_step<E: Given>(&mut self, alloc: Global, event: &E) -> Result<Actions, AllocError>
+    fn running_step<E: Given>(
+        &mut self,
+        alloc: Global,
+        event: &E,
+        dead: bool,
+    ) -> Result<Actions, AllocError>
+        requires dead { dead ≡ rules.is_dead (rules.me_of self.old) (E.event event.now) }
         requires ticks { self.old.membership.ticks < 2 ^ 62 }
         requires watching { IsWatching self.old.membership }
         ensures does { IfOk result (λ actions. Does (rules.running_step (E.event event.now) self.old) self.new actions) }
         ensures same { IsSameProcess self.old self.new }
     {
-        if event.is_dead(self.me()) {
+        if dead {
             return one(alloc, Action::Dead);
         }
         self.acts(alloc, event)
@@ -473,10 +485,6 @@ trait Given {
     // The event that it is.
     ghost event: { Self → NodeEvent };
 
-    // A packet for another process is dead.
-    fn is_dead(&self, me: &Unique) -> bool
-        ensures { result ≡ rules.is_dead me.now (event self.now) };
-
     // It changes nothing: the node is to join a cluster in which it is a member.
     fn is_idle(&self, state: &State) -> bool
         ensures { result ≡ is_idle (event self.now) state.now };
@@ -496,15 +504,6 @@ trait Given {
 
 impl Given for NodeEvent {
     ghost event = { λ e. e };
-
-    fn is_dead(&self, me: &Unique) -> bool
-        ensures { result ≡ rules.is_dead me.now self.now }
-    {
-        match self {
-            NodeEvent::Packet(envelope) => envelope.is_dead(me),
-            _ => false,
-        }
-    }
 
     fn is_idle(&self, state: &State) -> bool
         ensures { result ≡ is_idle self.now state.now }
@@ -550,12 +549,6 @@ impl Given for Envelope {
 
     ghost event = { λ p. Packet p };
 
-    fn is_dead(&self, me: &Unique) -> bool
-        ensures { result ≡ rules.is_dead me.now (NodeEvent.Packet self.now) }
-    {
-        !is_for(me, self)
-    }
-
     fn is_idle(&self, _state: &State) -> bool
         ensures { result ≡ is_idle (NodeEvent.Packet self.now) _state.now }
     {
@@ -573,26 +566,6 @@ impl Given for Envelope {
         requires { ComesValid (NodeEvent.Packet self.now) }
         ensures { IsSaid (NodeEvent.Packet self.now) }
     {}
-}
-
-// Each tells a proof what is true of every value of a type. They do nothing.
-fn process(who: &Unique)
-    ensures { IsUnique who.now }
-{
-    let _uid = who.uid;
-}
-
-fn address(place: &Address)
-    ensures { IsAddress place.now }
-{
-    let _port = place.port;
-}
-
-fn offered(entity: &EntityId, payload: u64)
-    ensures { IsEntity entity.now × (payload < 2 ^ 64) }
-{
-    let _name = entity.name();
-    let _payload = payload;
 }
 
 /// A node. Once out of memory it is spent: it is the same process with the same settings and knows nothing, and each later
@@ -660,7 +633,7 @@ impl Node {
         ensures spent { OnErr result ((self.new.spent ≡ true) × IsLeftOver self.old.state self.new.state) }
         ensures memory { OnErr result (self.old.spent ≡ true ⊎ IsTrue (may_ask event self.old.state)) }
     {
-        let done = self.take(alloc, &event);
+        let done = self.step_on(alloc, &event);
         drop(event);
         done
     }
@@ -677,11 +650,18 @@ impl Node {
         ensures spent { OnErr result ((self.new.spent ≡ true) × IsLeftOver self.old.state self.new.state) }
         ensures memory { OnErr result (self.old.spent ≡ true ⊎ IsTrue (may_ask event.now self.old.state)) }
     {
-        self.take(alloc, event)
+        let dead = is_dead(self.me(), event);
+        self.take(alloc, event, dead)
     }
 
-    // The event is taken, and stays with whoever gave it.
-    fn take<E: Given>(&mut self, alloc: Global, event: &E) -> Result<Actions, AllocError>
+    // The event is taken, and stays with whoever gave it, who says whether it is a packet for another process.
+    fn take<E: Given>(
+        &mut self,
+        alloc: Global,
+        event: &E,
+        dead: bool,
+    ) -> Result<Actions, AllocError>
+        requires dead { dead ≡ rules.is_dead (rules.me_of self.old.state) (E.event event.now) }
         requires steps { self.old.state.steps < 2 ^ 62 }
         requires comes { ComesValid (E.event event.now) }
         ensures ok { IfOk result (λ actions. Does (rules.step (E.event event.now) self.old.state) self.new.state actions) }
@@ -699,7 +679,7 @@ impl Node {
         self.state.process();
         let runs = self.state.runs;
         let steps = self.state.steps;
-        match self.state.step(alloc, event) {
+        match self.state.step(alloc, event, dead) {
             Ok(actions) => {
                 self.state.membership.invariant();
                 self.state.membership.gossip().invariant();
@@ -730,7 +710,24 @@ impl Node {
         ensures spent { OnErr result ((self.new.spent ≡ true) × IsLeftOver self.old.state self.new.state) }
         ensures memory { OnErr result (self.old.spent ≡ true ⊎ IsTrue self.old.state.runs) }
     {
-        self.take(alloc, envelope)
+        let dead = !is_for(self.me(), envelope);
+        self.take(alloc, envelope, dead)
+    }
+
+    /// Gives the node a valid packet that is for it, as `receive` does; whoever found that it is asked already.
+    pub fn receive_own(&mut self, alloc: Global, envelope: &Envelope) -> Result<Actions, AllocError>
+        requires own { IsTrue (rules.is_for (rules.me_of self.old.state) envelope.now) }
+        requires steps { self.old.state.steps < 2 ^ 62 }
+        requires comes { ComesValid (NodeEvent.Packet envelope.now) }
+        ensures ok { IfOk result (λ actions. Does (rules.step (NodeEvent.Packet envelope.now) self.old.state) self.new.state actions) }
+        ensures valid { IfOk result (λ actions. AreValid actions) }
+        ensures silent { IfOk result (λ actions. IsSilent self.old.state self.new.state actions) }
+        ensures serves { OnOk result (ServesWhileItRuns self.new.state) }
+        ensures alive { OnOk result (self.old.spent ≡ false) × OnOk result (self.new.spent ≡ false) }
+        ensures spent { OnErr result ((self.new.spent ≡ true) × IsLeftOver self.old.state self.new.state) }
+        ensures memory { OnErr result (self.old.spent ≡ true ⊎ IsTrue self.old.state.runs) }
+    {
+        self.take(alloc, envelope, false)
     }
 
     /// The process that it is.
