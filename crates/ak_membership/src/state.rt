@@ -414,6 +414,7 @@ impl MembershipState {
     pub(crate) fn on_confirmed(&mut self, alloc: Global, from: &Unique) -> Result<(), AllocError>
         ensures ok { OnOk result (self.new ≡ rules.on_confirmed from.now self.old) }
         ensures err { OnErr result (self.new ≡ self.old) }
+        ensures memory { OnErr result (IsTrue (standing.is_member self.old.gossip.view.standings from.now)) }
     {
         if self.has_member(from) {
             return self.confirmed.insert(alloc, from);
