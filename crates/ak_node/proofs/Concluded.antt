@@ -13,15 +13,15 @@ use Rattle.ak_region.specs.RegionModel.{RegionModel}
 use Rattle.ak_region.proofs.Forgetting.{forgets_once}
 use Rattle.ak_settled.specs.SettledView.{SettledView}
 use Rattle.ak_sharding.specs.Hosts as hosts
-use Rattle.ak_sharding.specs.ShardingView.{ShardingModel}
+use Rattle.ak_sharding.specs.Sharding.{ShardingModel}
 use Rattle.ak_singleton.specs.Singleton as singleton
-use Rattle.ak_singleton.specs.SingletonView.{SingletonModel}
+use Rattle.ak_singleton.specs.Singleton.{SingletonModel}
 use Rattle.ak_wire.specs.declared.action.Action.TheVariants.{Dead}
 use Rattle.ak_wire.specs.declared.envelope.Message.TheVariants as message
 use Rattle.ak_node.specs.declared.node.NodeEvent.{NodeEvent}
 use Rattle.ak_node.specs.declared.node.NodeEvent.TheVariants.{Found, Join, Tick, Packet, Leave, Down, Offer, Stop}
 use Rattle.ak_node.specs.declared.node.State.{State}
-use Rattle.ak_node.specs.Node.{Outcome, me_of, is_member, settled_of, margin_of, around, sharing, keeping, and_then, closes, forgets, activates, becomes_active, concludes, due, rule, is_dead, running_step, step, nothing, to_address}
+use Rattle.ak_node.specs.Node.{Outcome, me_of, is_member, settled_of, margin_of, around, sharing, and_then, closes, forgets, activates, becomes_active, concludes, due, rule, is_dead, running_step, step, nothing, to_address}
 use Rattle.ak_node.specs.NodeContracts.{IsConcluded, is_idle}
 
 -- ---- a state of which nothing is due
