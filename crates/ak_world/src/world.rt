@@ -254,7 +254,7 @@ impl Scene {
                 actions: Actions::empty(alloc),
             });
         };
-        let actions = self.nodes[index].receive(alloc, packet.envelope())?;
+        let actions = self.nodes[index].receive_own(alloc, packet.envelope())?;
         self.keep(alloc, index, actions)
     }
 
