@@ -29,7 +29,8 @@ impl<'a> Fields<'a> {
     /// A receiver: a process as `unique` reads it, or, where the message is for any process at an address, an address with
     /// uid 0.
     pub fn receiver(&mut self, alloc: Global, anybody: bool) -> Result<(Address, u64), WireFault>
-        ensures { GivesAs (λ pair. record { address = pair.0; uid = pair.1 }) result self.new (receiver_at anybody self.old) }
+        ensures read { GivesAs (λ pair. record { address = pair.0; uid = pair.1 }) result self.new (receiver_at anybody self.old) }
+        ensures memory { IsThere result (receiver_at anybody self.old) }
     {
         if anybody {
             return self.process(alloc, 0, 0);
