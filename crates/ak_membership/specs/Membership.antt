@@ -10,9 +10,8 @@ use Rattle.ak_clock.specs.declared.version.TheConstants.{BOUND}
 use Rattle.ak_clock.specs.Version.{count}
 use Rattle.ak_member.specs.declared.effect.Effect.{Effect}
 use Rattle.ak_member.specs.declared.effect.Effect.TheVariants.{Joined, Rise}
-use Rattle.ak_member.specs.declared.status.Status.{Status}
 use Rattle.ak_member.specs.declared.status.Status.TheVariants.{Leaving, Down}
-use Rattle.ak_member.specs.Standing.{Standings, member_of, members_of, has_status, is_down, is_up, is_member_with}
+use Rattle.ak_member.specs.Standing.{Standings, members_of, is_down, is_up, is_member_with}
 use Rattle.ak_member.specs.Standing as standing
 use Rattle.ak_gossip.specs.declared.gossip.Received as received
 use Rattle.ak_gossip.specs.declared.gossip.GossipFault as fault

@@ -1,4 +1,4 @@
-ghost use Rattle.std.specs.Prelude.{◌≡◌, ℕ, [], ◌∷◌, MatchOption, MatchResult, codes};
+ghost use Rattle.std.specs.Prelude.{[], ◌∷◌, MatchOption, MatchResult, codes};
 ghost use Rattle.ak_address.specs.Spelling.{SpellsAddress};
 ghost use Rattle.ak_schedule.specs.Line.{words};
 ghost use Rattle.ak_schedule.specs.Draft.{RefusesHeader, RefusesValue, SpellsAddresses, SpellsNext};

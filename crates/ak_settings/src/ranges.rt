@@ -1,9 +1,9 @@
 // Whether values may be settings.
-ghost use Rattle.std.specs.Prelude.{◌≡◌, ◌≢◌, ◌↔◌, ◌≤◌, IsTrue};
+ghost use Rattle.std.specs.Prelude.{◌≡◌, ◌≢◌, ◌↔◌, IsTrue};
 ghost use Rattle.std.specs.List.{AllByRecursion, AllPairs};
 ghost use Rattle.ak_address.specs.Unique.{IsAddress};
 ghost use Rattle.ak_settings.specs.Settings as model;
-ghost use Rattle.ak_settings.specs.Settings.{IsListing, IsStrategy, IsWithin, is_listed};
+ghost use Rattle.ak_settings.specs.Settings.{IsListing, IsStrategy, IsWithin};
 
 use crate::settings::{Strategy, contains_address};
 use ak_address::Address;
