@@ -290,6 +290,11 @@ none_told : (o : Option Envelope) (next number : ℕ) (text old new : List ℕ) 
 none_told None next number text old new w e n g = ([], refl, (let m : next ≡ number + 0 = n in omega (arith, m)), g ∙ ap (λ (t : List ℕ). old ++ t) (sym (append-nil text)), sends_nothing w [])
 none_told (Some p) next number text old new w e n g = absurd (some_none p e)
 
+-- an action that is no send has no packet
+pub unsent : (a : Action) → ((e : Envelope) → a ≡ Send e → ⊥) → envelope_of a ≡ None
+unsent (Send e) other = absurd (other e refl)
+unsent a other = refl
+
 pub tells_none : (g : GossipState) (number : ℕ) (a : Action) (old new : List ℕ) (w : Wire) → envelope_of a ≡ None → new ≡ old ++ item (action_text g number a)
     → TellsOne (Ok number) g number a old new w w
 tells_none g number a old new w is printed =

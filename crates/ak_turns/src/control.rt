@@ -1,6 +1,5 @@
 // The control command.
 ghost use Rattle.std.specs.Prelude.{◌≡◌, ◌≤◌, ◌↔◌, IfOk};
-ghost use Rattle.ak_address.specs.Unique.{IsAddress, IsUnique};
 ghost use Rattle.ak_wire.specs.Datagram.{IsBody, IsValid};
 ghost use Rattle.ak_turns.specs.Control.{control_packet, message_of, answer_line, Asks, AsksAndAnswers, Controls, ControlCause, WritesLine};
 ghost use Rattle.ak_turns.specs.Outside.{sink, wire};
@@ -13,33 +12,14 @@ use ak_outside::{Bound, Link, Sent, Sink, Status};
 use ak_wire::{Envelope, Message};
 use std::alloc::{AllocError, Global};
 
-// Each tells a proof what is true of every value of a type. They do nothing.
-fn process(who: &Unique)
-    ensures { IsUnique who.now }
-{
-    let _uid = who.uid;
-}
-
-fn address(place: &Address)
-    ensures { IsAddress place.now }
-{
-    let _port = place.port;
-}
-
 // What a node is asked, as a message.
 fn message(alloc: Global, say: Request) -> Result<Message, AllocError>
     ensures value { IfOk result (λ message. message ≡ message_of say) }
     ensures valid { IfOk result IsBody }
 {
     match say {
-        Request::Leave(who) => {
-            process(&who);
-            Ok(Message::Leave(who))
-        }
-        Request::Down(who) => {
-            process(&who);
-            Ok(Message::Down(who))
-        }
+        Request::Leave(who) => Ok(Message::Leave(who)),
+        Request::Down(who) => Ok(Message::Down(who)),
         Request::Offer(entity, payload) => {
             let name = entity.name().copy(alloc)?;
             Ok(Message::Offer(name, payload))
@@ -57,8 +37,6 @@ fn packet(alloc: Global, to: Address, say: Request) -> Result<Envelope, AllocErr
         address: Address { host, port: 1 },
         uid: 1,
     };
-    process(&from);
-    address(&to);
     Ok(Envelope {
         from,
         to,

@@ -1,5 +1,5 @@
 // A node, and the steps that it takes on the network.
-ghost use Rattle.std.specs.Prelude.{◌≡◌, ◌≤◌, ◌<◌, ◌+◌, ◌*◌, ◌^◌, ◌++◌, ◌∷◌, [], length, codes, OnOk, IfOk, IfSome, option_copied};
+ghost use Rattle.std.specs.Prelude.{◌≡◌, ◌≤◌, ◌<◌, ◌+◌, ◌*◌, ◌^◌, ◌++◌, ◌∷◌, [], length, codes, OnOk, IfOk, IfSome};
 ghost use Rattle.std.specs.Fmt.{decimal};
 ghost use Rattle.ak_wire.specs.Datagram.{IsValid};
 ghost use Rattle.ak_wire.specs.Wire.{envelope_of, sent};
@@ -122,16 +122,6 @@ fn give(alloc: Global, node: &mut Node, happening: &Happening) -> Result<Actions
     }
 }
 
-// The packet that an action sends.
-fn packet_of(action: &Action) -> Option<&Envelope>
-    ensures { option_copied result ≡ envelope_of action.now }
-{
-    match action {
-        Action::Send(envelope) => Some(envelope.get()),
-        _ => None,
-    }
-}
-
 fn print_lost(number: u128, out: &mut Vec<u8>) -> Result<(), AllocError>
     ensures { OnOk result (out.new.items ≡ out.old.items ++ (codes "  lost " ++ decimal number ++ 10 ∷ [])) }
 {
@@ -173,12 +163,12 @@ fn tell_one<L: Link>(
     ensures tells { TellsOne result gossip.now number action.now out.old.items out.new.items (wire (L.bound link.old) (L.sends link.old) (L.losses link.old) (L.coming link.old)) (wire (L.bound link.new) (L.sends link.new) (L.losses link.new) (L.coming link.new)) }
 {
     append_action(gossip, number, action, out)?;
-    match packet_of(action) {
-        Some(envelope) => {
-            send(alloc, number, envelope, link, out)?;
+    match action {
+        Action::Send(packet) => {
+            send(alloc, number, packet.get(), link, out)?;
             Ok(number + 1)
         }
-        None => Ok(number),
+        _ => Ok(number),
     }
 }
 
