@@ -1,12 +1,10 @@
 -- Reading ends in no fault but one that has a number.
-use Rattle.std.proofs.Common.{◌≡◌, ℕ, nat_le, Bool, true, false, is_some, List, [], ◌∷◌, if◌then◌else◌, Result, Ok, Err, refl, sym, true≢false}
+use Rattle.std.proofs.Common.{◌≡◌, ℕ, nat_le, true, is_some, List, [], ◌∷◌, Result, Err, refl, sym, true≢false}
 use Rattle.ak_clock.specs.declared.version.TheConstants.{BOUND}
-use Rattle.std.specs.Int.{w64}
 use Rattle.ak_field.specs.declared.fault.WireFault.{WireFault}
 use Rattle.ak_field.specs.declared.fault.WireFault.TheVariants.{Short, Magic, Version, Kind, Count, Order, Range, Trailing, NoMemory}
-use Rattle.ak_field.specs.Reading.{◌>>=◌, wide_at, fault_number}
-use Rattle.ak_field.specs.Fields.{number_at, shard_at, process_at, receiver_at, ballot_at, entity_at, header_at}
-use Rattle.ak_field.specs.Lists.{version_at, reports_at}
+use Rattle.ak_field.specs.Reading.{fault_number}
+use Rattle.ak_field.specs.Fields.{process_at, receiver_at, header_at}
 use Rattle.ak_field.specs.Parts.{parts_at}
 use Rattle.ak_field.proofs.Numbered.{IsNumbered, fine, wrong, bind, choose, wide, a_number, a_shard, a_process, a_receiver, a_ballot, an_entity, a_header, a_version, some_reports, some_parts, has_number}
 use Rattle.ak_wire.specs.declared.envelope.Envelope.{Envelope}
