@@ -157,7 +157,7 @@ pub(crate) enum Story {
     IsDowned,
 }
 
-fn cluster(story: Story) -> Cluster {
+fn cluster_of(story: Story) -> Cluster {
     match story {
         Story::EndsTooEarly | Story::StopsInTime | Story::IsTold => margin::CLUSTER,
         Story::StartsTwice => double::CLUSTER,
@@ -192,6 +192,6 @@ fn goes_so(alloc: Global, world: &mut World, story: Story) -> Result<bool, Fail>
 // Whether the story goes so in a new world. A function that owns a world is proved to let it go at each of its ends, which takes
 // long, so this one alone owns one, and the others borrow it.
 pub(crate) fn is_so(alloc: Global, story: Story) -> Result<bool, Fail> {
-    let mut world = World::new(alloc, settings_of(alloc, cluster(story))?);
+    let mut world = World::new(alloc, settings_of(alloc, cluster_of(story))?);
     goes_so(alloc, &mut world, story)
 }
