@@ -2,5 +2,4 @@ pub mod Steps
 pub mod AddressLemmas
 pub mod ListingLemmas
 pub mod KeyLemmas
-pub mod Different
 pub mod LeastLemmas

@@ -2,7 +2,7 @@
 use Rattle.std.specs.Prelude.{◌≡◌, ◌<◌, ◌^◌, IsTrue, List, length, Result, Ok, Err}
 use Rattle.std.specs.List.{AllByRecursion}
 use Rattle.ak_address.specs.Unique.{AddressModel, IsAddress}
-use Rattle.ak_schedule.specs.Settings.{IsWithin, IsStrategy, is_listed}
+use Rattle.ak_settings.specs.Settings.{IsWithin, IsStrategy, is_listed}
 use Rattle.ak_config.specs.declared.config.Config.{Config}
 use Rattle.ak_config.specs.declared.entries.Entries.{Entries}
 use Rattle.ak_config.specs.declared.entries.Limits.{Limits}

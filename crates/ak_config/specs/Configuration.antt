@@ -1,6 +1,6 @@
 -- What the configuration of a node says, key by key in the order in which they are read, over the values that a TOML document
 -- has (keys, ranges and defaults are this project's choice).
-use Rattle.std.specs.Prelude.{ℕ, ℤ, pos, negsuc, suc, ◌-◌, ◌^◌, Bool, true, false, ◌&&◌, not, nat_le, nat_eq, List, [], ◌∷◌, codes, Option, Some, None, Result, Ok, Err, if◌then◌else◌, is_some}
+use Rattle.std.specs.Prelude.{ℕ, ℤ, pos, negsuc, suc, ◌-◌, ◌^◌, Bool, true, false, ◌&&◌, nat_le, nat_eq, List, [], ◌∷◌, codes, Option, Some, None, Result, Ok, Err, if◌then◌else◌, is_some}
 use Rattle.std.specs.List.{list_any}
 use Rattle.std.specs.Ordering.{nat_cmp, match_ordering}
 use Rattle.std.specs.Cmp.Lexicographic.{slice_cmp, pointwise}
@@ -8,9 +8,9 @@ use Rattle.std.specs.Str.{is_utf8}
 use Rattle.toml.specs.Data.{Data, Items, no_items, item, Members, no_members, member, get_member, as_str, as_integer, as_bool, as_array}
 use Rattle.toml.specs.Parse.{parse_document}
 use Rattle.ak_address.specs.Unique.{AddressModel, UniqueModel}
-use Rattle.ak_schedule.specs.declared.settings.Strategy.{Strategy}
-use Rattle.ak_schedule.specs.declared.settings.Strategy.TheVariants.{StaticQuorum, KeepMajority, DownAll}
-use Rattle.ak_schedule.specs.Settings.{is_listed}
+use Rattle.ak_settings.specs.declared.settings.Strategy.{Strategy}
+use Rattle.ak_settings.specs.declared.settings.Strategy.TheVariants.{StaticQuorum, KeepMajority, DownAll}
+use Rattle.ak_settings.specs.Settings.{is_listed, all_different, default_shards, default_buffer, default_threshold, default_limit}
 use Rattle.ak_config.specs.declared.config.Config.{Config}
 use Rattle.ak_config.specs.declared.fault.ConfigFault.{ConfigFault}
 use Rattle.ak_config.specs.declared.fault.ConfigFault.TheVariants.{NotToml, Missing, Unknown, WrongType, Range, BadAddress, SelfUnlisted, Repeated}
@@ -181,10 +181,10 @@ limits_at t = do
   margin ← integer_at (codes "margin") 1 1000000 20 t
   deadline ← integer_at (codes "deadline") 1 1000000 5 t
   stable ← integer_at (codes "stable") 1 1000000 20 t
-  shards ← integer_at (codes "shards") 1 1000 1000 t
-  buffer ← integer_at (codes "buffer") 1 100000 100000 t
-  threshold ← integer_at (codes "threshold") 1 1000 1 t
-  limit ← integer_at (codes "limit") 1 1000 3 t
+  shards ← integer_at (codes "shards") 1 1000 default_shards t
+  buffer ← integer_at (codes "buffer") 1 100000 default_buffer t
+  threshold ← integer_at (codes "threshold") 1 1000 default_threshold t
+  limit ← integer_at (codes "limit") 1 1000 default_limit t
   Ok (record { margin = margin; deadline = deadline; stable = stable; shards = shards; buffer = buffer; threshold = threshold; limit = limit })
 
 unfoldable pub running_at : Members → Result Running ConfigFault
@@ -204,11 +204,6 @@ entries_at t = do
   limits ← limits_at t
   running ← running_at t
   Ok (record { me = me; listed = listed; strategy = strategy; limits = limits; running = running })
-
--- no address stands twice
-abbrev pub all_different : List AddressModel → Bool
-all_different [] = true
-all_different (a ∷ others) = not (is_listed others a) && all_different others
 
 abbrev pub config_of : EntriesModel → Config
 config_of e =

@@ -1,16 +1,16 @@
 // A configuration, and how it is read.
 ghost use Rattle.std.specs.Prelude.{◌≡◌, true, IfOk};
 ghost use Rattle.toml.specs.View.{table_view};
+ghost use Rattle.ak_settings.specs.Settings.{all_different};
 ghost use Rattle.ak_config.specs.Configuration as spec;
 ghost use Rattle.ak_config.specs.ConfigContracts.{Gives, GivesAs, AreEntries, IsConfig, entries_view};
 
 use crate::entries::{Entries, Limits, Running, entries_at};
 use crate::fault::ConfigFault;
 use crate::keys::known_keys;
-use crate::listing::{all_different, is_among};
 use crate::values::name;
 use ak_address::{Address, Unique};
-use ak_schedule::Settings;
+use ak_settings::{Settings, all_different, contains_address};
 use std::alloc::{AllocError, Global};
 use toml::Table;
 
@@ -73,7 +73,7 @@ fn agreed(alloc: Global, entries: Entries) -> Result<Config, ConfigFault>
     if !all_different(&entries.listed) {
         return Err(ConfigFault::Repeated(name(alloc, "listed")?));
     }
-    if !is_among(&entries.listed, &entries.me.address) {
+    if !contains_address(&entries.listed, &entries.me.address) {
         return Err(ConfigFault::SelfUnlisted(name(alloc, "self")?));
     }
     Ok(config_of(entries))
@@ -81,7 +81,7 @@ fn agreed(alloc: Global, entries: Entries) -> Result<Config, ConfigFault>
 
 fn config_of(entries: Entries) -> Config
     requires ranges { AreEntries (entries_view entries) }
-    requires different { spec.all_different entries.listed.items ≡ true }
+    requires different { all_different entries.listed.items ≡ true }
     ensures { result ≡ spec.config_of (entries_view entries) }
 {
     let Entries {

@@ -1,7 +1,7 @@
 // What a configuration says at each of its keys.
 ghost use Rattle.std.specs.Prelude.{◌≡◌, IfOk, IfSome};
 ghost use Rattle.toml.specs.View.{view, table_view};
-ghost use Rattle.ak_schedule.specs.Settings.{IsStrategy};
+ghost use Rattle.ak_settings.specs.Settings.{IsStrategy};
 ghost use Rattle.ak_config.specs.Configuration as read;
 ghost use Rattle.ak_config.specs.ConfigContracts.{Gives, GivesAs, AreLimits, AreEntries, IsRunning, entries_view};
 
@@ -11,7 +11,7 @@ use crate::values::{
     address_at, flag_at, integer_at, name, required, required_address, required_integer, text_in,
 };
 use ak_address::{Address, Unique};
-use ak_schedule::Strategy;
+use ak_settings::{DEFAULT_BUFFER, DEFAULT_LIMIT, DEFAULT_SHARDS, DEFAULT_THRESHOLD, Strategy};
 use std::alloc::Global;
 use toml::Table;
 
@@ -126,10 +126,14 @@ fn limits_at(alloc: Global, table: &Table) -> Result<Limits, ConfigFault>
     let margin = integer_at(alloc, table, "margin", 1, MOST_TICKS, 20)?;
     let deadline = integer_at(alloc, table, "deadline", 1, MOST_TICKS, 5)?;
     let stable = integer_at(alloc, table, "stable", 1, MOST_TICKS, 20)?;
-    let shards = integer_at(alloc, table, "shards", 1, 1000, 1000)?;
-    let buffer = integer_at(alloc, table, "buffer", 1, 100_000, 100_000)?;
-    let threshold = integer_at(alloc, table, "threshold", 1, 1000, 1)?;
-    let limit = integer_at(alloc, table, "limit", 1, 1000, 3)?;
+    let default = u64::from(DEFAULT_SHARDS);
+    let shards = integer_at(alloc, table, "shards", 1, 1000, default)?;
+    let default = u64::from(DEFAULT_BUFFER);
+    let buffer = integer_at(alloc, table, "buffer", 1, 100_000, default)?;
+    let default = u64::from(DEFAULT_THRESHOLD);
+    let threshold = integer_at(alloc, table, "threshold", 1, 1000, default)?;
+    let default = u64::from(DEFAULT_LIMIT);
+    let limit = integer_at(alloc, table, "limit", 1, 1000, default)?;
     Ok(Limits {
         margin: margin as u32,
         deadline: deadline as u32,

@@ -3,7 +3,6 @@ ghost use Rattle.std.specs.Prelude.{◌≡◌, ◌≤◌, ◌&&◌, nat_le, IfOk
 ghost use Rattle.std.specs.List.{AllByRecursion};
 ghost use Rattle.toml.specs.View.{table_view, array_view, items_view};
 ghost use Rattle.ak_address.specs.Unique.{IsAddress};
-ghost use Rattle.ak_schedule.specs.Settings.{is_listed};
 ghost use Rattle.ak_config.specs.Configuration as read;
 ghost use Rattle.ak_config.specs.ConfigContracts.{Gives, GivesAs, IsList};
 
@@ -76,23 +75,4 @@ fn addresses_in(alloc: Global, key: &str, items: &[Value]) -> Result<Vec<Address
         listed.push(address)?;
     }
     Ok(listed)
-}
-
-/// Whether no address stands twice.
-pub(crate) fn all_different(listed: &[Address]) -> bool
-    ensures { result ≡ read.all_different listed.now }
-{
-    'addresses: for (i, address) in listed.iter().enumerate() {
-        if is_among(&listed[i + 1..], address) {
-            return false;
-        }
-    }
-    true
-}
-
-/// Whether the address is one of these.
-pub(crate) fn is_among(listed: &[Address], at: &Address) -> bool
-    ensures { result ≡ is_listed listed.now at.now }
-{
-    listed.iter().any(|each| each.is(at))
 }

@@ -1,5 +1,5 @@
 -- Where a tick has nothing to do.
-use Rattle.std.proofs.Common.{◌≡◌, ℕ, Bool, true, false, cond, not, ◌||◌, ◌+◌, List, [], ◌∷◌, drop, slice_get, Option, None, Some, option_to_list, refl, sym, ap, ◌∙◌, arith, map, length}
+use Rattle.std.proofs.Common.{◌≡◌, ℕ, Bool, true, false, cond, not, ◌||◌, ◌+◌, List, [], ◌∷◌, drop, slice_get, Option, None, Some, option_map, option_to_list, Result, Ok, Err, OnErr, refl, sym, ap, ◌∙◌, arith, map, length}
 use Rattle.std.proofs.lemmas.Bool.{or_parts, and_right}
 use Rattle.std.proofs.lemmas.List.{nil_from_length}
 use Rattle.std.proofs.lemmas.List.Folds.{list_any-append}
@@ -10,15 +10,16 @@ use Rattle.ak_address.specs.Unique.{UniqueModel, unique_cmp}
 use Rattle.ak_address.specs.Uniques.{UniqueSet, in_order, how_many, set_of}
 use Rattle.ak_address.proofs.CountersLaws.{set_of-in_order}
 use Rattle.ak_member.specs.declared.standing.Standing.{Standing}
+use Rattle.ak_member.specs.declared.status.Status.{Status}
 use Rattle.ak_member.specs.declared.standing.Standing.TheVariants.{Member, Buried}
-use Rattle.ak_member.specs.Standing.{Standings, is_exiting, as_member, as_tombstone, member_of, tombstone_of, pair_of, member_pairs, tombstone_pairs, members_of, tombstones_of}
+use Rattle.ak_member.specs.Standing.{Standings, is_exiting, has_status, as_member, as_tombstone, member_of, tombstone_of, pair_of, member_pairs, tombstone_pairs, members_of, tombstones_of}
 use Rattle.ak_member.proofs.MemberLemmas.{kept_from, keeps_members}
 use Rattle.ak_address.specs.Counters.{counter}
 use Rattle.ak_settled.specs.SettledView.{SettledView}
 use Rattle.ak_settled.specs.Settled.{standings_of, is_over, is_finished}
 use Rattle.ak_coordinator.specs.Table.{Home, ShardEntry}
 use Rattle.ak_coordinator.specs.Entry.{moves, freed}
-use Rattle.ak_coordinator.specs.Tick.{is_unfinished, unfinished, noticed, has_finished_home, is_exiting_as, is_exiting_pair, has_exiting_home, leaves_exiting, first_from}
+use Rattle.ak_coordinator.specs.Tick.{is_unfinished, unfinished, noticed, has_finished_home, is_exiting_pair, has_exiting_home, leaves_exiting, first_from}
 use Rattle.ak_coordinator.proofs.LoadLemmas.{many_in_order}
 
 -- nobody was waited for, and nobody is
@@ -33,23 +34,23 @@ nothing_noticed margin settled entry lives none =
     ∙ ap (λ (w : UniqueSet). record entry { waits = w }) (nobody_left margin settled entry.waits none))
 
 -- no member is Exiting, and no shard has to leave one
-not_exiting : (pairs : List (UniqueModel × Standing)) (who : UniqueModel) → list_any is_exiting_pair (member_pairs pairs) ≡ false → is_exiting_as (member_of (finmap.find unique_cmp who pairs)) ≡ false
+not_exiting : (pairs : List (UniqueModel × Standing)) (who : UniqueModel) → list_any is_exiting_pair (member_pairs pairs) ≡ false → has_status is_exiting (member_of (finmap.find unique_cmp who pairs)) ≡ false
 not_exiting [] who none = refl
 not_exiting (pair ∷ pairs) who none =
     let parts = apart pair.1 none in
     by_key (eq_by_cmp unique_cmp who pair.0) parts.0 (not_exiting pairs who parts.1)
   where
-    apart : (standing : Standing) → list_any is_exiting_pair (pair_of pair.0 (as_member standing) (member_pairs pairs)) ≡ false → (is_exiting_as (as_member standing) ≡ false) × (list_any is_exiting_pair (member_pairs pairs) ≡ false)
+    apart : (standing : Standing) → list_any is_exiting_pair (pair_of pair.0 (as_member standing) (member_pairs pairs)) ≡ false → (has_status is_exiting (as_member standing) ≡ false) × (list_any is_exiting_pair (member_pairs pairs) ≡ false)
     apart (Member status number) none = or_parts (is_exiting status) (list_any is_exiting_pair (member_pairs pairs)) none
     apart (Buried confirmed) none = (refl, none)
 
-    by_key : (b : Bool) → is_exiting_as (as_member pair.1) ≡ false → is_exiting_as (member_of (finmap.find unique_cmp who pairs)) ≡ false → is_exiting_as (member_of (cond b (Some pair.1) (finmap.find unique_cmp who pairs))) ≡ false
+    by_key : (b : Bool) → has_status is_exiting (as_member pair.1) ≡ false → has_status is_exiting (member_of (finmap.find unique_cmp who pairs)) ≡ false → has_status is_exiting (member_of (cond b (Some pair.1) (finmap.find unique_cmp who pairs))) ≡ false
     by_key true here _ = here
     by_key false _ rest = rest
 
 not_at_home : (s : Standings) (home : Option Home) → list_any is_exiting_pair (members_of s) ≡ false → has_exiting_home s home ≡ false
 not_at_home s None none = refl
-not_at_home s (Some home) none = ap (λ found. is_exiting_as (member_of found)) (finmap.get-entries s home.owner) ∙ not_exiting (finmap.entries s) home.owner none
+not_at_home s (Some home) none = ap (λ found. has_status is_exiting (member_of found)) (finmap.get-entries s home.owner) ∙ not_exiting (finmap.entries s) home.owner none
 
 pub none_leaves : (s : Standings) (shard : ℕ) (table : List ShardEntry) → list_any is_exiting_pair (members_of s) ≡ false → None ≡ first_from shard (leaves_exiting s) table
 none_leaves s shard [] none = refl
@@ -111,3 +112,21 @@ none_noticed margin settled (entry ∷ table) none =
     ap (λ l. entry ∷ l) (none_noticed margin settled table none)
     ∙ ap (λ e. e ∷ map (noticed margin settled) table) (sym (ap (λ b. cond b (freed entry) (record entry { waits = unfinished margin settled entry.waits })) (lives_at_home margin settled entry.home none)
     ∙ ap (λ (w : UniqueSet). record entry { waits = w }) (ap set_of (all_left margin settled (in_order entry.waits) none) ∙ set_of-in_order entry.waits)))
+
+-- what is at a pair says whether the member there, where there is one, is Exiting
+pub exiting_there : {M : Type 0} (f : M → UniqueModel × (Status × ℕ)) (pairs : List (UniqueModel × Standing)) (i : ℕ) (found : Option M) (member : M) → found ≡ Some member
+    → option_to_list (option_map f found) ≡ member_pairs (option_to_list (slice_get pairs i)) → is_exiting (f member).1.0 ≡ list_any is_exiting_pair (member_pairs (option_to_list (slice_get pairs i)))
+exiting_there f pairs i found member is at = alone (is_exiting (f member).1.0) ∙ ap (list_any is_exiting_pair) (ap (λ r. option_to_list (option_map f r)) (sym is) ∙ at)
+  where
+    alone : (b : Bool) → b ≡ (b || false)
+    alone true = refl
+    alone false = refl
+
+pub nobody_there : {M : Type 0} (f : M → UniqueModel × (Status × ℕ)) (pairs : List (UniqueModel × Standing)) (i : ℕ) (found : Option M) → found ≡ None
+    → option_to_list (option_map f found) ≡ member_pairs (option_to_list (slice_get pairs i)) → false ≡ list_any is_exiting_pair (member_pairs (option_to_list (slice_get pairs i)))
+nobody_there f pairs i found none at = ap (list_any is_exiting_pair) (ap (λ r. option_to_list (option_map f r)) (sym none) ∙ at)
+
+-- ---- where memory ran out
+pub on_err : {X E P : Type 0} (r : Result X E) → P → OnErr r P
+on_err (Ok x) p = tt
+on_err (Err error) p = p

@@ -1,13 +1,12 @@
 -- The tick of a coordinator (Akka's Cluster Sharding, "Shard rebalancing": a hand-off begins with every region, then the home
 -- hands the shard off; that a shard leaves an Exiting home first, and how many move at once, are this project's).
-use Rattle.std.specs.Prelude.{ℕ, ◌+◌, ◌==◌, nat_lt, Bool, false, not, ◌&&◌, List, [], ◌∷◌, ◌++◌, length, map, Option, None, Some, if◌then◌else◌}
-use Rattle.std.specs.FinMap as finmap
+use Rattle.std.specs.Prelude.{◌≡◌, ◌≤◌, ◌⊎◌, ℕ, ◌+◌, ◌==◌, nat_lt, Bool, false, not, ◌&&◌, List, [], ◌∷◌, ◌++◌, length, map, take, drop, Option, None, Some, if◌then◌else◌}
 use Rattle.std.specs.List.{filter}
 use Rattle.ak_address.specs.Unique.{UniqueModel}
 use Rattle.ak_address.specs.Uniques.{UniqueSet, how_many, in_order, set_of}
 use Rattle.ak_allocation.specs.declared.load.Load.{Load}
 use Rattle.ak_allocation.specs.Allocation.{overloaded}
-use Rattle.ak_member.specs.Standing.{Standings, member_of, is_exiting}
+use Rattle.ak_member.specs.Standing.{Standings, is_member_with, is_exiting}
 use Rattle.ak_member.specs.declared.status.Status.{Status}
 use Rattle.ak_settled.specs.SettledView.{SettledView}
 use Rattle.ak_settled.specs.Settled.{standings_of, is_finished}
@@ -36,21 +35,18 @@ abbrev pub noticed : ℕ → SettledView → ShardEntry → ShardEntry
 noticed margin settled entry =
     if has_finished_home margin settled entry.home then freed entry else record entry { waits = unfinished margin settled entry.waits }
 
--- ---- which shard begins to move
-abbrev pub is_exiting_as : Option (Status × ℕ) → Bool
-is_exiting_as None = false
-is_exiting_as (Some member) = is_exiting member.0
+-- the first of the shards were noticed so, and those from one of them on were not
+abbrev pub IsPartlyNoticed : ℕ → SettledView → ShardTable → ShardTable → Type 0
+IsPartlyNoticed margin settled old new = (first : ℕ) × (first ≤ length old) × (new ≡ map (noticed margin settled) (take first old) ++ drop first old)
 
+-- ---- which shard begins to move
 -- a member, with its status and number, is Exiting
 abbrev pub is_exiting_pair : UniqueModel × (Status × ℕ) → Bool
 is_exiting_pair pair = is_exiting pair.1.0
 
-abbrev pub is_exiting_member : Standings → UniqueModel → Bool
-is_exiting_member s who = is_exiting_as (member_of (finmap.get s who))
-
 abbrev pub has_exiting_home : Standings → Option Home → Bool
 has_exiting_home s None = false
-has_exiting_home s (Some home) = is_exiting_member s home.owner
+has_exiting_home s (Some home) = is_member_with is_exiting s home.owner
 
 -- the shard does not move, and its home is Exiting
 abbrev pub leaves_exiting : Standings → ShardEntry → Bool
@@ -107,6 +103,12 @@ hurried entry = if is_holding entry.stage && how_many entry.waits == 0 then reco
 abbrev pub after_tick : UniqueSet → SettledView → ℕ → ℕ → ℕ → ShardTable → ShardTable
 after_tick granted settled margin threshold limit table =
     map hurried (after_begin granted settled margin threshold limit (map (noticed margin settled) table))
+
+-- What a tick that found no memory leaves: the first of the shards were noticed, and nothing more was done; or it is the table
+-- after the tick, and only the orders are missing.
+abbrev pub IsPartlyTicked : UniqueSet → SettledView → ℕ → ℕ → ℕ → ShardTable → ShardTable → Type 0
+IsPartlyTicked granted settled margin threshold limit old new =
+    IsPartlyNoticed margin settled old new ⊎ (new ≡ after_tick granted settled margin threshold limit old)
 
 abbrev pub begin_order : ℕ → ℕ → UniqueModel → Order
 begin_order shard number who = order.Begin shard number who

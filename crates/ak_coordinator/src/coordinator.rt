@@ -2,7 +2,7 @@ ghost use Rattle.std.specs.Prelude.{◌≡◌, ◌≤◌, ◌<◌, ◌⊎◌, le
 ghost use Rattle.ak_shard_id.specs.declared.report.Report.{Report};
 ghost use Rattle.ak_settled.specs.Settled.{standings_of};
 ghost use Rattle.ak_coordinator.specs.Entry.{unplaced, homing, NamesHome, after_get_home, after_started, is_last_ack, after_ack, freed, awaits_stop, allotted, after_allotment};
-ghost use Rattle.ak_coordinator.specs.Tick.{after_tick, orders_from};
+ghost use Rattle.ak_coordinator.specs.Tick.{after_tick, orders_from, IsPartlyTicked};
 ghost use Rattle.ak_coordinator.specs.Coordinator.{entry_of, with_entry, learnt_all, IsPartlyLearnt, stopped_placed, after_stopped, loads_of};
 
 use crate::entry::{Entry, Homing, Placed};
@@ -11,7 +11,7 @@ use crate::orders::{Order, orders_of};
 use crate::tick::{begin_one, hurry_each, notice_each};
 use ak_address::{Unique, Uniques};
 use ak_allocation::Load;
-use ak_schedule::Settings;
+use ak_settings::Settings;
 use ak_settled::Settled;
 use ak_shard_id::Report;
 use std::alloc::{AllocError, Global};
@@ -161,7 +161,8 @@ impl Coordinator {
     /// first one that does not move of the node that has to give one away; it waits for every node that has granted and is
     /// not finished. Then for each shard in ascending order: every node that is waited for is told that the hand-off begins;
     /// where nobody is left, the home is told to hand it off; and a home that has not started is told to host it. Only memory
-    /// can fail, and then nothing is said of the table.
+    /// can fail: then the first of the shards were looked at for finished nodes, and nothing more was done; or all was done, and
+    /// only the orders are missing.
     pub fn on_tick(
         &mut self,
         alloc: Global,
@@ -171,6 +172,7 @@ impl Coordinator {
     ) -> Result<Vec<Order>, AllocError>
         ensures after { OnOk result (self.new ≡ after_tick granted.now settled.now.view settings.now.margin settings.now.threshold settings.now.limit self.old) }
         ensures orders { IfOk result (λ orders. orders.items ≡ orders_from 0 (after_tick granted.now settled.now.view settings.now.margin settings.now.threshold settings.now.limit self.old)) }
+        ensures lost { OnErr result (IsPartlyTicked granted.now settled.now.view settings.now.margin settings.now.threshold settings.now.limit self.old self.new) }
     {
         notice_each(alloc, &mut self.entries, settled, settings.margin)?;
         begin_one(alloc, &mut self.entries, granted, settled, settings)?;

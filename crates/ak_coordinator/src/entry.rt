@@ -2,7 +2,7 @@ ghost use Rattle.std.specs.Prelude.{◌≡◌, IfOk, OnOk, OnErr, option_copied,
 ghost use Rattle.ak_address.specs.Unique.{UniqueModel};
 ghost use Rattle.ak_address.specs.Uniques.{UniqueSet};
 ghost use Rattle.ak_coordinator.specs.Entry.{unplaced, moves, is_home, is_at, claims, learnt, beats, allotted, after_allotment, homing, NamesHome, after_get_home, after_started, is_awaited, is_last_ack, after_ack, freed, awaits_stop};
-ghost use Rattle.ak_coordinator.specs.Tick.{has_finished_home, noticed, is_exiting_member, leaves_exiting, leaves_node, begun, hurried};
+ghost use Rattle.ak_coordinator.specs.Tick.{has_finished_home, noticed, leaves_exiting, leaves_node, begun, hurried};
 
 use crate::tick::unfinished;
 use ak_address::{Unique, Uniques};
@@ -264,7 +264,8 @@ impl Entry {
         settled: &Settled,
         margin: u32,
     ) -> Result<(), AllocError>
-        ensures { OnOk result (self.new ≡ noticed margin settled.now.view self.old) }
+        ensures ok { OnOk result (self.new ≡ noticed margin settled.now.view self.old) }
+        ensures err { OnErr result (self.new ≡ self.old) }
     {
         if self.has_finished_home(settled, margin) {
             self.free(alloc);
@@ -284,7 +285,7 @@ impl Entry {
         ensures { result ≡ leaves_exiting members.now self.now }
     {
         match &self.home {
-            Some(home) => !self.moves() && is_exiting(members, &home.owner),
+            Some(home) => !self.moves() && members.is_exiting(&home.owner),
             None => false,
         }
     }
@@ -336,14 +337,4 @@ fn is_beaten(home: &Placed, from: &Unique, number: u64) -> bool
     ensures { result ≡ beats from.now number home.now }
 {
     home.number < number || (home.number == number && home.owner.compare(from).is_lt())
-}
-
-// Whether the node is an Exiting member.
-fn is_exiting(members: &Members, who: &Unique) -> bool
-    ensures { result ≡ is_exiting_member members.now who.now }
-{
-    match members.get(who) {
-        Some(member) => member.status.is_exiting(),
-        None => false,
-    }
 }

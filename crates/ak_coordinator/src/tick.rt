@@ -1,20 +1,19 @@
-ghost use Rattle.std.specs.Prelude.{◌≡◌, ◌≤◌, ◌<◌, length, slice_get, option_copied, option_to_list, IfOk, OnOk, IfSome, IsSome};
+ghost use Rattle.std.specs.Prelude.{◌≡◌, ◌≤◌, ◌<◌, length, slice_get, option_copied, option_to_list, IfOk, OnOk, OnErr, IfSome, IsSome};
 ghost use Rattle.std.specs.Prelude as list;
 ghost use Rattle.std.specs.List.{filter, list_any};
-ghost use Rattle.std.specs.FinMap as map;
 ghost use Rattle.ak_address.specs.Uniques.{in_order};
-ghost use Rattle.ak_member.specs.Standing.{member_pairs, members_of};
+ghost use Rattle.ak_member.specs.Standing.{members_of};
 ghost use Rattle.ak_settled.specs.Settled.{standings_of};
 ghost use Rattle.ak_coordinator.specs.Entry.{moves};
 ghost use Rattle.ak_coordinator.specs.Coordinator.{entry_of};
-ghost use Rattle.ak_coordinator.specs.Tick.{is_unfinished, unfinished, noticed, hurried, is_exiting_pair, leaves_exiting, leaves_node, first_from, first_leaver, after_begin, moving};
+ghost use Rattle.ak_coordinator.specs.Tick.{is_unfinished, unfinished, noticed, IsPartlyNoticed, hurried, is_exiting_pair, leaves_exiting, leaves_node, first_from, first_leaver, after_begin, moving};
 
 use crate::entry::Entry;
 use crate::loads::loads_in;
 use ak_address::{Unique, Uniques};
 use ak_allocation::rebalance;
 use ak_member::Members;
-use ak_schedule::Settings;
+use ak_settings::Settings;
 use ak_settled::Settled;
 use std::alloc::{AllocError, Global};
 
@@ -41,7 +40,8 @@ pub(crate) fn notice_each(
     settled: &Settled,
     margin: u32,
 ) -> Result<(), AllocError>
-    ensures { OnOk result (entries.new ≡ list.map (noticed margin settled.now.view) entries.old) }
+    ensures ok { OnOk result (entries.new ≡ list.map (noticed margin settled.now.view) entries.old) }
+    ensures lost { OnErr result (IsPartlyNoticed margin settled.now.view entries.old entries.new) }
 {
     // Whoever is finished was removed, and where nobody was, no shard is looked at.
     if settled.members().buried_len() == 0 {
@@ -68,23 +68,15 @@ fn moving(entries: &[Entry]) -> usize
     entries.iter().filter(|entry| entry.moves()).count()
 }
 
-// Whether the member at a pair is Exiting.
-fn is_exiting_at(members: &Members, pair: usize) -> bool
-    ensures { result ≡ list_any is_exiting_pair (member_pairs (option_to_list (slice_get (map.entries members.now) pair))) }
-{
-    match members.member_at_pair(pair) {
-        Some(member) => member.status.is_exiting(),
-        None => false,
-    }
-}
-
 // Whether any member is Exiting.
 fn any_exiting(members: &Members) -> bool
     ensures { result ≡ list_any is_exiting_pair (members_of members.now) }
 {
     'pairs: for pair in 0..members.uniques() {
-        if is_exiting_at(members, pair) {
-            return true;
+        if let Some(member) = members.member_at_pair(pair) {
+            if member.status.is_exiting() {
+                return true;
+            }
         }
     }
     false
@@ -154,6 +146,7 @@ pub(crate) fn begin_one(
     requires { length entries.old.items ≤ 1000 }
     ensures after { OnOk result (entries.new.items ≡ after_begin granted.now settled.now.view settings.now.margin settings.now.threshold settings.now.limit entries.old.items) }
     ensures many { length entries.new.items ≡ length entries.old.items }
+    ensures err { OnErr result (entries.new.items ≡ entries.old.items) }
 {
     if moving(entries) >= settings.limit as usize {
         return Ok(());

@@ -13,7 +13,7 @@ use Rattle.ak_address.specs.Unique.{UniqueModel, unique_cmp}
 use Rattle.ak_address.specs.Uniques.{has, how_many, in_order, set_of}
 use Rattle.ak_address.specs.Counters.{Counters, counter}
 use Rattle.ak_address.proofs.OrderLemmas.{unique_total, unique_exact}
-use Rattle.ak_address.proofs.TableLaws.{same_key, get-insert_here}
+use Rattle.ak_address.proofs.TableLaws.{same_key, same_table, get-insert_here}
 use Rattle.ak_address.proofs.CountersLaws.{among, among-filter, among-take, has-set_of, how_many-set_of, raised_same, get-with_each, passes, among_passing}
 use Rattle.ak_member.specs.declared.status.Status.{Status}
 use Rattle.ak_member.specs.declared.standing.Standing.{Standing}
@@ -193,3 +193,26 @@ heard_not_silent deadline c who = has-silent deadline (heard who c) who ∙ by_p
     by_presence : (b : Bool) → finmap.contains_key c who ≡ b → is_silent_by deadline (finmap.get (if b then finmap.insert c who 0 else c) who) ≡ false
     by_presence true there = ap (is_silent_by deadline) (get-insert_here c who 0) ∙ le-ltb deadline 0 (omega arith)
     by_presence false there = absent (finmap.get c who) there
+
+-- a detector that watches by these members watches by them already
+pub watching_again : (me : UniqueModel) (s : Standings) (deadline : ℕ) (c : Counters) → watching me s deadline (watching me s deadline c) ≡ watching me s deadline c
+watching_again me s deadline c = same_table _ _ (λ who.
+    get-watching me s deadline (watching me s deadline c) who
+    ∙ ap (λ (o : Option ℕ). cond (has (watch_ring me s) who) (Some (unwrap_or o 0)) (cond (nat_lt deadline (unwrap_or o 0) && is_member s who) o None)) (get-watching me s deadline c who)
+    ∙ by_case (has (watch_ring me s) who) (is_member s who) (finmap.get c who)
+    ∙ sym (get-watching me s deadline c who))
+  where
+    once : Bool → Bool → Option ℕ → Option ℕ
+    once ring member o = cond ring (Some (unwrap_or o 0)) (cond (nat_lt deadline (unwrap_or o 0) && member) o None)
+
+    nothing : (b : Bool) → cond {A = Option ℕ} b None None ≡ None
+    nothing true = refl
+    nothing false = refl
+
+    by_silence : (member : Bool) (o : Option ℕ) (silent : Bool) → (nat_lt deadline (unwrap_or o 0) && member) ≡ silent → once false member (cond silent o None) ≡ cond silent o None
+    by_silence member o true is = ap (λ b. cond b o None) is
+    by_silence member o false is = nothing (nat_lt deadline 0 && member)
+
+    by_case : (ring member : Bool) (o : Option ℕ) → once ring member (once ring member o) ≡ once ring member o
+    by_case true member o = refl
+    by_case false member o = by_silence member o (nat_lt deadline (unwrap_or o 0) && member) refl

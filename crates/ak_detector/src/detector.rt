@@ -3,7 +3,7 @@ ghost use Rattle.std.specs.List.{fold, filter};
 ghost use Rattle.std.specs.FinMap as map;
 ghost use Rattle.ak_address.specs.Changed.{keys_of};
 ghost use Rattle.ak_address.specs.Counters.{counter, with_each};
-ghost use Rattle.ak_address.specs.Uniques.{with_one, in_order};
+ghost use Rattle.ak_address.specs.Uniques.{has, with_one, in_order};
 ghost use Rattle.ak_member.specs.Standing.{is_member};
 ghost use Rattle.ak_detector.specs.Detector.{silent, watching, watch_ring, heard, ticked};
 ghost use Rattle.ak_detector.specs.Sides.{above_pairs};
@@ -124,6 +124,14 @@ impl Detector {
         Ok(them)
     }
 
+    /// Whether the process will be silent after one more tick. Takes no memory.
+    pub fn is_silent_next(&self, who: &Unique, deadline: u32) -> bool
+        requires { 1 ≤ deadline }
+        ensures { result ≡ has (silent deadline (ticked deadline self.now)) who.now }
+    {
+        is_above(&self.counters, who, deadline - 1)
+    }
+
     /// Those that are watched. Takes no memory.
     pub fn watched(&self) -> &Uniques
         ensures { result.now ≡ keys_of self.now }
@@ -154,6 +162,16 @@ fn silent_at(counters: &Table<u32>, pair: usize, deadline: u32) -> Option<&Uniqu
             None
         }
         None => None,
+    }
+}
+
+// Whether the process has a counter above the deadline.
+fn is_above(counters: &Table<u32>, who: &Unique, deadline: u32) -> bool
+    ensures { result ≡ has (silent deadline counters.now) who.now }
+{
+    match counters.get(who) {
+        Some(ticks) => *ticks > deadline,
+        None => false,
     }
 }
 

@@ -12,7 +12,7 @@ use Rattle.ak_member.specs.Standing.{Standings, members_of}
 use Rattle.ak_member.specs.Age.{counted_pairs, counted_addresses}
 use Rattle.ak_member.specs.View.{View, RowTable}
 use Rattle.ak_reach.specs.Unreachable.{unreachable_members}
-use Rattle.ak_schedule.specs.declared.settings.Strategy.TheVariants.{StaticQuorum, KeepMajority}
+use Rattle.ak_settings.specs.declared.settings.Strategy.TheVariants.{StaticQuorum, KeepMajority}
 use Rattle.ak_downing.specs.declared.decision.Decision.{Decision}
 use Rattle.ak_downing.specs.declared.decision.Decision.TheVariants as decision
 use Rattle.ak_downing.specs.Downing.{is_beside, counted_beside, counted_apart, addresses_beside, by_first}

@@ -8,7 +8,7 @@ use Rattle.ak_member.specs.declared.status.Status.{Status}
 use Rattle.ak_member.specs.declared.status.Status.TheVariants.{Down}
 use Rattle.ak_member.specs.Standing.{Standings, member_of, is_down}
 use Rattle.ak_member.specs.View.{View, RowTable}
-use Rattle.ak_schedule.specs.declared.settings.Strategy.{Strategy}
+use Rattle.ak_settings.specs.declared.settings.Strategy.{Strategy}
 use Rattle.ak_reach.specs.Unreachable.{unreachable_members}
 use Rattle.ak_downing.specs.declared.decision.Decision.{Decision}
 use Rattle.ak_downing.specs.declared.decision.Decision.TheVariants.{DownUnreachable}

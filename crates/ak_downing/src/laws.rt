@@ -5,7 +5,7 @@ ghost use Rattle.ak_member.specs.declared.effect.Effect.TheVariants.{Rise};
 ghost use Rattle.ak_member.specs.declared.status.Status.TheVariants.{Down};
 ghost use Rattle.ak_member.specs.Standing.{Standings};
 ghost use Rattle.ak_member.specs.View.{View, RowTable};
-ghost use Rattle.ak_schedule.specs.declared.settings.Strategy.TheVariants.{StaticQuorum, KeepMajority, DownAll};
+ghost use Rattle.ak_settings.specs.declared.settings.Strategy.TheVariants.{StaticQuorum, KeepMajority, DownAll};
 ghost use Rattle.ak_downing.specs.declared.decision.Decision.{Decision};
 ghost use Rattle.ak_downing.specs.declared.decision.Decision.TheVariants.{DownUnreachable};
 ghost use Rattle.ak_downing.specs.Downing.{counted_beside, addresses_beside, downs};

@@ -11,7 +11,7 @@ use crate::side::{first_counted, is_beside, reachable_addresses, sizes};
 use ak_address::Unique;
 use ak_member::Members;
 use ak_reach::Rows;
-use ak_schedule::Strategy;
+use ak_settings::Strategy;
 
 /// What the node decides about a partition (Akka's Split Brain Resolver, "Strategies"; the exact answers are this
 /// project's choice). Under static-quorum: where at least twice the quorum of addresses count, so that two sides could

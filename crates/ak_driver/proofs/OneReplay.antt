@@ -2,9 +2,9 @@
 use Rattle.std.proofs.Common.{◌≡◌, ℕ, ◌<◌, ◌≤◌, ◌⊎◌, List, [], ◌∷◌, ◌++◌, Option, None, Some, Result, Ok, Err, length, refl, sym, ap, subst, inl, inr, ◌∙◌, arith}
 use Rattle.std.specs.List.{concat}
 use Rattle.ak_schedule.specs.declared.event.Event.{Event}
-use Rattle.ak_schedule.specs.declared.settings.Header as header
+use Rattle.ak_schedule.specs.declared.draft.Header as header
 use Rattle.ak_schedule.specs.Line.{lines, IsPassedOver}
-use Rattle.ak_schedule.specs.Settings.{SettingsModel}
+use Rattle.ak_settings.specs.Settings.{SettingsModel}
 use Rattle.ak_schedule.specs.Schedule.{SetsHeader, SpellsEvent}
 use Rattle.ak_schedule.proofs.OneWay.{one_event, one_settings}
 use Rattle.ak_driver.specs.declared.replay.Code.{Code}

@@ -2,9 +2,9 @@
 use Rattle.std.proofs.Common.{◌≡◌, ℕ, ◌<◌, ◌≤◌, List, [], ◌∷◌, ◌++◌, Option, Some, None, Result, Ok, Err, slice_get, length, refl, subst, inl, inr, ◌⊎◌, arith}
 use Rattle.std.proofs.lemmas.Option.{slice_get-get_or}
 use Rattle.ak_schedule.specs.declared.event.Event.{Event}
-use Rattle.ak_schedule.specs.declared.settings.Header as header
+use Rattle.ak_schedule.specs.declared.draft.Header as header
 use Rattle.ak_schedule.specs.Line.{lines, IsPassedOver}
-use Rattle.ak_schedule.specs.Settings.{SettingsModel}
+use Rattle.ak_settings.specs.Settings.{SettingsModel}
 use Rattle.ak_schedule.specs.Schedule.{headers, SetsHeader, SpellsEvent}
 use Rattle.ak_schedule.proofs.Deciding.{Tells, Finds, at_most, below, passed_over, set_header, spelled_event}
 use Rattle.ak_world.specs.declared.world.Reason.{Reason}

@@ -3,7 +3,7 @@ use Rattle.std.specs.Prelude.{◌≡◌, ℕ, ◌+◌, ◌<◌, ◌≤◌, ◌�
 use Rattle.std.specs.List.{concat}
 use Rattle.std.specs.Fmt.{decimal}
 use Rattle.ak_schedule.specs.Line.{lines, IsPassedOver}
-use Rattle.ak_schedule.specs.Settings.{SettingsModel}
+use Rattle.ak_settings.specs.Settings.{SettingsModel}
 use Rattle.ak_schedule.specs.Schedule.{SpellsEvent}
 use Rattle.ak_schedule.specs.Draft.{first_draft, ReadsHeader}
 use Rattle.ak_schedule.specs.declared.event.Event.{Event}

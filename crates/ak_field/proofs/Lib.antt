@@ -1,4 +1,5 @@
 pub mod Steps
+pub mod Numbered
 pub mod Combined
 pub mod Small
 pub mod Items

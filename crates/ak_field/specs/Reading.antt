@@ -57,6 +57,11 @@ Fails Range read = read ≡ Err Range
 Fails Trailing read = read ≡ Err Trailing
 Fails (NoMemory _) read = Unit {0}
 
+-- where memory ran out, what was to be read stands there, without a fault
+abbrev pub IsThere : {X Y : Type 0} → Result Y WireFault → Result X WireFault → Type 0
+IsThere {X} (Err (NoMemory _)) read = (x : X) × (read ≡ Ok x)
+IsThere _ _ = Unit {0}
+
 -- what a call answers, seen by view, and the bytes that it leaves are what reading gives, unless memory ran out
 abbrev pub GivesAs : {X Y : Type 0} → (X → Y) → Result X WireFault → List ℕ → Result (Y × List ℕ) WireFault → Type 0
 GivesAs view (Ok value) left read = read ≡ Ok (view value, left)

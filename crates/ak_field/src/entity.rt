@@ -1,6 +1,6 @@
 ghost use Rattle.std.specs.Prelude.{◌≡◌, ◌↔◌, IsTrue};
 ghost use Rattle.std.specs.List.{list_all};
-ghost use Rattle.ak_field.specs.Reading.{Gives};
+ghost use Rattle.ak_field.specs.Reading.{Gives, IsThere};
 ghost use Rattle.ak_field.specs.Ranges.{IsEntity, is_entity_byte};
 ghost use Rattle.ak_field.specs.Fields.{entity_at};
 
@@ -15,7 +15,8 @@ impl<'a> Fields<'a> {
     /// What an entity is called: a length from 1 to 64, and then that many bytes from `!` to `~`, which are one field.
     #[tactic(auto, using(crate::proofs::Steps::fails_exactly, crate::proofs::Steps::fails_exactly_before), unfolding(crate::specs::Fields::entity_at))]
     pub fn entity(&mut self, alloc: Global) -> Result<Text, WireFault>
-        ensures { Gives result self.new (entity_at self.old) }
+        ensures read { Gives result self.new (entity_at self.old) }
+        ensures memory { IsThere result (entity_at self.old) }
     {
         let length = self.length(1, MOST_ENTITY_BYTES)?;
         let name = self.take(usize::from(length))?;

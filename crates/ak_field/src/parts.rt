@@ -1,5 +1,6 @@
 ghost use Rattle.std.specs.Prelude.{◌≡◌, None, option_copied, option_map};
-ghost use Rattle.ak_field.specs.Reading.{Gives, GivesExactly, Adds, items_at, last_of};
+ghost use Rattle.ak_field.specs.Reading.{Gives, GivesExactly, IsThere, Adds, items_at, last_of};
+ghost use Rattle.ak_field.specs.Fields.{length_at};
 ghost use Rattle.ak_field.specs.Parts.{state_at, is_up_number, up_number_at, seen_at, is_after, index_at, indices_at, subjects_at, part_at, parts_at};
 
 use crate::fault::WireFault;
@@ -17,7 +18,8 @@ impl<'a> Fields<'a> {
     /// not 0, also how many subjects the row has, and their indices among the parts, from 0 on and in order.
     #[tactic(auto, using(crate::proofs::Steps::fails_exactly), unfolding(crate::specs::Parts::parts_at))]
     pub fn parts(&mut self, alloc: Global) -> Result<Parts, WireFault>
-        ensures { Gives result self.new (parts_at self.old) }
+        ensures read { Gives result self.new (parts_at self.old) }
+        ensures memory { IsThere result (length_at 0 128 self.old) }
     {
         let many = self.length(0, MOST_PARTS)?;
         self.some_parts(alloc, many)

@@ -1,7 +1,7 @@
 ghost use Rattle.std.specs.Prelude.{◌≡◌, ◌≤◌, ◌<◌, ◌^◌, ◌-◌, IfOk, IsTrue, length};
 ghost use Rattle.std.specs.List.{list_all};
 ghost use Rattle.ak_address.specs.Unique.{is_host_byte};
-ghost use Rattle.ak_field.specs.Reading.{Gives, GivesAs, checked};
+ghost use Rattle.ak_field.specs.Reading.{Gives, GivesAs, IsThere, checked};
 ghost use Rattle.ak_field.specs.declared.fault.WireFault.TheVariants.{Range};
 ghost use Rattle.ak_field.specs.Ranges.{is_process};
 ghost use Rattle.ak_field.specs.Fields.{process_bytes_at, process_at, unique_at, receiver_at};
@@ -19,7 +19,8 @@ impl<'a> Fields<'a> {
     /// A process: the length of its host, from 1 to 64, and then its host, its port from 1 on and its uid from 1 to
     /// 9223372036854775807, which are one field.
     pub fn unique(&mut self, alloc: Global) -> Result<Unique, WireFault>
-        ensures { Gives result self.new (unique_at self.old) }
+        ensures read { Gives result self.new (unique_at self.old) }
+        ensures memory { IsThere result (unique_at self.old) }
     {
         let (address, uid) = self.process(alloc, 1, MOST_UID)?;
         Ok(Unique { address, uid })
@@ -28,7 +29,8 @@ impl<'a> Fields<'a> {
     /// A receiver: a process as `unique` reads it, or, where the message is for any process at an address, an address with
     /// uid 0.
     pub fn receiver(&mut self, alloc: Global, anybody: bool) -> Result<(Address, u64), WireFault>
-        ensures { GivesAs (λ pair. record { address = pair.0; uid = pair.1 }) result self.new (receiver_at anybody self.old) }
+        ensures read { GivesAs (λ pair. record { address = pair.0; uid = pair.1 }) result self.new (receiver_at anybody self.old) }
+        ensures memory { IsThere result (receiver_at anybody self.old) }
     {
         if anybody {
             return self.process(alloc, 0, 0);
@@ -39,6 +41,7 @@ impl<'a> Fields<'a> {
     #[tactic(auto, using(crate::proofs::Steps::fails_exactly), unfolding(crate::specs::Fields::process_at))]
     fn process(&mut self, alloc: Global, least: u64, most: u64) -> Result<(Address, u64), WireFault>
         ensures read { GivesAs (λ pair. record { address = pair.0; uid = pair.1 }) result self.new (process_at least most self.old) }
+        ensures memory { IsThere result (process_at least most self.old) }
         ensures range { IfOk result (λ pair. (least ≤ pair.1) × (pair.1 ≤ most)) }
     {
         let host = self.length(1, MOST_HOST_BYTES)?;
@@ -56,6 +59,7 @@ impl<'a> Fields<'a> {
     ) -> Result<(Address, u64), WireFault>
         requires { (1 ≤ host) × (host ≤ 64) }
         ensures read { GivesAs (λ pair. record { address = pair.0; uid = pair.1 }) result self.new (checked Range (is_process least most) (process_bytes_at host self.old)) }
+        ensures memory { IsThere result (checked Range (is_process least most) (process_bytes_at host self.old)) }
         ensures range { IfOk result (λ pair. (least ≤ pair.1) × (pair.1 ≤ most)) }
     {
         let bytes = self.take(usize::from(host) + 10)?;

@@ -1,5 +1,5 @@
 ghost use Rattle.std.specs.Prelude.{◌≡◌, None, option_copied};
-ghost use Rattle.ak_field.specs.Reading.{GivesAs, GivesExactly, Adds, items_at, last_of};
+ghost use Rattle.ak_field.specs.Reading.{GivesAs, GivesExactly, IsThere, Adds, items_at, last_of};
 ghost use Rattle.ak_field.specs.Lists.{is_later, report_at, report_count_at, reports_at};
 
 use crate::fault::WireFault;
@@ -15,7 +15,8 @@ impl<'a> Fields<'a> {
     /// one before it, its number, from 1 to 4611686018427387904, and whether it is hosted.
     #[tactic(auto, using(crate::proofs::Steps::fails_exactly), unfolding(crate::specs::Lists::reports_at))]
     pub fn reports(&mut self, alloc: Global) -> Result<Vec<Report>, WireFault>
-        ensures { GivesAs (λ reports. reports.items) result self.new (reports_at self.old) }
+        ensures read { GivesAs (λ reports. reports.items) result self.new (reports_at self.old) }
+        ensures memory { IsThere result (report_count_at self.old) }
     {
         let many = self.report_count()?;
         self.some_reports(alloc, many)

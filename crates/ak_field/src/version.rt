@@ -1,7 +1,8 @@
 ghost use Rattle.std.specs.Prelude.{◌≡◌, IsTrue, IfOk, option_copied, option_map};
 ghost use Rattle.std.specs.FinMap as map;
 ghost use Rattle.ak_gossip.specs.PartsWalk.{is_above};
-ghost use Rattle.ak_field.specs.Reading.{Gives, Adds, last_of};
+ghost use Rattle.ak_field.specs.Reading.{Gives, IsThere, Adds, last_of};
+ghost use Rattle.ak_field.specs.Fields.{length_at};
 ghost use Rattle.ak_field.specs.Lists.{next_unique_at, counted_at, counts_at, version_at};
 
 use crate::fault::WireFault;
@@ -17,7 +18,8 @@ impl<'a> Fields<'a> {
     /// to 4611686018427387904.
     #[tactic(auto, using(crate::proofs::Steps::fails_exactly), unfolding(crate::specs::Lists::version_at))]
     pub fn version(&mut self, alloc: Global) -> Result<Version, WireFault>
-        ensures { Gives result self.new (version_at self.old) }
+        ensures read { Gives result self.new (version_at self.old) }
+        ensures memory { IsThere result (length_at 0 128 self.old) }
     {
         let many = self.length(0, MOST_PROCESSES)?;
         self.some_counts(alloc, many)

@@ -9,7 +9,7 @@ use Rattle.std.proofs.lemmas.Option.{slice_get_cases, slice_get_past}
 use Rattle.rand_pcg.specs.Lcg.{Lcg}
 use Rattle.ak_address.specs.Unique.{AddressModel, UniqueModel, IsAddress, is_host_byte}
 use Rattle.ak_address.specs.Uniques.{UniqueSet, in_order, how_many}
-use Rattle.ak_schedule.specs.Settings.{IsSettings}
+use Rattle.ak_settings.specs.Settings.{IsSettings}
 use Rattle.ak_generate.specs.Fixed.{address, addresses, fixed}
 use Rattle.ak_generate.specs.Generated.{chosen, is_at, is_in_use, opening, later, next_event}
 use Rattle.ak_generate.specs.Words.{Words}

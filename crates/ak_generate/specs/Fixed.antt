@@ -1,8 +1,8 @@
 -- The settings of every generated schedule (this project's choice).
 use Rattle.std.specs.Prelude.{ℕ, List, [], ◌∷◌, decimal}
 use Rattle.ak_address.specs.Unique.{AddressModel, UniqueModel}
-use Rattle.ak_schedule.specs.declared.settings.Strategy.TheVariants.{StaticQuorum}
-use Rattle.ak_schedule.specs.Settings.{SettingsModel}
+use Rattle.ak_settings.specs.declared.settings.Strategy.TheVariants.{StaticQuorum}
+use Rattle.ak_settings.specs.Settings.{SettingsModel}
 
 -- the listed address of a number: port 1 of the host `n` (110) followed by the number in decimal
 abbrev pub address : ℕ → AddressModel

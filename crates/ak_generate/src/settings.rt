@@ -3,7 +3,7 @@ ghost use Rattle.ak_generate.specs.Fixed.{addresses, fixed};
 
 use crate::process::address;
 use ak_address::Address;
-use ak_schedule::{Settings, Strategy};
+use ak_settings::{Settings, Strategy};
 use std::alloc::{AllocError, Global};
 
 /// The settings of every generated schedule: the addresses `n1:1` to `n5:1`, a static quorum of 3, margin 6, deadline 3,

@@ -1,6 +1,6 @@
 use ak_address::parse_address;
 use ak_generate::fixed_settings;
-use ak_schedule::{Settings, Strategy};
+use ak_settings::{Settings, Strategy};
 use std::alloc::Global;
 use std::test::Fail;
 

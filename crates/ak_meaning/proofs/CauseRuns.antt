@@ -7,7 +7,7 @@ use Rattle.ak_history.specs.declared.entry.Entry.{Entry}
 use Rattle.ak_member.specs.declared.effect.Effect.{Effect}
 use Rattle.ak_node.specs.Node.{me_of, step}
 use Rattle.ak_node.proofs.StepChanges.{step_changes}
-use Rattle.ak_schedule.specs.Settings.{SettingsModel}
+use Rattle.ak_settings.specs.Settings.{SettingsModel}
 use Rattle.ak_schedule.specs.declared.event.Event.{Event}
 use Rattle.ak_wire.specs.Wire.{updates_of}
 use Rattle.ak_world.specs.Held.{Enters}

@@ -27,20 +27,20 @@ use Rattle.ak_member.specs.declared.effect.Effect.TheVariants.{Joined, Rise, Obs
 use Rattle.ak_member.specs.declared.status.Status.{Status}
 use Rattle.ak_member.specs.declared.status.Status.TheVariants.{Joining, Up, Leaving, Exiting, Down}
 use Rattle.ak_member.specs.Standing as standing
-use Rattle.ak_member.specs.Standing.{Standings, members_of, member_of, has_status, is_down, is_up, is_joining}
+use Rattle.ak_member.specs.Standing.{Standings, members_of, member_of, has_status, is_down, is_up, is_joining, is_member_with}
 use Rattle.ak_member.proofs.MembersLaws.{members_have}
 use Rattle.ak_membership.specs.declared.change.Change.{Change}
 use Rattle.ak_membership.specs.declared.change.MemberFault.{MemberFault}
 use Rattle.ak_membership.specs.declared.state.MembershipState.{MembershipState}
 use Rattle.ak_membership.specs.Knowledge.{told_as, told}
-use Rattle.ak_membership.specs.Membership.{Outcome, unchanged, may_count, update, update_any, is_member, is_member_with, join, leave, down, is_beside, has_member_beside, replaced, most_at_join, on_join, on_received, on_gossip, on_heard, on_confirmed}
+use Rattle.ak_membership.specs.Membership.{Outcome, unchanged, may_count, update, update_any, is_member, join, leave, down, is_beside, has_member_beside, replaced, most_at_join, on_join, on_received, on_gossip, on_heard, on_confirmed}
 use Rattle.ak_membership.specs.Tick.{observes, silent, decides, decided, founds, leads, has_settled, is_process, joining_addresses, updates, tick}
 use Rattle.ak_membership.proofs.Causes.{joining_member, status_of}
 use Rattle.ak_node.specs.declared.node.NodeEvent.{NodeEvent}
 use Rattle.ak_node.specs.declared.node.NodeEvent.TheVariants as event
 use Rattle.ak_node.specs.declared.node.State.{State}
 use Rattle.ak_reach.specs.Unreachable.{unreachable_members}
-use Rattle.ak_schedule.specs.Settings.{is_listed, settling_size}
+use Rattle.ak_settings.specs.Settings.{is_listed, settling_size}
 use Rattle.ak_wire.specs.declared.envelope.Envelope.{Envelope}
 use Rattle.ak_wire.specs.declared.envelope.Message.{Message}
 use Rattle.ak_wire.specs.declared.envelope.Message.TheVariants as message

@@ -6,7 +6,7 @@ use Rattle.ak_node.specs.declared.node.State.{State}
 use Rattle.ak_node.specs.Change.{given_by}
 use Rattle.ak_node.specs.Node.{me_of, started, step}
 use Rattle.ak_node.proofs.StepChanges.{step_changes}
-use Rattle.ak_schedule.specs.Settings.{SettingsModel}
+use Rattle.ak_settings.specs.Settings.{SettingsModel}
 use Rattle.ak_schedule.specs.declared.event.Event.{Event}
 use Rattle.ak_schedule.specs.declared.event.Event.TheVariants.{Start, Found, Join, Tick, Deliver, Offer, Stop}
 use Rattle.ak_schedule.specs.declared.event.Event.TheVariants as schedule

@@ -7,7 +7,7 @@ use Rattle.ak_history.specs.declared.entry.Entry.{Entry}
 use Rattle.ak_member.specs.declared.effect.Effect.TheVariants.{Rise, Removed}
 use Rattle.ak_member.specs.declared.status.Status.TheVariants.{Up}
 use Rattle.ak_node.specs.declared.node.State.{State}
-use Rattle.ak_schedule.specs.Settings.{SettingsModel}
+use Rattle.ak_settings.specs.Settings.{SettingsModel}
 use Rattle.ak_schedule.specs.declared.event.Event.{Event}
 use Rattle.ak_world.specs.Worked.{a_1, b_1, c_1, three, passing}
 use Rattle.ak_world.specs.World.{WorldState, run}

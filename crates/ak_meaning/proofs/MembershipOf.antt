@@ -6,7 +6,7 @@ use Rattle.ak_address.specs.Uniques.{in_order}
 use Rattle.ak_address.proofs.Elements.{contains_nothing}
 use Rattle.ak_member.specs.declared.effect.Effect.{Effect}
 use Rattle.ak_member.specs.declared.status.Status.{Status}
-use Rattle.ak_member.specs.Standing.{is_exiting}
+use Rattle.ak_member.specs.Standing.{is_exiting, is_member_with}
 use Rattle.ak_membership.specs.declared.change.MemberFault.{MemberFault}
 use Rattle.ak_membership.specs.declared.change.Reply.{Reply}
 use Rattle.ak_membership.specs.declared.change.Reply.TheVariants as reply
@@ -14,7 +14,7 @@ use Rattle.ak_membership.specs.declared.state.MembershipState.{MembershipState}
 use Rattle.ak_membership.specs.Closing.{is_viewed, stops, notes}
 use Rattle.ak_membership.specs.Knowledge.{told}
 use Rattle.ak_membership.specs.Membership as membership
-use Rattle.ak_membership.specs.Membership.{Outcome, unchanged, is_member_with}
+use Rattle.ak_membership.specs.Membership.{Outcome, unchanged}
 use Rattle.ak_membership.specs.Tick as ticks
 use Rattle.ak_node.specs.declared.node.NodeEvent.{NodeEvent}
 use Rattle.ak_node.specs.declared.node.NodeEvent.TheVariants as event

@@ -7,8 +7,7 @@ use Rattle.ak_address.specs.Uniques.{no_one}
 use Rattle.ak_coordinator.specs.Table.{ShardEntry}
 use Rattle.ak_coordinator.specs.declared.entry.Stage.{Stage}
 use Rattle.ak_coordinator.specs.declared.entry.Stage.TheVariants.{Still}
-use Rattle.ak_member.specs.Standing.{is_exiting}
-use Rattle.ak_membership.specs.Membership.{is_member_with}
+use Rattle.ak_member.specs.Standing.{is_exiting, is_member_with}
 use Rattle.ak_node.specs.declared.node.State.{State}
 use Rattle.ak_node.specs.Node.{Outcome, known, me_of, status_of, is_member, is_gone, nothing, and_then, shards_do, on_shards, asks_as, gossips, rest, ends_phase, leaves as leaves_now, goes_on}
 use Rattle.ak_region.specs.RegionModel.{Message}

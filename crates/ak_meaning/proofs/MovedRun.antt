@@ -7,7 +7,7 @@ use Rattle.ak_entity.specs.Active.{ActiveEntity}
 use Rattle.ak_entity.proofs.EntityLaws.{own_delivery}
 use Rattle.ak_node.specs.declared.node.State.{State}
 use Rattle.ak_node.specs.Node.{me_of}
-use Rattle.ak_schedule.specs.Settings.{SettingsModel}
+use Rattle.ak_settings.specs.Settings.{SettingsModel}
 use Rattle.ak_schedule.specs.declared.event.Event.{Event}
 use Rattle.ak_shard_id.specs.Shard.{shard_of}
 use Rattle.ak_sharding.specs.Alive.{IsActive, Hosts}

@@ -27,8 +27,8 @@ use Rattle.ak_member.proofs.MembersLaws.{members_have, have_members}
 use Rattle.ak_member.proofs.OldestLaws.{counted_among, keeps_counted}
 use Rattle.ak_reach.specs.Unreachable.{unreachable_members, IsUnreachable}
 use Rattle.ak_reach.proofs.UnreachableLaws.{unreachable_means}
-use Rattle.ak_schedule.specs.declared.settings.Strategy.{Strategy}
-use Rattle.ak_schedule.specs.declared.settings.Strategy.TheVariants.{KeepMajority}
+use Rattle.ak_settings.specs.declared.settings.Strategy.{Strategy}
+use Rattle.ak_settings.specs.declared.settings.Strategy.TheVariants.{KeepMajority}
 use Rattle.ak_downing.specs.declared.decision.Decision.{Decision}
 use Rattle.ak_downing.specs.declared.decision.Decision.TheVariants as decision
 use Rattle.ak_downing.specs.Downing.{is_beside, counted_beside, counted_apart, addresses_beside, by_first, decide, downs, is_against}

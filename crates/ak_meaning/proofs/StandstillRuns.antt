@@ -18,7 +18,7 @@ use Rattle.ak_node.specs.declared.node.State.{State}
 use Rattle.ak_node.specs.Node.{known, me_of, is_member, started, step}
 use Rattle.ak_node.proofs.ChangeLemmas.{update_made}
 use Rattle.ak_wire.specs.Wire.{updates_of}
-use Rattle.ak_schedule.specs.Settings.{SettingsModel}
+use Rattle.ak_settings.specs.Settings.{SettingsModel}
 use Rattle.ak_schedule.specs.declared.event.Event.{Event}
 use Rattle.ak_schedule.specs.declared.event.Event.TheVariants.{Start, Found, Join, Tick, Deliver, Leave, Offer, Stop}
 use Rattle.ak_schedule.specs.declared.event.Event.TheVariants as schedule

@@ -12,12 +12,12 @@ use Rattle.ak_member.specs.declared.effect.Effect.{Effect}
 use Rattle.ak_member.specs.declared.effect.Effect.TheVariants.{Joined, Rise, Observed}
 use Rattle.ak_member.specs.declared.status.Status.TheVariants.{Leaving, Down}
 use Rattle.ak_member.specs.Standing as standing
-use Rattle.ak_member.specs.Standing.{is_down, is_up}
+use Rattle.ak_member.specs.Standing.{is_down, is_up, is_member_with}
 use Rattle.ak_member.specs.View.{View}
 use Rattle.ak_membership.specs.declared.change.MemberFault.{MemberFault}
 use Rattle.ak_membership.specs.declared.change.Reply.TheVariants.{Welcome}
 use Rattle.ak_membership.specs.declared.state.MembershipState.{MembershipState}
-use Rattle.ak_membership.specs.Membership.{Outcome, unchanged, replying, may_count, made, update, update_any, knowing, is_member, is_member_with, leave, down, has_member_beside, replaced, most_at_join, on_join, on_received, on_gossip, on_heard}
+use Rattle.ak_membership.specs.Membership.{Outcome, unchanged, replying, may_count, made, update, update_any, knowing, is_member, leave, down, has_member_beside, replaced, most_at_join, on_join, on_received, on_gossip, on_heard}
 use Rattle.ak_membership.specs.Sight.{sight, has_moved}
 use Rattle.ak_membership.specs.Tick.{observes, silent, decides, decided, founds, leads, updates, counted}
 use Rattle.ak_membership.specs.Closing.{stable_after}
@@ -28,7 +28,7 @@ use Rattle.ak_node.specs.declared.node.State.{State}
 use Rattle.ak_node.specs.Node as node
 use Rattle.ak_node.specs.Node.{known, me_of, and_then, rule, concludes, is_dead, running_step, step}
 use Rattle.ak_node.proofs.StepChanges.{step_is}
-use Rattle.ak_schedule.specs.Settings.{is_listed}
+use Rattle.ak_settings.specs.Settings.{is_listed}
 use Rattle.ak_wire.specs.declared.action.Action.TheVariants as action
 use Rattle.ak_wire.specs.declared.envelope.Message.{Message}
 use Rattle.ak_wire.specs.declared.envelope.Message.TheVariants as message

@@ -19,7 +19,7 @@ use Rattle.ak_node.specs.declared.node.State.{State}
 use Rattle.ak_node.specs.Node as node
 use Rattle.ak_node.specs.Node.{known, me_of, is_for, started, and_then, rule, concludes, is_dead, running_step, step}
 use Rattle.ak_node.proofs.StepChanges.{step_is}
-use Rattle.ak_schedule.specs.Settings.{SettingsModel}
+use Rattle.ak_settings.specs.Settings.{SettingsModel}
 use Rattle.ak_schedule.specs.declared.event.Event.{Event}
 use Rattle.ak_wire.specs.declared.action.Action.TheVariants as action
 use Rattle.ak_wire.specs.declared.envelope.Envelope.{Envelope}

@@ -11,7 +11,7 @@ use Rattle.ak_node.specs.declared.node.NodeEvent.{NodeEvent}
 use Rattle.ak_node.specs.declared.node.NodeEvent.TheVariants as event
 use Rattle.ak_node.specs.declared.node.State.{State}
 use Rattle.ak_node.specs.Node.{me_of, is_for, step}
-use Rattle.ak_schedule.specs.Settings.{SettingsModel, is_listed}
+use Rattle.ak_settings.specs.Settings.{SettingsModel, is_listed}
 use Rattle.ak_schedule.specs.declared.event.Event.{Event}
 use Rattle.ak_schedule.specs.declared.event.Event.TheVariants.{Start, Found, Join, Tick, Deliver, Leave, Down, Offer, Stop}
 use Rattle.ak_wire.specs.declared.envelope.Envelope.{Envelope}

@@ -1,7 +1,7 @@
 -- A run whose margin is broken, as it is worked by hand: a process is removed unconfirmed, and runs on when its margin ends.
 use Rattle.std.specs.Prelude.{List, [], ◌∷◌}
-use Rattle.ak_schedule.specs.Settings.{SettingsModel}
-use Rattle.ak_schedule.specs.declared.settings.Strategy.TheVariants.{StaticQuorum}
+use Rattle.ak_settings.specs.Settings.{SettingsModel}
+use Rattle.ak_settings.specs.declared.settings.Strategy.TheVariants.{StaticQuorum}
 use Rattle.ak_schedule.specs.declared.event.Event.{Event}
 use Rattle.ak_schedule.specs.declared.event.Event.TheVariants.{Start, Found, Join, Tick, Deliver, Down}
 use Rattle.ak_world.specs.Worked.{at_a, at_b, a_1, b_1}

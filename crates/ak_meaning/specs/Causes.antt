@@ -24,7 +24,7 @@ use Rattle.ak_node.specs.declared.node.State.{State}
 use Rattle.ak_node.specs.Node as node
 use Rattle.ak_node.specs.Node.{known, me_of}
 use Rattle.ak_reach.specs.Unreachable.{IsUnreachable}
-use Rattle.ak_schedule.specs.Settings.{SettingsModel, settling_size}
+use Rattle.ak_settings.specs.Settings.{SettingsModel, settling_size}
 use Rattle.ak_schedule.specs.declared.event.Event.{Event}
 use Rattle.ak_schedule.specs.declared.event.Event.TheVariants.{Start, Found, Join, Tick, Deliver, Offer, Stop}
 use Rattle.ak_schedule.specs.declared.event.Event.TheVariants as schedule

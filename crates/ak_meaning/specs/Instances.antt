@@ -10,7 +10,7 @@ use Rattle.ak_member.specs.declared.status.Status.{Status}
 use Rattle.ak_member.specs.Standing.{tombstone_of}
 use Rattle.ak_node.specs.declared.node.State.{State}
 use Rattle.ak_node.specs.Node.{known, me_of}
-use Rattle.ak_schedule.specs.Settings.{SettingsModel}
+use Rattle.ak_settings.specs.Settings.{SettingsModel}
 use Rattle.ak_schedule.specs.declared.event.Event.{Event}
 use Rattle.ak_shard_id.specs.Shard.{shard_of}
 use Rattle.ak_sharding.specs.Alive.{Hosts}

@@ -1,7 +1,7 @@
 -- A run in which a shard moves, as it is worked by hand: from the region with the most shards to that of a member that came later.
 use Rattle.std.specs.Prelude.{ℕ, List, [], ◌∷◌, codes}
-use Rattle.ak_schedule.specs.Settings.{SettingsModel}
-use Rattle.ak_schedule.specs.declared.settings.Strategy.TheVariants.{StaticQuorum}
+use Rattle.ak_settings.specs.Settings.{SettingsModel}
+use Rattle.ak_settings.specs.declared.settings.Strategy.TheVariants.{StaticQuorum}
 use Rattle.ak_schedule.specs.declared.event.Event.{Event}
 use Rattle.ak_schedule.specs.declared.event.Event.TheVariants.{Start, Found, Join, Tick, Deliver, Offer}
 use Rattle.ak_world.specs.Worked.{at_a, at_b, at_c, a_1, b_1, c_1}

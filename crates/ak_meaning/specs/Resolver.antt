@@ -10,8 +10,8 @@ use Rattle.ak_member.specs.declared.status.Status.{Status}
 use Rattle.ak_member.specs.declared.status.Status.TheVariants.{Up, Leaving, Down}
 use Rattle.ak_member.specs.View.{View}
 use Rattle.ak_reach.specs.Unreachable.{IsUnreachable}
-use Rattle.ak_schedule.specs.declared.settings.Strategy.{Strategy}
-use Rattle.ak_schedule.specs.declared.settings.Strategy.TheVariants.{StaticQuorum, KeepMajority}
+use Rattle.ak_settings.specs.declared.settings.Strategy.{Strategy}
+use Rattle.ak_settings.specs.declared.settings.Strategy.TheVariants.{StaticQuorum, KeepMajority}
 use Rattle.ak_downing.specs.declared.decision.Decision.TheVariants.{DownUnreachable, DownReachable, DownAll}
 use Rattle.ak_downing.specs.Downing.{decide, downs}
 use Rattle.ak_meaning.specs.Counting.{AreMany}

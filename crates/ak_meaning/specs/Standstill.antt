@@ -11,7 +11,7 @@ use Rattle.ak_member.specs.View.{View}
 use Rattle.ak_node.specs.declared.node.State.{State}
 use Rattle.ak_node.specs.Node.{known, is_member}
 use Rattle.ak_reach.specs.Unreachable.{IsUnreachable}
-use Rattle.ak_schedule.specs.Settings.{SettingsModel}
+use Rattle.ak_settings.specs.Settings.{SettingsModel}
 use Rattle.ak_schedule.specs.declared.event.Event.{Event}
 use Rattle.ak_schedule.specs.declared.event.Event.TheVariants.{Tick}
 use Rattle.ak_wire.specs.declared.action.Action.TheVariants.{Update}

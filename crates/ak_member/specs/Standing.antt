@@ -116,6 +116,10 @@ abbrev pub has_status : (Status → Bool) → Option (Status × ℕ) → Bool
 has_status test None = false
 has_status test (Some member) = test member.0
 
+-- the process is a member, and its status passes the test
+abbrev pub is_member_with : (Status → Bool) → Standings → UniqueModel → Bool
+is_member_with test s who = has_status test (member_of (map.get s who))
+
 -- the pairs that have one, in their order
 abbrev pub pair_of : {X : Type 0} → UniqueModel → Option X → List (UniqueModel × X) → List (UniqueModel × X)
 pair_of who None pairs = pairs

@@ -4,7 +4,7 @@ ghost use Rattle.ak_address.specs.Pairs.{index};
 ghost use Rattle.ak_address.specs.Table.{value_with};
 ghost use Rattle.ak_address.specs.Unique.{UniqueModel, unique_cmp};
 ghost use Rattle.ak_member.specs.declared.status.Status.{Status};
-ghost use Rattle.ak_member.specs.Standing.{nobody, merged_standings, merged_standing, known, member_pairs, tombstone_pairs, raised, buried, is_gone, member_of, tombstone_of, members_of, tombstones_of};
+ghost use Rattle.ak_member.specs.Standing.{nobody, merged_standings, merged_standing, known, member_pairs, tombstone_pairs, raised, buried, is_gone, is_up, is_exiting, is_member_with, member_of, tombstone_of, members_of, tombstones_of};
 ghost use Rattle.ak_member.specs.View.{after_effect, after_effects};
 
 use crate::effect::{Effect, Effects};
@@ -92,6 +92,26 @@ impl Members {
         match self.table.get(who) {
             Some(Standing::Member(status, _)) => status.is_down(),
             Some(Standing::Buried(_)) => true,
+            None => false,
+        }
+    }
+
+    /// Whether the process is a member that is Up. Takes no memory.
+    pub fn is_up(&self, who: &Unique) -> bool
+        ensures { result ≡ is_member_with is_up self.now who.now }
+    {
+        match self.get(who) {
+            Some(member) => member.status.is_up(),
+            None => false,
+        }
+    }
+
+    /// Whether the process is a member that is Exiting. Takes no memory.
+    pub fn is_exiting(&self, who: &Unique) -> bool
+        ensures { result ≡ is_member_with is_exiting self.now who.now }
+    {
+        match self.get(who) {
+            Some(member) => member.status.is_exiting(),
             None => false,
         }
     }

@@ -7,11 +7,11 @@ use Rattle.ak_address.proofs.Elements.{first_or_rest, contains_nothing, index_of
 use Rattle.ak_member.specs.declared.effect.Effect.{Effect}
 use Rattle.ak_member.specs.declared.status.Status.{Status}
 use Rattle.ak_member.specs.declared.status.Status.TheVariants.{Joining, Up, Leaving, Exiting, Down}
-use Rattle.ak_member.specs.Standing.{Standings, member_of, members_of, has_status, is_joining}
+use Rattle.ak_member.specs.Standing.{Standings, member_of, members_of, has_status, is_joining, is_member_with}
 use Rattle.ak_member.specs.Standing as standing
 use Rattle.ak_member.proofs.MembersLaws.{members_have}
 use Rattle.ak_gossip.proofs.InvariantLemmas.{and_first, and_second}
-use Rattle.ak_schedule.specs.Settings.{settling_size}
+use Rattle.ak_settings.specs.Settings.{settling_size}
 use Rattle.ak_converge.specs.Convergence.{is_converged}
 use Rattle.ak_leader.specs.Leader.{leaders_effects, greatest_number, founding_effects}
 use Rattle.ak_leader.specs.Led.{IsMemberWith, LedTo}
@@ -20,7 +20,6 @@ use Rattle.ak_leader.proofs.LedLaws.{each_led, founds_at, founds_each}
 use Rattle.ak_downing.specs.Downing.{all_downed}
 use Rattle.ak_downing.proofs.DownedLaws.{downed_has}
 use Rattle.ak_membership.specs.declared.state.MembershipState.{MembershipState}
-use Rattle.ak_membership.specs.Membership.{is_member_with}
 use Rattle.ak_membership.specs.Tick.{founds, has_settled, joining_addresses}
 use Rattle.ak_membership.specs.Knowledge.{Given, IsCause}
 

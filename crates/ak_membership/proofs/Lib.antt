@@ -6,6 +6,7 @@ pub mod MembershipLemmas
 pub mod MovedLaws
 pub mod RestLemmas
 pub mod RuleLemmas
+pub mod SilenceLemmas
 pub mod SightLaws
 pub mod Walk
 pub mod WalkLemmas

@@ -14,7 +14,7 @@ use Rattle.ak_member.specs.declared.status.Status.{Status}
 use Rattle.ak_member.specs.declared.status.Status.TheVariants.{Joining, Up, Leaving, Exiting, Down}
 use Rattle.ak_member.specs.declared.standing.Standing.{Standing}
 use Rattle.ak_member.specs.declared.standing.Standing.TheVariants.{Member, Buried}
-use Rattle.ak_member.specs.Standing.{Standings, member_of, members_of, member_pairs, is_member, is_up, is_joining}
+use Rattle.ak_member.specs.Standing.{Standings, member_of, members_of, member_pairs, is_member, is_up, is_joining, is_member_with}
 use Rattle.ak_member.specs.Age.{counts}
 use Rattle.ak_member.proofs.MembersLaws.{members_have}
 use Rattle.ak_gossip.specs.Gossip.{GossipState, is_known, most_uniques, IsGossip, IsStanding, MayUpdate}
@@ -26,7 +26,6 @@ use Rattle.ak_leader.proofs.LedLaws.{each_led, founds_at}
 use Rattle.ak_leader.proofs.LeaderLaws.{leader_is}
 use Rattle.ak_downing.specs.Downing.{all_downed}
 use Rattle.ak_downing.proofs.DownedLaws.{downed_has}
-use Rattle.ak_membership.specs.Membership.{is_member_with}
 use Rattle.ak_membership.specs.Tick.{is_process}
 use Rattle.ak_membership.proofs.Causes.{status_of}
 use Rattle.ak_membership.proofs.MayRise.{HasNumber, IsFit, AllFit, fit_may}

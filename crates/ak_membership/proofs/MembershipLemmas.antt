@@ -2,7 +2,7 @@
 -- settled view. And what a node knows only grows.
 use Rattle.std.proofs.Common.{◌≡◌, ℕ, Bool, true, false, inl, inr, if◌then◌else◌, Some, None, is_some, Result, Ok, Err, IfOk, OnOk, OnErr, IsTrue, refl, sym, ap, ◌∙◌, subst, true≢false}
 use Rattle.std.specs.FinMap as map
-use Rattle.ak_address.specs.Unique.{AddressModel, UniqueModel, unique_cmp}
+use Rattle.ak_address.specs.Unique.{UniqueModel, unique_cmp}
 use Rattle.ak_address.specs.Uniques.{with_one}
 use Rattle.ak_clock.specs.Version.{Counts, Covers, covers, relation, relation_by}
 use Rattle.ak_clock.specs.declared.version.Relation.{Relation}
@@ -25,7 +25,7 @@ use Rattle.ak_membership.specs.declared.change.Closing.{Closing}
 use Rattle.ak_membership.specs.declared.change.MemberFault.{MemberFault}
 use Rattle.ak_membership.specs.declared.change.MemberFault.TheVariants.{NotUp, UnknownMember, NotMember, Unlisted, ForeignCount, TooManyUniques, NoMemory}
 use Rattle.ak_membership.specs.declared.state.MembershipState.{MembershipState}
-use Rattle.ak_membership.specs.Membership.{Outcome, started, is_member, join, on_confirmed}
+use Rattle.ak_membership.specs.Membership.{Outcome, started, on_confirmed}
 use Rattle.ak_membership.specs.Closing.{notes, close}
 use Rattle.ak_membership.specs.Knowledge.{Knowledge, Keeps, Updates, Accepts, Given, learnt, IsLawful, WaitsOn, Learns}
 use Rattle.ak_membership.specs.MembershipContracts.{KnowsItself, IsMembership, IsSameProcess, Makes, Answers, Closes}

@@ -23,14 +23,14 @@ or_none : (a b : Bool) → (a || b) ≡ false → (a ≡ false) × (b ≡ false)
 or_none true b is = absurd (true≢false is)
 or_none false b is = (refl, is)
 
-none_any : {X : Type 0} (p : X → Bool) (xs : List X) → list_any p xs ≡ false → (x : X) → Contains xs x → p x ≡ false
+pub none_any : {X : Type 0} (p : X → Bool) (xs : List X) → list_any p xs ≡ false → (x : X) → Contains xs x → p x ≡ false
 none_any p [] is x there = absurd (contains_nothing x there)
 none_any p (y ∷ xs) is x there = elim (first_or_rest y x xs there) [
   | inl same ↦ subst (λ z. p z ≡ false) (sym same) (or_none (p y) (list_any p xs) is).0
   | inr later ↦ none_any p xs (or_none (p y) (list_any p xs) is).1 x later
 ]
 
-all_none : {X : Type 0} (p : X → Bool) (xs : List X) → ((x : X) → Contains xs x → p x ≡ false) → list_any p xs ≡ false
+pub all_none : {X : Type 0} (p : X → Bool) (xs : List X) → ((x : X) → Contains xs x → p x ≡ false) → list_any p xs ≡ false
 all_none p [] each = refl
 all_none p (y ∷ xs) each = λ i. each y (contains_first y xs) i || all_none p xs (λ x there. each x (contains_rest y x xs there)) i
 

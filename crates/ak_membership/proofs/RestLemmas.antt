@@ -1,25 +1,36 @@
 -- What is at rest stays so, and a closing of it finds nothing due.
-use Rattle.std.proofs.Common.{◌≡◌, ℕ, Bool, true, false, not, ◌&&◌, ◌||◌, if◌then◌else◌, List, [], ◌∷◌, Option, Some, None, is_some, refl, sym, ap, ◌∙◌, subst, true≢false}
+use Rattle.std.proofs.Common.{◌≡◌, ℕ, Bool, true, false, not, ◌&&◌, ◌||◌, if◌then◌else◌, List, [], ◌∷◌, Option, Some, None, is_some, Result, Ok, Err, nat_le, refl, sym, ap, ◌∙◌, subst, true≢false}
+use Rattle.std.specs.Bool.{⊤}
+use Rattle.std.specs.FinMap as map
 use Rattle.ak_address.specs.Changed.{keys_of}
 use Rattle.ak_address.specs.Counters.{Counters}
 use Rattle.ak_address.specs.Unique.{UniqueModel}
 use Rattle.ak_clock.specs.Version.{Counts, relation_by}
 use Rattle.ak_clock.proofs.VersionLaws.{covers_itself, test_from_covers}
 use Rattle.ak_detector.specs.Detector.{watch_ring, watching, heard}
+use Rattle.ak_detector.proofs.DetectorLaws.{watching_again}
 use Rattle.ak_detector.proofs.DetectorLemmas.{keys-heard, keys-ticked}
 use Rattle.ak_detector.proofs.RingLaws.{watches_on}
 use Rattle.ak_member.specs.declared.effect.Effect.{Effect}
-use Rattle.ak_member.specs.declared.effect.Effect.TheVariants.{Observed}
+use Rattle.ak_member.specs.declared.effect.Effect.TheVariants.{Rise, Observed}
+use Rattle.ak_member.specs.declared.status.Status.TheVariants.{Leaving, Down}
+use Rattle.ak_gossip.specs.Gossip.{is_known}
+use Rattle.ak_member.specs.Standing as standing
+use Rattle.ak_member.specs.Standing.{is_up, is_down}
+use Rattle.ak_schedule.specs.Settings.{is_listed}
 use Rattle.ak_leader.specs.Leader.{leaders_effects, founding_effects}
 use Rattle.ak_settled.specs.Settled as settled
 use Rattle.ak_settled.specs.Settled.{version_of}
 use Rattle.ak_settled.specs.SettledView.{SettledView, SettledModel}
+use Rattle.ak_membership.specs.declared.change.Change.{Change}
 use Rattle.ak_membership.specs.declared.change.Closing.{Closing}
+use Rattle.ak_membership.specs.declared.change.MemberFault.{MemberFault}
+use Rattle.ak_membership.specs.declared.change.MemberFault.TheVariants.{NotUp, UnknownMember, NotMember, Unlisted, ForeignCount, TooManyUniques, NoMemory}
 use Rattle.ak_membership.specs.declared.state.MembershipState.{MembershipState}
-use Rattle.ak_membership.specs.Membership.{Outcome, unchanged, made, update, update_any, may_count, is_gone, is_member}
+use Rattle.ak_membership.specs.Membership.{Outcome, unchanged, made, update, update_any, may_count, is_gone, is_member, is_member_with, has_member_beside, replaced, most_at_join, admitted, on_join, leave, down}
 use Rattle.ak_membership.specs.Tick.{tick, updates, counted, silent, decided, observes, decides, founds, leads, has_settled}
 use Rattle.ak_membership.specs.Closing.{is_other, is_same, is_viewed, stops, is_noted, notes, settled_after, stable_after, close}
-use Rattle.ak_membership.specs.MembershipContracts.{IsAtRest, Closes}
+use Rattle.ak_membership.specs.MembershipContracts.{Answers, IsAtRest, Closes, makes_none}
 
 -- ---- what does not look at what is known
 pub rests_heard : (m : MembershipState) (who : UniqueModel) (detector : Counters) → detector ≡ heard who m.detector → IsAtRest m → IsAtRest (record m { detector = detector })
@@ -47,6 +58,10 @@ rests_counted m rest = record {
 pub none_there : {X : Type 0} (o : Option X) → is_some o ≡ false → o ≡ None
 none_there None is = refl
 none_there (Some x) is = absurd (true≢false is)
+
+not_true : (b : Bool) → not b ≡ true → b ≡ false
+not_true true is = sym is
+not_true false is = refl
 
 -- ---- a tick that makes no update leaves what is known
 update_none : (effects : List Effect) (m : MembershipState) → (update effects m).1.number ≡ None → (update effects m).0 ≡ m
@@ -78,6 +93,64 @@ rests_ticked m none rest = by_case (is_member m) none
     by_case : (b : Bool) → (if b then (counted (updates m).0, (updates m).1) else unchanged m).1.number ≡ None → IsAtRest (if b then (counted (updates m).0, (updates m).1) else unchanged m).0
     by_case true none = rests_counted (updates m).0 (subst IsAtRest (sym (updates_none m none)) rest)
     by_case false none = rest
+
+-- ---- a request that makes no update leaves what is known
+LeavesIt : MembershipState → Result Outcome MemberFault → Type 0
+LeavesIt m (Ok o) = o.1.number ≡ None → o.0 ≡ m
+LeavesIt m (Err fault) = ⊤
+
+either_leaves : (b : Bool) (m : MembershipState) (one other : Result Outcome MemberFault) → LeavesIt m one → LeavesIt m other → LeavesIt m (if b then one else other)
+either_leaves true m one other first second = first
+either_leaves false m one other first second = second
+
+admitted_none : (from : UniqueModel) (m : MembershipState) → (admitted from m).1.number ≡ None → (admitted from m).0 ≡ m
+admitted_none from m = either_none (may_count m) m _ _ (λ none. absurd (true≢false (ap is_some none))) (λ none. refl)
+
+join_leaves : (from : UniqueModel) (m : MembershipState) → LeavesIt m (on_join from m)
+unfolding LeavesIt
+join_leaves from m =
+    either_leaves (not (is_member m)) m _ _ tt
+    (either_leaves (not (is_listed m.settings.listed from.address)) m _ _ tt
+    (either_leaves (standing.is_member m.gossip.view.standings from) m _ _ (λ none. refl)
+    (either_leaves (is_known m.gossip.view.standings from) m _ _ (λ none. refl)
+    (either_leaves (has_member_beside from m.gossip.view.standings) m _ _ (update_any_none (replaced from m.gossip.view.standings) m)
+    (either_leaves (nat_le most_at_join (map.len m.gossip.view.standings)) m _ _ tt (admitted_none from m))))))
+
+leave_leaves : (who : UniqueModel) (m : MembershipState) → LeavesIt m (leave who m)
+unfolding LeavesIt
+leave_leaves who m =
+    either_leaves (not (is_member m)) m _ _ tt
+    (either_leaves (not (standing.is_member m.gossip.view.standings who)) m _ _ tt
+    (either_leaves (not (is_member_with is_up m.gossip.view.standings who)) m _ _ tt (update_none (Rise who Leaving 0 ∷ []) m)))
+
+down_leaves : (who : UniqueModel) (m : MembershipState) → LeavesIt m (down who m)
+unfolding LeavesIt
+down_leaves who m =
+    either_leaves (not (is_member m)) m _ _ tt
+    (either_leaves (not (standing.is_member m.gossip.view.standings who)) m _ _ tt
+    (either_leaves (is_member_with is_down m.gossip.view.standings who) m _ _ (λ none. refl) (update_none (Rise who Down 0 ∷ []) m)))
+
+rests_answered : (outcome : Result Outcome MemberFault) (m new : MembershipState) (free : Type 0) (r : Result Change MemberFault) → LeavesIt m outcome → Answers free outcome m r new → makes_none r ≡ true → IsAtRest m → IsAtRest new
+unfolding LeavesIt
+rests_answered outcome m new free (Ok change) leaves (o, is, makes) none rest =
+    let left : LeavesIt m (Ok o) = subst (LeavesIt m) is leaves in
+    subst IsAtRest (sym (makes.state_after ∙ left (ap (λ (c : Change). c.number) (sym makes.change_told) ∙ none_there change.number (not_true (is_some change.number) none)))) rest
+rests_answered outcome m new free (Err NotUp) leaves a none rest = subst IsAtRest (sym a.1) rest
+rests_answered outcome m new free (Err UnknownMember) leaves a none rest = subst IsAtRest (sym a.1) rest
+rests_answered outcome m new free (Err NotMember) leaves a none rest = subst IsAtRest (sym a.1) rest
+rests_answered outcome m new free (Err Unlisted) leaves a none rest = subst IsAtRest (sym a.1) rest
+rests_answered outcome m new free (Err (ForeignCount own theirs)) leaves a none rest = subst IsAtRest (sym a.1) rest
+rests_answered outcome m new free (Err (TooManyUniques union)) leaves a none rest = subst IsAtRest (sym a.1) rest
+rests_answered outcome m new free (Err (NoMemory error)) leaves a none rest = subst IsAtRest (sym a.1) rest
+
+pub rests_joined : (from : UniqueModel) (m new : MembershipState) (free : Type 0) (r : Result Change MemberFault) → Answers free (on_join from m) m r new → makes_none r ≡ true → IsAtRest m → IsAtRest new
+rests_joined from m new free r = rests_answered (on_join from m) m new free r (join_leaves from m)
+
+pub rests_left : (who : UniqueModel) (m new : MembershipState) (free : Type 0) (r : Result Change MemberFault) → Answers free (leave who m) m r new → makes_none r ≡ true → IsAtRest m → IsAtRest new
+rests_left who m new free r = rests_answered (leave who m) m new free r (leave_leaves who m)
+
+pub rests_downed : (who : UniqueModel) (m new : MembershipState) (free : Type 0) (r : Result Change MemberFault) → Answers free (down who m) m r new → makes_none r ≡ true → IsAtRest m → IsAtRest new
+rests_downed who m new free r = rests_answered (down who m) m new free r (down_leaves who m)
 
 -- ---- closings
 
@@ -131,3 +204,40 @@ pub rests_closed_again : (m : MembershipState) → IsAtRest m → IsAtRest (clos
 rests_closed_again m rest =
     rests_closed false m rest.here ((λ i. not (rest.here i) && is_noted m) ∙ rest.noted)
     (ap keys_of (watches_on m.me m.gossip.view.standings m.settings.deadline m.detector (keys_of m.detector) refl rest.ring) ∙ rest.ring)
+
+-- ---- a closing after a closing finds nothing due, where the node goes on
+module _ (stopping : Bool) (m : MembershipState) (running : stops stopping m ≡ false) where
+  abbrev pub after : MembershipState
+  after = (close stopping m).0
+
+  here : is_gone m ≡ false
+  here = not_either stopping m stopping (is_gone m) running
+
+  -- what was noted is not noted again
+  not_noted : is_noted after ≡ false
+  not_noted = by_noted (notes stopping m) refl
+    where
+      either : (b : Bool) → (b && false) ≡ false
+      either true = refl
+      either false = refl
+
+      by_noted : (b : Bool) → notes stopping m ≡ b → is_noted after ≡ false
+      by_noted true noted =
+          ap (λ (s : SettledModel). has_settled m && (not (is_some s.view) || is_other (version_of s.view) m.gossip.version)) (ap (λ b. if b then settled.after_note m.gossip.version m.gossip.view.standings m.settled else m.settled) noted)
+          ∙ ap (λ b. has_settled m && b) (no_other m.gossip.version)
+          ∙ either (has_settled m)
+      by_noted false none =
+          ap (λ (s : SettledModel). has_settled m && (not (is_some s.view) || is_other (version_of s.view) m.gossip.version)) (ap (λ b. if b then settled.after_note m.gossip.version m.gossip.view.standings m.settled else m.settled) none)
+          ∙ not_both stopping m (stops stopping m) (is_noted m) running none
+
+  none_due : notes false after ≡ false
+  none_due = (λ i. not (here i) && is_noted after) ∙ not_noted
+
+  pub closed_again : close false after ≡ (after, record { viewed = false; stopped = false; settled = false })
+  closed_again = λ i. (
+    record after {
+      detector = watching_again m.me m.gossip.view.standings m.settings.deadline m.detector i;
+      settled = if none_due i then settled.after_note m.gossip.version m.gossip.view.standings after.settled else after.settled;
+    },
+    record { viewed = no_other m.gossip.version i; stopped = here i; settled = none_due i },
+  )

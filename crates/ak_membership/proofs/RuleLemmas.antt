@@ -10,7 +10,7 @@ use Rattle.ak_member.specs.declared.effect.Effect.{Effect}
 use Rattle.ak_member.specs.declared.effect.Effect.TheVariants.{Joined, Rise, Observed}
 use Rattle.ak_member.specs.declared.status.Status.TheVariants.{Leaving, Down}
 use Rattle.ak_member.specs.Standing as standing
-use Rattle.ak_member.specs.Standing.{is_down, is_up}
+use Rattle.ak_member.specs.Standing.{is_down, is_up, is_member_with}
 use Rattle.ak_gossip.specs.declared.gossip.Received.{Received}
 use Rattle.ak_gossip.specs.declared.gossip.GossipFault.{GossipFault}
 use Rattle.ak_gossip.specs.Gossip.{GossipState, IsGossip, MayUpdate, is_known, receive}
@@ -21,13 +21,13 @@ use Rattle.ak_detector.specs.Detector as detector
 use Rattle.ak_detector.proofs.DetectorLaws.{silent_watched, ticked_same}
 use Rattle.ak_downing.specs.Downing.{decide, is_against}
 use Rattle.ak_leader.specs.Leader.{leader, leaders_effects, founding_effects}
-use Rattle.ak_schedule.specs.Settings.{is_listed}
+use Rattle.ak_settings.specs.Settings.{is_listed}
 use Rattle.ak_membership.specs.declared.change.Change.{Change}
 use Rattle.ak_membership.specs.declared.change.MemberFault.{MemberFault}
 use Rattle.ak_membership.specs.declared.change.MemberFault.TheVariants.{NotUp, UnknownMember, NotMember, Unlisted, TooManyUniques}
 use Rattle.ak_membership.specs.declared.change.Reply.TheVariants.{Welcome}
 use Rattle.ak_membership.specs.declared.state.MembershipState.{MembershipState}
-use Rattle.ak_membership.specs.Membership.{Outcome, unchanged, replying, may_count, update, update_any, is_member, is_member_with, leave, down, has_member_beside, replaced, is_beside, most_at_join, admitted, on_join, on_received, on_gossip}
+use Rattle.ak_membership.specs.Membership.{Outcome, unchanged, replying, may_count, update, update_any, is_member, leave, down, has_member_beside, replaced, is_beside, most_at_join, admitted, on_join, on_received, on_gossip}
 use Rattle.ak_membership.specs.Tick.{silent, decided, leads, has_settled, is_process}
 use Rattle.ak_membership.specs.MembershipContracts.{Makes, Answers, IsAccepted, IsCounting, IsWatching, KnowsItself, or_no_memory}
 use Rattle.ak_membership.proofs.MayMake.{leaving_may, down_may, downed_may, founding_may, leading_may}

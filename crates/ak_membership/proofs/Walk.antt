@@ -9,11 +9,11 @@ use Rattle.ak_member.specs.declared.effect.Effect.{Effect}
 use Rattle.ak_member.specs.declared.effect.Effect.TheVariants.{Joined, Rise, Observed}
 use Rattle.ak_member.specs.declared.status.Status.TheVariants.{Leaving, Down}
 use Rattle.ak_member.specs.Standing as standing
-use Rattle.ak_member.specs.Standing.{members_of, is_down, is_up}
+use Rattle.ak_member.specs.Standing.{members_of, is_down, is_up, is_member_with}
 use Rattle.ak_gossip.specs.declared.gossip.GossipFault.TheVariants as fault
 use Rattle.ak_gossip.specs.Gossip.{GossipState, is_known, accepted, noted, most_uniques}
 use Rattle.ak_gossip.proofs.InvariantLemmas.{and_first, member_known}
-use Rattle.ak_schedule.specs.Settings.{is_listed}
+use Rattle.ak_settings.specs.Settings.{is_listed}
 use Rattle.ak_reach.specs.Unreachable.{unreachable_members}
 use Rattle.ak_downing.specs.Downing.{decide, is_against}
 use Rattle.ak_leader.specs.Leader.{leaders_effects, founding_effects}
@@ -22,7 +22,7 @@ use Rattle.ak_membership.specs.declared.change.Reply.{Reply}
 use Rattle.ak_membership.specs.declared.change.Reply.TheVariants.{Welcome}
 use Rattle.ak_membership.specs.declared.change.MemberFault.{MemberFault}
 use Rattle.ak_membership.specs.declared.state.MembershipState.{MembershipState}
-use Rattle.ak_membership.specs.Membership.{Outcome, unchanged, replying, may_count, made, update, update_any, knowing, is_member, is_member_with, found, leave, down, is_beside, has_member_beside, replaced, most_at_join, on_join, on_received, on_gossip}
+use Rattle.ak_membership.specs.Membership.{Outcome, unchanged, replying, may_count, made, update, update_any, knowing, is_member, found, leave, down, is_beside, has_member_beside, replaced, most_at_join, on_join, on_received, on_gossip}
 use Rattle.ak_membership.specs.Tick.{observes, silent, decides, decided, founds, leads, has_settled, updates, counted, tick}
 use Rattle.ak_membership.specs.Knowledge.{Given, Keeps, Updates, Accepts, learnt, IsLawful, Learns}
 use Rattle.ak_membership.proofs.Causes.{founding_causes, leading_causes, downing_causes, one_cause}

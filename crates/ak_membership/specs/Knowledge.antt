@@ -9,13 +9,13 @@ use Rattle.ak_member.specs.declared.effect.Effect.TheVariants.{Joined, Rise, Rem
 use Rattle.ak_member.specs.declared.status.Status.{Status}
 use Rattle.ak_member.specs.declared.status.Status.TheVariants.{Joining, Up, Leaving, Exiting, Down}
 use Rattle.ak_member.specs.Standing as standing
-use Rattle.ak_member.specs.Standing.{is_up, is_joining}
+use Rattle.ak_member.specs.Standing.{is_up, is_joining, is_member_with}
 use Rattle.ak_gossip.specs.Gossip.{GossipState, is_known, updated, accepted, noted}
 use Rattle.ak_settled.specs.Settled.{after_tick}
 use Rattle.ak_settled.specs.SettledView.{SettledModel}
 use Rattle.ak_membership.specs.declared.change.Change.{Change}
 use Rattle.ak_membership.specs.declared.state.MembershipState.{MembershipState}
-use Rattle.ak_membership.specs.Membership.{Outcome, is_member, is_member_with}
+use Rattle.ak_membership.specs.Membership.{Outcome, is_member}
 use Rattle.ak_membership.specs.Tick.{has_settled, silent}
 
 pub data Knowledge : Type 0 where

@@ -10,14 +10,13 @@ use Rattle.ak_clock.specs.declared.version.TheConstants.{BOUND}
 use Rattle.ak_clock.specs.Version.{count}
 use Rattle.ak_member.specs.declared.effect.Effect.{Effect}
 use Rattle.ak_member.specs.declared.effect.Effect.TheVariants.{Joined, Rise}
-use Rattle.ak_member.specs.declared.status.Status.{Status}
 use Rattle.ak_member.specs.declared.status.Status.TheVariants.{Leaving, Down}
-use Rattle.ak_member.specs.Standing.{Standings, member_of, members_of, has_status, is_down, is_up}
+use Rattle.ak_member.specs.Standing.{Standings, members_of, is_down, is_up, is_member_with}
 use Rattle.ak_member.specs.Standing as standing
 use Rattle.ak_gossip.specs.declared.gossip.Received as received
 use Rattle.ak_gossip.specs.declared.gossip.GossipFault as fault
 use Rattle.ak_gossip.specs.Gossip.{GossipState, nothing_known, is_known, updated, receive}
-use Rattle.ak_schedule.specs.Settings.{SettingsModel, is_listed}
+use Rattle.ak_settings.specs.Settings.{SettingsModel, is_listed}
 use Rattle.ak_downing.specs.Downing.{all_downed}
 use Rattle.ak_detector.specs.Detector.{heard}
 use Rattle.ak_settled.specs.Settled.{unsettled}
@@ -50,10 +49,6 @@ started me settings =
 -- a node is a member where it is one of its own view
 abbrev pub is_member : MembershipState → Bool
 is_member m = standing.is_member m.gossip.view.standings m.me
-
--- a process is a member, and its status passes a test
-abbrev pub is_member_with : (Status → Bool) → Standings → UniqueModel → Bool
-is_member_with test s who = has_status test (member_of (map.get s who))
 
 -- a node that its view shows as Down or as a tombstone is gone; one that its view does not know is not
 abbrev pub is_gone : MembershipState → Bool

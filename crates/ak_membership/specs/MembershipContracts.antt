@@ -1,6 +1,6 @@
 -- Words of the contracts of a membership's calls.
 use Rattle.std.specs.declared.alloc.AllocError.{AllocError}
-use Rattle.std.specs.Prelude.{◌≡◌, Bool, true, false, Result, Ok, Err, ⊤, IsTrue}
+use Rattle.std.specs.Prelude.{◌≡◌, Bool, true, false, not, is_some, Result, Ok, Err, ⊤, IsTrue}
 use Rattle.std.specs.FinMap as map
 use Rattle.std.specs.Coded.{Coded, coded_ℕ}
 use Rattle.ak_address.specs.Changed.{keys_of}
@@ -12,14 +12,14 @@ use Rattle.ak_gossip.specs.declared.gossip.Received.TheVariants as received
 use Rattle.ak_gossip.specs.declared.gossip.GossipFault.{GossipFault}
 use Rattle.ak_gossip.specs.declared.gossip.GossipFault.TheVariants as gossip
 use Rattle.ak_gossip.specs.Gossip.{GossipState, is_known, receive}
-use Rattle.ak_member.specs.Standing.{is_member, is_down}
+use Rattle.ak_member.specs.Standing.{is_member, is_down, is_member_with}
 use Rattle.ak_settled.specs.Settled.{version_of}
 use Rattle.ak_membership.specs.declared.change.Change.{Change}
 use Rattle.ak_membership.specs.declared.change.Closing.{Closing}
 use Rattle.ak_membership.specs.declared.change.MemberFault.{MemberFault}
 use Rattle.ak_membership.specs.declared.change.MemberFault.TheVariants.{NotUp, UnknownMember, NotMember, Unlisted, ForeignCount, TooManyUniques, NoMemory}
 use Rattle.ak_membership.specs.declared.state.MembershipState.{MembershipState}
-use Rattle.ak_membership.specs.Membership.{Outcome, started, knowing, is_gone, is_member_with, may_count}
+use Rattle.ak_membership.specs.Membership.{Outcome, started, knowing, is_gone, may_count}
 use Rattle.ak_membership.specs.Closing.{is_noted}
 
 -- the version that was last shown is stored as its counts
@@ -86,6 +86,11 @@ Answers free outcome old (Err Unlisted) new = (outcome ≡ Err Unlisted) × (new
 Answers free outcome old (Err (ForeignCount own theirs)) new = (outcome ≡ Err (ForeignCount own theirs)) × (new ≡ old)
 Answers free outcome old (Err (TooManyUniques union)) new = (outcome ≡ Err (TooManyUniques union)) × (new ≡ old)
 Answers free outcome old (Err (NoMemory _)) new = free × (new ≡ old)
+
+-- a call that may refuse made no update: it was refused, or its change tells none
+abbrev pub makes_none : Result Change MemberFault → Bool
+makes_none (Ok change) = not (is_some change.number)
+makes_none (Err fault) = true
 
 -- What accepting a gossip answered and left: it is known then; or the refusal, and nothing changed.
 abbrev pub Receives : GossipState → MembershipState → Result Received GossipFault → MembershipState → Type 0

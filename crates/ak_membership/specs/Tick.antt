@@ -12,11 +12,11 @@ use Rattle.ak_member.specs.declared.effect.Effect.{Effect}
 use Rattle.ak_member.specs.declared.effect.Effect.TheVariants.{Observed}
 use Rattle.ak_member.specs.declared.status.Status.{Status}
 use Rattle.ak_member.specs.Age.{counts}
-use Rattle.ak_member.specs.Standing.{Standings, is_down, members_of, is_joining}
+use Rattle.ak_member.specs.Standing.{Standings, is_down, members_of, is_joining, is_member_with}
 use Rattle.ak_member.specs.Standing as standing
 use Rattle.ak_member.specs.View.{Row}
 use Rattle.ak_reach.specs.Unreachable.{unreachable_members}
-use Rattle.ak_schedule.specs.Settings.{settling_size}
+use Rattle.ak_settings.specs.Settings.{settling_size}
 use Rattle.ak_converge.specs.Convergence.{is_converged, is_settled}
 use Rattle.ak_detector.specs.Detector as detector
 use Rattle.ak_downing.specs.Downing.{decide, downs}
@@ -24,7 +24,7 @@ use Rattle.ak_leader.specs.Leader.{leader, leaders_effects, founding_effects}
 use Rattle.ak_select.specs.Select.{peer}
 use Rattle.ak_settled.specs.Settled.{after_tick}
 use Rattle.ak_membership.specs.declared.state.MembershipState.{MembershipState}
-use Rattle.ak_membership.specs.Membership.{Outcome, unchanged, update, update_any, is_member, is_member_with}
+use Rattle.ak_membership.specs.Membership.{Outcome, unchanged, update, update_any, may_count, is_member}
 
 -- ---- who is silent
 -- whom the node finds silent with this tick
@@ -110,6 +110,10 @@ updates m =
     else (if founds m then update (founding_effects m.gossip.view.standings) m
     else (if leads m then update_any (leaders_effects m.gossip.view m.confirmed) m
     else unchanged m)))
+
+-- a number is left for an update, and one of the rules applies (a leader may have nothing to do)
+abbrev pub is_due : MembershipState → Bool
+is_due m = may_count m && (observes m || decides m || founds m || leads m)
 
 -- the tick is counted; the tombstones of the settled view, and the watched members that are not heard, wait for a tick more
 abbrev pub counted : MembershipState → MembershipState

@@ -9,6 +9,7 @@ mod lost;
 mod members;
 mod membership;
 mod sight;
+mod silence;
 mod state;
 
 pub use change::{Change, Closing, MemberFault, Reply};

@@ -23,19 +23,9 @@ pub(crate) fn is_known(members: &Members, who: &Unique) -> bool
     members.get(who).is_some() || members.tombstone(who).is_some()
 }
 
-// The process is a member that is Up.
-pub(crate) fn is_up(members: &Members, who: &Unique) -> bool
-    ensures { result ≡ rules.is_member_with standing.is_up members.now who.now }
-{
-    match members.get(who) {
-        Some(member) => member.status.is_up(),
-        None => false,
-    }
-}
-
 // The process is a member that is Down.
 pub(crate) fn is_down(members: &Members, who: &Unique) -> bool
-    ensures { result ≡ rules.is_member_with standing.is_down members.now who.now }
+    ensures { result ≡ standing.is_member_with standing.is_down members.now who.now }
 {
     match members.get(who) {
         Some(member) => member.status.is_down(),
@@ -45,7 +35,7 @@ pub(crate) fn is_down(members: &Members, who: &Unique) -> bool
 
 // The process is a member that is Joining.
 pub(crate) fn is_joining(members: &Members, who: &Unique) -> bool
-    ensures { result ≡ rules.is_member_with standing.is_joining members.now who.now }
+    ensures { result ≡ standing.is_member_with standing.is_joining members.now who.now }
 {
     match members.get(who) {
         Some(member) => member.status.is_joining(),

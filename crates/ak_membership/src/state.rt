@@ -3,7 +3,7 @@ ghost use Rattle.std.specs.FinMap as map;
 ghost use Rattle.ak_address.specs.Uniques.{has};
 ghost use Rattle.ak_gossip.specs.Gossip.{MayUpdate, is_known};
 ghost use Rattle.ak_member.specs.Standing as standing;
-ghost use Rattle.ak_schedule.specs.Settings.{is_listed};
+ghost use Rattle.ak_settings.specs.Settings.{is_listed};
 ghost use Rattle.ak_leader.specs.Leader as leads;
 ghost use Rattle.ak_membership.specs.Membership as rules;
 ghost use Rattle.ak_membership.specs.MembershipContracts.{Makes, Answers, IsAccepted, IsCounting, IsKnownIn, IsUnknown, MayAdmit, MayDown, RestsIf, LeavesAtRest, IsWatching, KnowsItself, Receives, or_no_memory};
@@ -11,9 +11,9 @@ ghost use Rattle.ak_membership.specs.Sight.{is_news};
 ghost use Rattle.ak_membership.specs.Tick as ticks;
 
 use crate::change::{Change, MemberFault, Reply};
-use crate::lost::{has_lost, lacks, members_among, some_counts};
+use crate::lost::{has_lost, some_counts};
 use crate::members::{
-    downed_beside, has_member_beside, is_down, is_joining, is_known, is_up, joining_addresses,
+    downed_beside, has_member_beside, is_down, is_joining, is_known, joining_addresses,
 };
 use crate::sight::moves;
 use ak_address::{Address, Unique, Uniques};
@@ -24,8 +24,8 @@ use ak_downing::{decide, downs};
 use ak_gossip::{Gossip, GossipFault, Received};
 use ak_leader::{actions, founding, leader};
 use ak_member::{Effect, Effects, Status};
-use ak_schedule::{Settings, Strategy};
 use ak_select::peer;
+use ak_settings::{Settings, Strategy};
 use ak_settled::Settled;
 use std::alloc::{AllocError, Global};
 
@@ -106,7 +106,7 @@ impl MembershipState {
         self.gossip.members().get(&self.me).is_some()
     }
 
-    fn has_member(&self, who: &Unique) -> bool
+    pub(crate) fn has_member(&self, who: &Unique) -> bool
         ensures { result ≡ standing.is_member self.now.gossip.view.standings who.now }
     {
         self.gossip.members().get(who).is_some()
@@ -132,14 +132,8 @@ impl MembershipState {
         self.settings.is_listed(&who.address)
     }
 
-    fn is_up(&self, who: &Unique) -> bool
-        ensures { result ≡ rules.is_member_with standing.is_up self.now.gossip.view.standings who.now }
-    {
-        is_up(self.gossip.members(), who)
-    }
-
     fn is_down(&self, who: &Unique) -> bool
-        ensures { result ≡ rules.is_member_with standing.is_down self.now.gossip.view.standings who.now }
+        ensures { result ≡ standing.is_member_with standing.is_down self.now.gossip.view.standings who.now }
     {
         is_down(self.gossip.members(), who)
     }
@@ -244,7 +238,7 @@ impl MembershipState {
         if !self.has_member(who) {
             return Err(MemberFault::UnknownMember);
         }
-        if !self.is_up(who) {
+        if !self.gossip.members().is_up(who) {
             return Err(MemberFault::NotUp);
         }
         self.gossip.invariant();
@@ -420,6 +414,7 @@ impl MembershipState {
     pub(crate) fn on_confirmed(&mut self, alloc: Global, from: &Unique) -> Result<(), AllocError>
         ensures ok { OnOk result (self.new ≡ rules.on_confirmed from.now self.old) }
         ensures err { OnErr result (self.new ≡ self.old) }
+        ensures memory { OnErr result (IsTrue (standing.is_member self.old.gossip.view.standings from.now)) }
     {
         if self.has_member(from) {
             return self.confirmed.insert(alloc, from);
@@ -522,34 +517,15 @@ impl MembershipState {
         Ok(them)
     }
 
-    // The members that the node's own row names.
-    fn own_subjects(&self, alloc: Global) -> Result<Uniques, AllocError>
-        ensures { IfOk result (λ them. them ≡ ticks.own_subjects self.now) }
-    {
-        match self.gossip.rows().row(&self.me) {
-            Some(row) => members_among(alloc, self.gossip.members(), &row.subjects),
-            None => Ok(Uniques::empty(alloc)),
-        }
-    }
-
-    // Whom the node finds silent is not what its own row says.
-    fn observes(&self, silent: &Uniques, subjects: &Uniques) -> bool
-        requires silent { silent.now ≡ ticks.silent self.now }
-        requires subjects { subjects.now ≡ ticks.own_subjects self.now }
-        ensures { result ≡ ticks.observes self.now }
-    {
-        lacks(subjects, silent) || lacks(silent, subjects)
-    }
-
     // The node observes whom it finds silent.
-    fn observe(&mut self, alloc: Global, silent: Uniques) -> Result<Change, AllocError>
+    fn observe(&mut self, alloc: Global) -> Result<Change, AllocError>
         requires member { IsTrue (rules.is_member self.old) }
         requires watching { IsWatching self.old }
-        requires silent { silent ≡ ticks.silent self.old }
         ensures ok { IfOk result (λ change. Makes (rules.update (Effect.Observed (ticks.silent self.old) ∷ []) self.old) self.new change) }
         ensures err { OnErr result (self.new ≡ self.old) }
     {
         self.gossip.invariant();
+        let silent = self.silent(alloc)?;
         let effects = one(alloc, Effect::Observed(silent))?;
         self.update(alloc, effects)
     }
@@ -603,17 +579,19 @@ impl MembershipState {
         self.update(alloc, effects)
     }
 
-    // At most one update, the first that applies.
+    // At most one update, the first that applies, where a number is left for it.
     fn updates(&mut self, alloc: Global) -> Result<Change, AllocError>
         requires member { IsTrue (rules.is_member self.old) }
         requires watching { IsWatching self.old }
         ensures ok { IfOk result (λ change. Makes (ticks.updates self.old) self.new change) }
         ensures err { OnErr result (self.new ≡ self.old) }
+        ensures memory { OnErr result (IsTrue (ticks.is_due self.old)) }
     {
-        let silent = self.silent(alloc)?;
-        let subjects = self.own_subjects(alloc)?;
-        if self.observes(&silent, &subjects) {
-            return self.observe(alloc, silent);
+        if !self.may_count() {
+            return Ok(unchanged(alloc));
+        }
+        if self.observes() {
+            return self.observe(alloc);
         }
         if self.decides() {
             return self.resolve(alloc);
@@ -644,7 +622,7 @@ impl MembershipState {
         requires watching { IsWatching self.old }
         ensures ok { IfOk result (λ change. Makes (ticks.tick self.old) self.new change) }
         ensures err { OnErr result (self.new ≡ self.old) }
-        ensures memory { OnErr result (IsTrue (rules.is_member self.old)) }
+        ensures memory { OnErr result (IsTrue (rules.is_member self.old) × IsTrue (ticks.is_due self.old)) }
     {
         if !self.is_member() {
             return Ok(unchanged(alloc));

@@ -5,17 +5,16 @@ use Rattle.ak_address.specs.Unique.{AddressModel, UniqueModel, IsUnique, unique_
 use Rattle.ak_address.proofs.TableLaws.{get-empty, entries-empty}
 use Rattle.ak_gossip.specs.Gossip.{GossipState, IsGossip, is_known}
 use Rattle.ak_member.specs.declared.status.Status.{Status}
-use Rattle.ak_member.specs.Standing.{is_exiting}
+use Rattle.ak_member.specs.Standing.{is_exiting, is_member_with}
 use Rattle.ak_membership.specs.declared.change.MemberFault.{MemberFault}
 use Rattle.ak_membership.specs.Membership as membership
-use Rattle.ak_membership.specs.Membership.{is_member_with}
 use Rattle.ak_membership.specs.Closing.{notes}
 use Rattle.ak_membership.specs.Knowledge.{nothing_given}
 use Rattle.ak_membership.specs.Tick as ticks
 use Rattle.ak_membership.proofs.MembershipLemmas.{waits_version, waits_standings}
 use Rattle.ak_membership.proofs.Walk.{tick_learns}
 use Rattle.ak_promise.specs.Promise.{is_some_ballot}
-use Rattle.ak_schedule.specs.Settings.{SettingsModel}
+use Rattle.ak_settings.specs.Settings.{SettingsModel}
 use Rattle.ak_address.proofs.UniquesLaws.{has-no_one}
 use Rattle.ak_field.specs.Ranges.{IsEntity}
 use Rattle.ak_promise.specs.Ballot.{BallotModel, IsBallot}
@@ -31,7 +30,7 @@ use Rattle.ak_sharding.proofs.ShardRanges.{told_in, message_in, tabled_in, begin
 use Rattle.ak_settled.specs.Settled.{unsettled, version_of, standings_of, after_note}
 use Rattle.ak_settled.specs.SettledView.{SettledModel}
 use Rattle.ak_singleton.specs.Singleton.{unasked, is_first_grant, is_outdone, may_activate}
-use Rattle.ak_wire.specs.Datagram.{IsSendable, IsBody}
+use Rattle.ak_wire.specs.Datagram.{IsBody}
 use Rattle.ak_wire.specs.declared.envelope.Message.{Message}
 use Rattle.ak_wire.specs.declared.envelope.Message.TheVariants as message
 use Rattle.ak_wire.specs.declared.action.Action.TheVariants as action
@@ -41,6 +40,7 @@ use Rattle.ak_node.specs.declared.node.NodeEvent.TheVariants as event
 use Rattle.ak_node.specs.Node as node
 use Rattle.ak_node.specs.Node.{Outcome, known, me_of, settled_of, margin_of, is_member, is_gone, nothing, and_then, started, does, does_for, unless_refused, leave, down, asks_at, exits, gossips_to, gossips, status_of, asks_as, ends_phase, around, shards_do, offer, on_shards, takes, rest, may_leave, leaves, forgets, rule_on, is_over_here, is_asked, takes_grant, has_handed_over, goes_on, on_message, rule, closes, concludes, is_dead, running_step, step}
 use Rattle.ak_node.specs.Sends.{KnowsProcesses, IsProcess, IsCounted, KeepsBallots, KeepsSettled, KeepsShards, IsSaid}
+use Rattle.ak_node.proofs.NamesKept.{step_names}
 use Rattle.ak_node.proofs.BallotsKept.{counted_empty, short_counted, known_fits, released_kept, asked_kept, granted_kept, rule_kept, old_kept, ended_kept, active_kept, settled_alike}
 use Rattle.ak_node.proofs.NodeLemmas.{rule_settled}
 use Rattle.ak_node.proofs.StepChanges.{rule_changes, step_is}
@@ -219,10 +219,9 @@ step_leaves e n said is k ks kh names gossip = by_runs n.runs refl
     by_runs false stopped = subst (λ b. Leaves (if b then running_step e x else nothing n).0) (sym stopped) (record { ballots = k; settled = ks; shards = kh })
 
 -- what a call leaves, and one that ran out of memory
-pub call_leaves : (e : NodeEvent) (n s : State) (g : GossipState) → IsSaid e → IsProcess n → KeepsBallots n.singleton → KeepsSettled n → KeepsShards n → s ≡ (step e n).0 → g ≡ known s → IsSendable g → Leaves s
-call_leaves e n s g said is k ks kh state same sendable =
-    let known_then : IsSendable (known (step e n).0) = subst IsSendable (same ∙ ap known state) sendable in
-    subst Leaves (sym state) (step_leaves e n said is k ks kh known_then.uniques known_then.gossip)
+pub call_leaves : (e : NodeEvent) (n s : State) (g : GossipState) → IsSaid e → KnowsProcesses n → IsProcess n → KeepsBallots n.singleton → KeepsSettled n → KeepsShards n → s ≡ (step e n).0 → g ≡ known s → IsGossip g → Leaves s
+call_leaves e n s g said names is k ks kh state same gossip =
+    subst Leaves (sym state) (step_leaves e n said is k ks kh (step_names e n said is names) (subst IsGossip (same ∙ ap known state) gossip))
 
 -- a process that knows nothing, whatever range of shards it has
 none_kept : (me : UniqueModel) (settings : SettingsModel) → KeepsBallots unasked × KeepsSettled (started me settings)

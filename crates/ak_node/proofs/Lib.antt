@@ -2,10 +2,12 @@ pub mod BallotLemmas
 pub mod BallotsKept
 pub mod BallotsSteps
 pub mod ChangeLemmas
+pub mod Concluded
 pub mod CountedPairs
 pub mod FewerKeys
 pub mod GivesUp
 pub mod MarginEnds
+pub mod NamesKept
 pub mod NodeLemmas
 pub mod NotedNow
 pub mod PhaseSteps

@@ -9,11 +9,11 @@ use Rattle.ak_member.specs.declared.standing.Standing.{Standing}
 use Rattle.ak_member.specs.declared.standing.Standing.TheVariants.{Member, Buried}
 use Rattle.ak_member.specs.declared.status.Status.{Status}
 use Rattle.ak_member.specs.Standing as standing
-use Rattle.ak_member.specs.Standing.{is_exiting}
+use Rattle.ak_member.specs.Standing.{is_exiting, is_member_with}
 use Rattle.ak_gossip.specs.Gossip.{GossipState}
 use Rattle.ak_gossip.proofs.InvariantLemmas.{and_first, and_second}
 use Rattle.ak_detector.proofs.DetectorLaws.{watched_member}
-use Rattle.ak_schedule.specs.Settings.{SettingsModel}
+use Rattle.ak_settings.specs.Settings.{SettingsModel}
 use Rattle.ak_settled.specs.Settled.{version_of, standings_of, after_note, IsCounting}
 use Rattle.ak_settled.proofs.SettledLaws.{counting_none, counting_noted}
 use Rattle.ak_settled.specs.SettledView.{SettledModel}
@@ -21,7 +21,6 @@ use Rattle.ak_membership.specs.declared.change.MemberFault.{MemberFault}
 use Rattle.ak_membership.specs.declared.state.MembershipState.{MembershipState}
 use Rattle.ak_membership.specs.MembershipContracts.{KnowsItself, IsWatching}
 use Rattle.ak_membership.specs.Membership as membership
-use Rattle.ak_membership.specs.Membership.{is_member_with}
 use Rattle.ak_membership.specs.Tick as ticks
 use Rattle.ak_membership.specs.Tick.{has_settled}
 use Rattle.ak_membership.specs.Closing.{stops, is_noted, notes}

@@ -8,12 +8,11 @@ use Rattle.ak_address.proofs.Elements.{contains_first, contains_nothing, contain
 use Rattle.ak_clock.specs.Version.{Counts}
 use Rattle.ak_member.specs.declared.effect.Effect.{Effect}
 use Rattle.ak_member.specs.declared.status.Status.{Status}
-use Rattle.ak_member.specs.Standing.{is_exiting}
+use Rattle.ak_member.specs.Standing.{is_exiting, is_member_with}
 use Rattle.ak_membership.specs.declared.change.MemberFault.{MemberFault}
 use Rattle.ak_membership.specs.declared.change.Reply.{Reply}
 use Rattle.ak_membership.specs.declared.change.Reply.TheVariants as reply
 use Rattle.ak_membership.specs.Membership as membership
-use Rattle.ak_membership.specs.Membership.{is_member_with}
 use Rattle.ak_membership.specs.Closing.{stops, notes, is_viewed}
 use Rattle.ak_membership.specs.Tick as ticks
 use Rattle.ak_promise.specs.declared.promise.Answer.{Answer}

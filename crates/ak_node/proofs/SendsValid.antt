@@ -18,13 +18,13 @@ use Rattle.ak_member.specs.declared.effect.Effect.{Effect}
 use Rattle.ak_member.specs.declared.effect.Effect.TheVariants.{Observed}
 use Rattle.ak_leader.specs.Leader.{leaders_effects, founding_effects}
 use Rattle.ak_member.specs.Standing as standing
-use Rattle.ak_member.specs.Standing.{Standings, is_exiting}
+use Rattle.ak_member.specs.Standing.{Standings, is_exiting, is_member_with}
 use Rattle.ak_membership.specs.declared.change.MemberFault.{MemberFault}
 use Rattle.ak_membership.specs.declared.change.Reply.{Reply}
 use Rattle.ak_membership.specs.declared.change.Reply.TheVariants as reply
 use Rattle.ak_membership.specs.declared.state.MembershipState.{MembershipState}
 use Rattle.ak_membership.specs.Membership as membership
-use Rattle.ak_membership.specs.Membership.{made, update, update_any, unchanged, may_count, is_member_with}
+use Rattle.ak_membership.specs.Membership.{made, update, update_any, unchanged, may_count}
 use Rattle.ak_membership.specs.Tick as ticks
 use Rattle.ak_membership.specs.Tick.{gossip_peer}
 use Rattle.ak_membership.specs.Closing.{is_viewed, stops, notes}
@@ -74,6 +74,7 @@ use Rattle.ak_sharding.proofs.RangesKept.{offer_in}
 use Rattle.ak_sharding.proofs.TableRanges.{coordinates_in}
 use Rattle.ak_sharding.proofs.ShardRanges.{message_in, asks_homes_in}
 use Rattle.ak_sharding.proofs.ReportRanges.{reports_spelled}
+use Rattle.ak_node.proofs.NamesKept.{step_names}
 use Rattle.ak_node.proofs.BallotsSteps.{around_in, status_kept, end_kept}
 use Rattle.ak_node.proofs.BallotsKept.{counted_merged, counted_short, rule_kept, settled_alike, needed_process, nobody_there}
 use Rattle.ak_node.proofs.CountedPairs.{counted_have}
@@ -500,13 +501,12 @@ sends_valid e n said names is node kb ks kh later gossip = by_runs n.runs refl
     by_runs false stopped = λ p there. absurd (contains_nothing p (subst (λ (b : Bool). Contains (sent (if b then running_step e (record n { steps = n.steps + 1 }) else nothing n).1) p) stopped there))
 
 -- ---- what a call makes of that
-pub names_of : (s : State) (g : GossipState) → g ≡ known s → IsSendable g → KnowsProcesses s
-names_of s g is sendable = (subst IsSendable is sendable).uniques
+pub names_of : (e : NodeEvent) (n s : State) → IsSaid e → KnowsProcesses n → IsProcess n → s ≡ (step e n).0 → KnowsProcesses s
+names_of e n s said names is state = subst KnowsProcesses (sym state) (step_names e n said is names)
 
-pub step_sends : (e : NodeEvent) (n s : State) (actions : List Action) (g : GossipState) → IsSaid e → KnowsProcesses n → IsProcess n → IsNode n → KeepsBallots n.singleton → KeepsSettled n → KeepsShards n → s ≡ (step e n).0 → actions ≡ (step e n).1 → g ≡ known s → IsSendable g → AreValid actions
-step_sends e n s actions g said names is node kb ks kh state done same sendable =
-    let known_then : IsSendable (known (step e n).0) = subst IsSendable (same ∙ ap known state) sendable in
-    subst AreValid (sym done) (sends_valid e n said names is node kb ks kh known_then.uniques known_then.gossip)
+pub step_sends : (e : NodeEvent) (n s : State) (actions : List Action) (g : GossipState) → IsSaid e → KnowsProcesses n → IsProcess n → IsNode n → KeepsBallots n.singleton → KeepsSettled n → KeepsShards n → s ≡ (step e n).0 → actions ≡ (step e n).1 → g ≡ known s → IsGossip g → AreValid actions
+step_sends e n s actions g said names is node kb ks kh state done same gossip =
+    subst AreValid (sym done) (sends_valid e n said names is node kb ks kh (step_names e n said is names) (subst IsGossip (same ∙ ap known state) gossip))
 
 -- whoever knows nothing knows no process
 pub no_names : (g : GossipState) → g ≡ nothing_known → (who : UniqueModel) → IsTrue (is_known g.view.standings who) → IsUnique who

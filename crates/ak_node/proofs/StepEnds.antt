@@ -16,7 +16,7 @@ use Rattle.ak_member.specs.declared.effect.Effect.TheVariants.{Joined, Rise}
 use Rattle.ak_member.specs.declared.status.Status.{Status}
 use Rattle.ak_member.specs.declared.status.Status.TheVariants.{Leaving, Down}
 use Rattle.ak_member.specs.Standing as standing
-use Rattle.ak_member.specs.Standing.{is_exiting, is_up, is_down}
+use Rattle.ak_member.specs.Standing.{is_exiting, is_up, is_down, is_member_with}
 use Rattle.ak_line.specs.BallotOrder.{IsLater}
 use Rattle.ak_line.specs.Moves as moves
 use Rattle.ak_line.specs.Moves.{IsLive, Node, Said, Move}
@@ -29,14 +29,14 @@ use Rattle.ak_membership.specs.declared.change.Closing.{Closing}
 use Rattle.ak_membership.specs.declared.change.Reply.TheVariants as reply
 use Rattle.ak_membership.specs.declared.state.MembershipState.{MembershipState}
 use Rattle.ak_membership.specs.Membership as membership
-use Rattle.ak_membership.specs.Membership.{is_member_with, unchanged, made, update, update_any, may_count, replying, has_member_beside, replaced, admitted, on_received, most_at_join}
+use Rattle.ak_membership.specs.Membership.{unchanged, made, update, update_any, may_count, replying, has_member_beside, replaced, admitted, on_received, most_at_join}
 use Rattle.ak_membership.specs.Closing as closing
 use Rattle.ak_membership.specs.Closing.{stops, notes, is_viewed}
 use Rattle.ak_membership.specs.Knowledge.{Learns, Given, nothing_given}
 use Rattle.ak_membership.specs.Tick as ticks
 use Rattle.ak_membership.proofs.Walk.{found_learns, leave_learns, down_learns, tick_learns, join_learns, gossip_learns}
 use Rattle.ak_promise.specs.Ballot.{BallotModel}
-use Rattle.ak_schedule.specs.Settings.{SettingsModel, is_listed}
+use Rattle.ak_settings.specs.Settings.{SettingsModel, is_listed}
 use Rattle.ak_settled.specs.SettledView.{SettledView, SettledModel}
 use Rattle.ak_settled.specs.Settled.{version_of, is_finished, after_tick, after_note, ticked, ending}
 use Rattle.ak_promise.specs.Promise.{is_some_ballot, released_by}

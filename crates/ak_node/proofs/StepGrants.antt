@@ -6,12 +6,12 @@ use Rattle.ak_address.specs.Uniques.{UniqueSet, in_order}
 use Rattle.ak_address.proofs.Elements.{contains_nothing, contains_first, contains_rest, first_or_rest, contains_either}
 use Rattle.ak_member.specs.declared.effect.Effect.{Effect}
 use Rattle.ak_member.specs.declared.status.Status.{Status}
-use Rattle.ak_member.specs.Standing.{is_exiting}
+use Rattle.ak_member.specs.Standing.{is_exiting, is_member_with}
 use Rattle.ak_membership.specs.declared.change.MemberFault.{MemberFault}
 use Rattle.ak_membership.specs.declared.change.Reply.{Reply}
 use Rattle.ak_membership.specs.declared.change.Reply.TheVariants as reply
 use Rattle.ak_membership.specs.Membership as membership
-use Rattle.ak_membership.specs.Membership.{may_count, made, update, update_any, unchanged, is_member_with}
+use Rattle.ak_membership.specs.Membership.{may_count, made, update, update_any, unchanged}
 use Rattle.ak_membership.specs.Closing as closing
 use Rattle.ak_membership.specs.declared.change.Closing.{Closing}
 use Rattle.ak_membership.specs.Tick as ticks

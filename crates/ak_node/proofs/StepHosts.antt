@@ -2,10 +2,9 @@
 use Rattle.std.proofs.Common.{◌≡◌, ℕ, ◌+◌, Bool, true, false, ◌&&◌, if◌then◌else◌, List, [], ◌∷◌, length, Option, Some, None, Result, Ok, Err, refl, sym, ◌∙◌, subst}
 use Rattle.ak_address.specs.Unique.{AddressModel, UniqueModel}
 use Rattle.ak_member.specs.declared.status.Status.{Status}
-use Rattle.ak_member.specs.Standing.{is_exiting}
+use Rattle.ak_member.specs.Standing.{is_exiting, is_member_with}
 use Rattle.ak_membership.specs.declared.change.MemberFault.{MemberFault}
 use Rattle.ak_membership.specs.Membership as membership
-use Rattle.ak_membership.specs.Membership.{is_member_with}
 use Rattle.ak_membership.specs.Tick as ticks
 use Rattle.ak_promise.specs.Promise.{is_some_ballot}
 use Rattle.ak_sharding.specs.Sharding.{ShardingModel, Around}

@@ -5,12 +5,11 @@ use Rattle.ak_address.specs.Changed.{keys_of}
 use Rattle.ak_address.specs.Uniques.{UniqueSet, in_order}
 use Rattle.ak_member.specs.declared.effect.Effect.{Effect}
 use Rattle.ak_member.specs.declared.status.Status.{Status}
-use Rattle.ak_member.specs.Standing.{is_exiting}
+use Rattle.ak_member.specs.Standing.{is_exiting, is_member_with}
 use Rattle.ak_membership.specs.declared.change.MemberFault.{MemberFault}
 use Rattle.ak_membership.specs.declared.change.Reply.{Reply}
 use Rattle.ak_membership.specs.declared.change.Reply.TheVariants as reply
 use Rattle.ak_membership.specs.Membership as membership
-use Rattle.ak_membership.specs.Membership.{is_member_with}
 use Rattle.ak_membership.specs.Closing as closing
 use Rattle.ak_membership.specs.Tick as ticks
 use Rattle.ak_promise.specs.Ballot.{BallotModel}

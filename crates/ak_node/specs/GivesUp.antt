@@ -1,7 +1,7 @@
 -- A node that gives up its own side of a partition (Akka's Split Brain Resolver, "Static Quorum").
 use Rattle.std.specs.Prelude.{◌≡◌, ℕ, ◌<◌, false, IsTrue}
 use Rattle.ak_downing.specs.Downing.{reachable_addresses}
-use Rattle.ak_schedule.specs.declared.settings.Strategy.TheVariants.{StaticQuorum}
+use Rattle.ak_settings.specs.declared.settings.Strategy.TheVariants.{StaticQuorum}
 use Rattle.ak_membership.specs.Membership.{may_count}
 use Rattle.ak_membership.specs.Tick.{observes, decides}
 use Rattle.ak_node.specs.declared.node.State.{State}

@@ -10,17 +10,16 @@ use Rattle.ak_address.specs.Uniques.{UniqueSet, in_order}
 use Rattle.ak_clock.specs.Version.{Counts, merged}
 use Rattle.ak_member.specs.declared.effect.Effect.{Effect}
 use Rattle.ak_member.specs.declared.status.Status.{Status}
-use Rattle.ak_member.specs.Standing.{member_of, members_of, tombstone_of, is_exiting}
+use Rattle.ak_member.specs.Standing.{member_of, members_of, tombstone_of, is_exiting, is_member_with}
 use Rattle.ak_member.specs.Age.{counted_pairs}
 use Rattle.ak_gossip.specs.Gossip.{GossipState}
-use Rattle.ak_schedule.specs.Settings.{SettingsModel}
+use Rattle.ak_settings.specs.Settings.{SettingsModel}
 use Rattle.ak_membership.specs.declared.change.Closing.{Closing}
 use Rattle.ak_membership.specs.declared.change.MemberFault.{MemberFault}
 use Rattle.ak_membership.specs.declared.change.MemberFault.TheVariants as fault
 use Rattle.ak_membership.specs.declared.change.Reply.{Reply}
 use Rattle.ak_membership.specs.declared.change.Reply.TheVariants as reply
 use Rattle.ak_membership.specs.Membership as membership
-use Rattle.ak_membership.specs.Membership.{is_member_with}
 use Rattle.ak_membership.specs.Tick as ticks
 use Rattle.ak_membership.specs.Closing as closing
 use Rattle.ak_promise.specs.declared.promise.Answer.{Answer}

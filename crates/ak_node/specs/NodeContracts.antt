@@ -1,5 +1,5 @@
 -- Words of the contracts of a node's calls.
-use Rattle.std.specs.Prelude.{◌≡◌, ◌⊎◌, ◌≤◌, ℕ, Bool, true, false, List, [], Some, IsTrue}
+use Rattle.std.specs.Prelude.{◌≡◌, ◌⊎◌, ◌≤◌, ℕ, Bool, true, false, not, ◌&&◌, List, [], Some, IsTrue}
 use Rattle.std.specs.FinMap as map
 use Rattle.ak_member.specs.declared.status.Status.{Status}
 use Rattle.ak_member.specs.declared.standing.Standing.TheVariants.{Member}
@@ -8,8 +8,10 @@ use Rattle.ak_membership.specs.MembershipContracts as membership
 use Rattle.ak_gossip.specs.Gossip.{nothing_known}
 use Rattle.ak_settled.specs.Settled.{IsCounting}
 use Rattle.ak_wire.specs.declared.action.Action.{Action}
+use Rattle.ak_node.specs.declared.node.NodeEvent.{NodeEvent}
+use Rattle.ak_node.specs.declared.node.NodeEvent.TheVariants.{Join}
 use Rattle.ak_node.specs.declared.node.State.{State}
-use Rattle.ak_node.specs.Node.{Outcome, known, me_of, is_gone}
+use Rattle.ak_node.specs.Node.{Outcome, known, me_of, is_gone, is_member, concludes}
 
 -- a node's state; a spent node has run out of memory
 pub record NodeModel : Type 0 where
@@ -45,6 +47,18 @@ pub record IsNode (n : State) : Type 0 where
   pub watching : membership.IsWatching n.membership
   pub counting : IsCounting n.membership.settings.margin n.membership.settled.view
   pub stays : IsTrue n.runs → is_gone n ≡ false
+
+-- what a step leaves of a member that runs is concluded: if it were concluded once more, nothing would be due and nothing changed
+abbrev pub IsConcluded : State → Type 0
+IsConcluded n = n.runs ≡ true → is_member n ≡ true → concludes n ≡ (n, [])
+
+-- Memory may be asked for at an event: the node runs, and the event is not that it joins a cluster in which it is a member.
+abbrev pub is_idle : NodeEvent → State → Bool
+is_idle (Join target) n = is_member n
+is_idle _ n = false
+
+abbrev pub may_ask : NodeEvent → State → Bool
+may_ask e n = n.runs && not (is_idle e n)
 
 -- whatever a rule answers, the node is the same process with the same settings
 abbrev pub IsSameProcess : State → State → Type 0

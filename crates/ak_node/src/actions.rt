@@ -3,7 +3,7 @@
 ghost use Rattle.std.specs.Prelude.{◌≡◌, ◌≤◌, ◌++◌, ◌∷◌, [], IfOk, OnOk};
 ghost use Rattle.ak_node.specs.Node as rules;
 
-use ak_membership::{Change, MemberFault};
+use ak_membership::{Change, Closing, MemberFault};
 use ak_wire::{Action, Actions};
 use std::alloc::{AllocError, Global};
 
@@ -48,6 +48,22 @@ pub(crate) fn told(alloc: Global, change: Change) -> Result<Actions, AllocError>
     let mut actions = Actions::empty(alloc);
     tell(change, &mut actions)?;
     Ok(actions)
+}
+
+// Adds what is due at a closing.
+pub(crate) fn push_due(due: Closing, actions: &mut Actions) -> Result<(), AllocError>
+    ensures { OnOk result (actions.new ≡ actions.old ++ rules.due due) }
+{
+    if due.viewed {
+        actions.push(Action::View)?;
+    }
+    if due.stopped {
+        actions.push(Action::Stopped)?;
+    }
+    if due.settled {
+        actions.push(Action::Settled)?;
+    }
+    Ok(())
 }
 
 // A refusal as an action.

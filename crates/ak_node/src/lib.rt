@@ -6,8 +6,11 @@ mod actions;
 mod ballots;
 mod laws;
 mod node;
+mod own;
+mod ranges;
 mod shards;
 
 pub use ak_wire::{Action, Actions};
 pub use laws::steps_update_once;
-pub use node::{Node, NodeEvent, State, is_for};
+pub use node::{Node, NodeEvent, State};
+pub use own::is_for;

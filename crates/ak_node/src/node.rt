@@ -1,27 +1,25 @@
-ghost use Rattle.std.specs.Prelude.{◌≡◌, ◌<◌, ◌≤◌, ◌^◌, ◌++◌, ◌∷◌, [], not, true, false, IfOk, OnOk, OnErr, option_copied, option_map};
-ghost use Rattle.ak_member.specs.Standing.{is_exiting};
-ghost use Rattle.ak_membership.specs.Membership as rules_of_membership;
+ghost use Rattle.std.specs.Prelude.{◌≡◌, ◌⊎◌, ◌<◌, ◌≤◌, ◌^◌, ◌++◌, ◌∷◌, [], not, true, false, IfOk, OnOk, OnErr, IsTrue, option_copied, option_map};
 ghost use Rattle.ak_membership.specs.MembershipContracts.{IsWatching};
 ghost use Rattle.ak_membership.specs.Tick as rules_of_ticks;
 ghost use Rattle.std.specs.FinMap as finmap;
 ghost use Rattle.ak_region.specs.Region as regions;
 ghost use Rattle.ak_node.specs.Node as rules;
-ghost use Rattle.ak_address.specs.Unique.{IsAddress, IsUnique};
-ghost use Rattle.ak_field.specs.Ranges.{IsEntity};
 ghost use Rattle.ak_node.specs.Sends.{AreValid, ComesValid, IsProcess, IsSaid};
-ghost use Rattle.ak_node.specs.NodeContracts.{Does, IsSameProcess, IsLeftOver, IsSilent, ServesWhileItRuns};
+ghost use Rattle.ak_node.specs.NodeContracts.{Does, IsSameProcess, IsLeftOver, IsSilent, IsConcluded, ServesWhileItRuns, is_idle, may_ask};
 
-use crate::actions::{one, refuse, tell, told};
+use crate::actions::{one, push_due, refuse, tell, told};
+use crate::own::{is_dead, is_for};
+use crate::ranges::{address, offered, process};
 use ak_address::{Address, Text, Unique};
 use ak_field::EntityId;
 use ak_gossip::Gossip;
-use ak_membership::{Change, Closing, Membership, Reply};
+use ak_membership::{Change, Membership, Reply};
 use ak_promise::Ballot;
-use ak_schedule::Settings;
+use ak_settings::Settings;
 use ak_settled::Settled;
 use ak_sharding::Sharding;
 use ak_singleton::Singleton;
-use ak_wire::{Action, Actions, Cover, Envelope, Message, SharedEnvelope, sendable};
+use ak_wire::{Action, Actions, Cover, Envelope, Message, SharedEnvelope};
 use std::alloc::{AllocError, Global};
 use std::marker::Model;
 
@@ -241,15 +239,6 @@ impl State {
         Ok(Actions::empty(alloc))
     }
 
-    fn is_exiting(&self) -> bool
-        ensures { result ≡ rules_of_membership.is_member_with is_exiting (rules.known self.now).view.standings (rules.me_of self.now) }
-    {
-        match self.membership.my_status() {
-            Some(status) => status.is_exiting(),
-            None => false,
-        }
-    }
-
     // Adds a message to each member that counts: the node stops.
     fn confirms(&self, alloc: Global, actions: &mut Actions) -> Result<(), AllocError>
         ensures { OnOk result (actions.new ≡ actions.old ++ rules.to_each self.now (rules.counted_members self.now) Message.ExitingConfirmed) }
@@ -315,7 +304,8 @@ impl State {
         if self.membership.is_gone() {
             return Ok(());
         }
-        if self.is_exiting() {
+        let members = self.membership.gossip().members();
+        if members.is_exiting(self.membership.me()) {
             self.ends_phase(alloc, actions)?;
             return self.leaves(alloc, word, actions);
         }
@@ -429,28 +419,46 @@ impl State {
     }
 
     // One event: its rule and then the closing. A node that has stopped does nothing, and a packet for another process is dead.
-    fn step<E: Given>(&mut self, alloc: Global, event: &E) -> Result<Actions, AllocError>
+    // Where the event changes nothing, nothing is due either, since the step before was concluded.
+    fn step<E: Given>(
+        &mut self,
+        alloc: Global,
+        event: &E,
+        dead: bool,
+    ) -> Result<Actions, AllocError>
+        requires dead { dead ≡ rules.is_dead (rules.me_of self.old) (E.event event.now) }
         requires steps { self.old.steps < 2 ^ 62 }
         requires ticked { self.old.membership.ticks ≤ self.old.steps }
         requires watching { IsWatching self.old.membership }
+        requires concluded { IsConcluded self.old }
         ensures does { IfOk result (λ actions. Does (rules.step (E.event event.now) self.old) self.new actions) }
         ensures same { IsSameProcess self.old self.new }
+        ensures memory { OnErr result (IsTrue (may_ask (E.event event.now) self.old)) }
     {
         if !self.runs {
             return Ok(Actions::empty(alloc));
         }
         self.steps += 1;
-        self.running_step(alloc, event)
+        if event.is_idle(self) {
+            return Ok(Actions::empty(alloc));
+        }
+        self.running_step(alloc, event, dead)
     }
 
     // The event of a node that runs.
-    fn running_step<E: Given>(&mut self, alloc: Global, event: &E) -> Result<Actions, AllocError>
+    fn running_step<E: Given>(
+        &mut self,
+        alloc: Global,
+        event: &E,
+        dead: bool,
+    ) -> Result<Actions, AllocError>
+        requires dead { dead ≡ rules.is_dead (rules.me_of self.old) (E.event event.now) }
         requires ticks { self.old.membership.ticks < 2 ^ 62 }
         requires watching { IsWatching self.old.membership }
         ensures does { IfOk result (λ actions. Does (rules.running_step (E.event event.now) self.old) self.new actions) }
         ensures same { IsSameProcess self.old self.new }
     {
-        if event.is_dead(self.me()) {
+        if dead {
             return one(alloc, Action::Dead);
         }
         self.acts(alloc, event)
@@ -477,9 +485,9 @@ trait Given {
     // The event that it is.
     ghost event: { Self → NodeEvent };
 
-    // A packet for another process is dead.
-    fn is_dead(&self, me: &Unique) -> bool
-        ensures { result ≡ rules.is_dead me.now (event self.now) };
+    // It changes nothing: the node is to join a cluster in which it is a member.
+    fn is_idle(&self, state: &State) -> bool
+        ensures { result ≡ is_idle (event self.now) state.now };
 
     // Its rule.
     fn rule(&self, alloc: Global, state: &mut State) -> Result<Actions, AllocError>
@@ -497,11 +505,11 @@ trait Given {
 impl Given for NodeEvent {
     ghost event = { λ e. e };
 
-    fn is_dead(&self, me: &Unique) -> bool
-        ensures { result ≡ rules.is_dead me.now self.now }
+    fn is_idle(&self, state: &State) -> bool
+        ensures { result ≡ is_idle self.now state.now }
     {
         match self {
-            NodeEvent::Packet(envelope) => envelope.is_dead(me),
+            NodeEvent::Join(_) => state.membership.is_member(),
             _ => false,
         }
     }
@@ -541,10 +549,10 @@ impl Given for Envelope {
 
     ghost event = { λ p. Packet p };
 
-    fn is_dead(&self, me: &Unique) -> bool
-        ensures { result ≡ rules.is_dead me.now (NodeEvent.Packet self.now) }
+    fn is_idle(&self, _state: &State) -> bool
+        ensures { result ≡ is_idle (NodeEvent.Packet self.now) _state.now }
     {
-        !is_for(me, self)
+        false
     }
 
     fn rule(&self, alloc: Global, state: &mut State) -> Result<Actions, AllocError>
@@ -560,52 +568,6 @@ impl Given for Envelope {
     {}
 }
 
-// Adds what is due at a closing.
-fn push_due(due: Closing, actions: &mut Actions) -> Result<(), AllocError>
-    ensures { OnOk result (actions.new ≡ actions.old ++ rules.due due) }
-{
-    if due.viewed {
-        actions.push(Action::View)?;
-    }
-    if due.stopped {
-        actions.push(Action::Stopped)?;
-    }
-    if due.settled {
-        actions.push(Action::Settled)?;
-    }
-    Ok(())
-}
-
-/// A packet is for this process, or for whichever is at its address.
-pub fn is_for(me: &Unique, envelope: &Envelope) -> bool
-    ensures { result ≡ rules.is_for me.now envelope.now }
-{
-    if !envelope.to.is(&me.address) {
-        return false;
-    }
-    envelope.uid == 0 || envelope.uid == me.uid
-}
-
-// Each tells a proof what is true of every value of a type. They do nothing.
-fn process(who: &Unique)
-    ensures { IsUnique who.now }
-{
-    let _uid = who.uid;
-}
-
-fn address(place: &Address)
-    ensures { IsAddress place.now }
-{
-    let _port = place.port;
-}
-
-fn offered(entity: &EntityId, payload: u64)
-    ensures { IsEntity entity.now × (payload < 2 ^ 64) }
-{
-    let _name = entity.name();
-    let _payload = payload;
-}
-
 /// A node. Once out of memory it is spent: it is the same process with the same settings and knows nothing, and each later
 /// step answers that it is out of memory. It had no more ticks than steps: an invariant of the type.
 #[derive(Drop)]
@@ -617,7 +579,7 @@ pub struct Node {
 
 impl Model for Node {
     ghost use Rattle.std.specs.Prelude.{is_some};
-    ghost use Rattle.ak_node.specs.NodeContracts.{NodeModel, IsNode, HasForgotten};
+    ghost use Rattle.ak_node.specs.NodeContracts.{NodeModel, IsNode, HasForgotten, IsConcluded};
     ghost use Rattle.ak_node.specs.Sends.{KnowsProcesses, KeepsBallots, KeepsSettled, KeepsShards};
     ghost use Rattle.std.specs.Coded.{codes};
     ghost use Rattle.ak_membership.specs.contracts.membership.Membership as membership;
@@ -630,7 +592,7 @@ impl Model for Node {
 
     ghost view = { λ n. record { state = n.state; spent = is_some n.failed } };
 
-    ghost invariant = { λ n. IsNode n.state × HasForgotten (is_some n.failed) n.state × KnowsProcesses n.state × KeepsBallots n.state.singleton × KeepsSettled n.state × KeepsShards n.state };
+    ghost invariant = { λ n. IsNode n.state × HasForgotten (is_some n.failed) n.state × KnowsProcesses n.state × KeepsBallots n.state.singleton × KeepsSettled n.state × KeepsShards n.state × IsConcluded n.state };
 }
 
 impl Node {
@@ -657,9 +619,9 @@ impl Node {
 
     /// Gives the node one event, and answers its actions; a node that has stopped answers none, and knows what it knew. A packet
     /// that comes has to be valid, as `decode` answers it; then each packet that the node sends is valid too: it has a spelling
-    /// as bytes. While it runs and knows anybody, it is a member of its own view, and not Down. Once out of memory the node is
-    /// spent: it still shows its process and its settings, whether it runs and how many steps it made before, and has forgotten
-    /// what it knew.
+    /// as bytes. While it runs and knows anybody, it is a member of its own view, and not Down. Memory is asked for while it runs
+    /// alone, and not where a member is to join. Once out of memory the node is spent: it still shows its process and its settings,
+    /// whether it runs and how many steps it made before, and has forgotten what it knew.
     pub fn step(&mut self, alloc: Global, event: NodeEvent) -> Result<Actions, AllocError>
         requires steps { self.old.state.steps < 2 ^ 62 }
         requires comes { ComesValid event }
@@ -669,14 +631,37 @@ impl Node {
         ensures serves { OnOk result (ServesWhileItRuns self.new.state) }
         ensures alive { OnOk result (self.old.spent ≡ false) × OnOk result (self.new.spent ≡ false) }
         ensures spent { OnErr result ((self.new.spent ≡ true) × IsLeftOver self.old.state self.new.state) }
+        ensures memory { OnErr result (self.old.spent ≡ true ⊎ IsTrue (may_ask event self.old.state)) }
     {
-        let done = self.take(alloc, &event);
+        let done = self.step_on(alloc, &event);
         drop(event);
         done
     }
 
-    // The event is taken, and stays with whoever gave it.
-    fn take<E: Given>(&mut self, alloc: Global, event: &E) -> Result<Actions, AllocError>
+    /// Gives the node one event, as `step` does; the event stays with whoever gave it.
+    pub fn step_on(&mut self, alloc: Global, event: &NodeEvent) -> Result<Actions, AllocError>
+        requires steps { self.old.state.steps < 2 ^ 62 }
+        requires comes { ComesValid event.now }
+        ensures ok { IfOk result (λ actions. Does (rules.step event.now self.old.state) self.new.state actions) }
+        ensures valid { IfOk result (λ actions. AreValid actions) }
+        ensures silent { IfOk result (λ actions. IsSilent self.old.state self.new.state actions) }
+        ensures serves { OnOk result (ServesWhileItRuns self.new.state) }
+        ensures alive { OnOk result (self.old.spent ≡ false) × OnOk result (self.new.spent ≡ false) }
+        ensures spent { OnErr result ((self.new.spent ≡ true) × IsLeftOver self.old.state self.new.state) }
+        ensures memory { OnErr result (self.old.spent ≡ true ⊎ IsTrue (may_ask event.now self.old.state)) }
+    {
+        let dead = is_dead(self.me(), event);
+        self.take(alloc, event, dead)
+    }
+
+    // The event is taken, and stays with whoever gave it, who says whether it is a packet for another process.
+    fn take<E: Given>(
+        &mut self,
+        alloc: Global,
+        event: &E,
+        dead: bool,
+    ) -> Result<Actions, AllocError>
+        requires dead { dead ≡ rules.is_dead (rules.me_of self.old.state) (E.event event.now) }
         requires steps { self.old.state.steps < 2 ^ 62 }
         requires comes { ComesValid (E.event event.now) }
         ensures ok { IfOk result (λ actions. Does (rules.step (E.event event.now) self.old.state) self.new.state actions) }
@@ -685,6 +670,7 @@ impl Node {
         ensures serves { OnOk result (ServesWhileItRuns self.new.state) }
         ensures alive { OnOk result (self.old.spent ≡ false) × OnOk result (self.new.spent ≡ false) }
         ensures spent { OnErr result ((self.new.spent ≡ true) × IsLeftOver self.old.state self.new.state) }
+        ensures memory { OnErr result (self.old.spent ≡ true ⊎ IsTrue (may_ask (E.event event.now) self.old.state)) }
     {
         if let Some(error) = self.failed {
             return Err(error);
@@ -693,10 +679,10 @@ impl Node {
         self.state.process();
         let runs = self.state.runs;
         let steps = self.state.steps;
-        match self.state.step(alloc, event) {
+        match self.state.step(alloc, event, dead) {
             Ok(actions) => {
                 self.state.membership.invariant();
-                sendable(self.state.membership.gossip());
+                self.state.membership.gossip().invariant();
                 Ok(actions)
             }
             Err(error) => {
@@ -711,7 +697,8 @@ impl Node {
         }
     }
 
-    /// Gives the node a valid packet, as `step` does with such an event; the packet stays with whoever gave it.
+    /// Gives the node a valid packet, as `step` does with such an event; the packet stays with whoever gave it. One that has
+    /// stopped asks for no memory.
     pub fn receive(&mut self, alloc: Global, envelope: &Envelope) -> Result<Actions, AllocError>
         requires steps { self.old.state.steps < 2 ^ 62 }
         requires comes { ComesValid (NodeEvent.Packet envelope.now) }
@@ -721,8 +708,26 @@ impl Node {
         ensures serves { OnOk result (ServesWhileItRuns self.new.state) }
         ensures alive { OnOk result (self.old.spent ≡ false) × OnOk result (self.new.spent ≡ false) }
         ensures spent { OnErr result ((self.new.spent ≡ true) × IsLeftOver self.old.state self.new.state) }
+        ensures memory { OnErr result (self.old.spent ≡ true ⊎ IsTrue self.old.state.runs) }
     {
-        self.take(alloc, envelope)
+        let dead = !is_for(self.me(), envelope);
+        self.take(alloc, envelope, dead)
+    }
+
+    /// Gives the node a valid packet that is for it, as `receive` does; whoever found that it is asked already.
+    pub fn receive_own(&mut self, alloc: Global, envelope: &Envelope) -> Result<Actions, AllocError>
+        requires own { IsTrue (rules.is_for (rules.me_of self.old.state) envelope.now) }
+        requires steps { self.old.state.steps < 2 ^ 62 }
+        requires comes { ComesValid (NodeEvent.Packet envelope.now) }
+        ensures ok { IfOk result (λ actions. Does (rules.step (NodeEvent.Packet envelope.now) self.old.state) self.new.state actions) }
+        ensures valid { IfOk result (λ actions. AreValid actions) }
+        ensures silent { IfOk result (λ actions. IsSilent self.old.state self.new.state actions) }
+        ensures serves { OnOk result (ServesWhileItRuns self.new.state) }
+        ensures alive { OnOk result (self.old.spent ≡ false) × OnOk result (self.new.spent ≡ false) }
+        ensures spent { OnErr result ((self.new.spent ≡ true) × IsLeftOver self.old.state self.new.state) }
+        ensures memory { OnErr result (self.old.spent ≡ true ⊎ IsTrue self.old.state.runs) }
+    {
+        self.take(alloc, envelope, false)
     }
 
     /// The process that it is.

@@ -1,36 +1,34 @@
 ghost use Rattle.std.specs.Prelude.{◌<◌, OnOk};
 
-use ak_address::{Address, Text, Unique, parse_unique};
+use ak_address::{Address, Text, Unique, parse_address, parse_unique};
 use ak_field::{EntityId, is_entity};
 use ak_gossip::{Gossip, Indices, Part, Parts, parts_valid};
 use ak_member::{Effect, Effects, Status};
 use ak_node::{Node, NodeEvent};
 use ak_promise::Ballot;
-use ak_schedule::{Draft, Settings};
+use ak_settings::{Settings, Strategy};
 use ak_wire::{Action, Actions, Envelope, Message, valid};
 use std::alloc::{AllocError, Global};
 use std::test::Fail;
 
-const HEADERS: [&str; 9] = [
-    "listed a:1 b:1 c:1 d:1",
-    "strategy static-quorum 3",
-    "margin 2",
-    "deadline 9",
-    "stable 9",
-    "shards 10",
-    "buffer 2",
-    "threshold 1",
-    "limit 1",
-];
+// Port 1 of each of these hosts is listed.
+const HOSTS: &[u8] = b"abcd";
+
+fn listed(alloc: Global) -> Result<Vec<Address>, Fail> {
+    let mut listed = Vec::new(alloc);
+    'hosts: for host in HOSTS {
+        listed.push(parse_address(alloc, &[*host, b':', b'1'])?)?;
+    }
+    Ok(listed)
+}
 
 fn settings(alloc: Global) -> Result<Settings, Fail> {
-    let mut draft = Draft::new(alloc);
-    'headers: for line in HEADERS {
-        if draft.header(alloc, line.as_bytes())? {
-            return Ok(draft.finish().map_err(|_| "a header is missing")?);
-        }
-    }
-    Err("a header is missing")?
+    let made = Settings::of_membership(listed(alloc)?, Strategy::StaticQuorum(3), 2, 9, 9);
+    let mut settings = made.ok_or("the settings are out of range")?;
+    settings.shards = 10;
+    settings.buffer = 2;
+    settings.limit = 1;
+    Ok(settings)
 }
 
 // The process with uid 1 at port 1 of the host of this letter.

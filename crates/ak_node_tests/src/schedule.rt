@@ -1,5 +1,6 @@
 use ak_address::parse_address;
-use ak_schedule::{Draft, Event, LineFault, Settings, Strategy, print_event, read_line};
+use ak_schedule::{Draft, Event, LineFault, print_event, read_line};
+use ak_settings::{Settings, Strategy};
 use std::alloc::{AllocError, Global};
 use std::test::Fail;
 

@@ -2,7 +2,7 @@
 use crate::notes::Notes;
 use crate::sentence::{Piece, say};
 use ak_address::Text;
-use ak_schedule::{Settings, Strategy};
+use ak_settings::{Settings, Strategy};
 use std::alloc::Global;
 
 /// Says what is to be said of something that has a name.

@@ -1,7 +1,7 @@
 use ak_address::Text;
 use ak_config::{Config, ConfigFault, read_config};
 use ak_outside::{Folder, Loaded, MemoryFile, MemoryFolder};
-use ak_schedule::Strategy;
+use ak_settings::Strategy;
 use std::alloc::{AllocError, Global};
 use std::test::Fail;
 

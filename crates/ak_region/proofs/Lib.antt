@@ -6,4 +6,5 @@ pub mod WantedLemmas
 pub mod MarkLemmas
 pub mod AsMoves
 pub mod StoredLemmas
+pub mod Forgetting
 pub mod HousedLemmas

@@ -7,7 +7,7 @@ ghost use Rattle.ak_region.specs.Region.{new_region, slot_of, with_slot, entity_
 use crate::buffer::{take_those_for, wait, wanted_in};
 use crate::homes::{add_home, are_members, keep_members};
 use crate::slot::{Hosting, Slot};
-use crate::told::{can_flush_at, home_at, hosted_at, reach, receives_at};
+use crate::told::{can_flush_at, home_at, hosted_at, hosting_at, reach, receives_at};
 use crate::walks::{any_hosted, forget_strangers, reports_of};
 use ak_address::{Text, Unique};
 use ak_member::Members;
@@ -188,11 +188,18 @@ impl Region {
         ensures answer { IfOk result (λ hosting. hosting ≡ host_answer number (slot_of self.old shard)) }
         ensures after { IfOk result (λ hosting. self.new ≡ with_slot self.old shard (after_host me.now number hosting (slot_of self.old shard))) }
         ensures err { OnErr result (self.new ≡ self.old) }
+        ensures memory { OnErr result (host_answer number (slot_of self.old shard) ≡ Hosting.New) }
     {
+        match hosting_at(&self.told, shard, number) {
+            Hosting::Again => return Ok(Hosting::Again),
+            Hosting::Ignored => return Ok(Hosting::Ignored),
+            Hosting::New => {}
+        }
         let home = me.copy(alloc)?;
         add_home(&mut self.homes, alloc, me)?;
         reach(&mut self.told, shard);
-        Ok(self.told[shard as usize].host(home, number))
+        self.told[shard as usize].host(home, number);
+        Ok(Hosting::New)
     }
 
     /// A hand-off of the shard begins: it is held, and its home is forgotten. Takes no memory.

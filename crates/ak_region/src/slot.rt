@@ -90,10 +90,9 @@ impl Slot {
         self.held = false;
     }
 
-    // Hosts the shard where the number is new: it has its home here then.
-    pub(crate) fn host(&mut self, me: Unique, number: u64) -> Hosting
-        ensures answer { result ≡ host_answer number self.old }
-        ensures after { self.new ≡ after_host me number result self.old }
+    // What comes of the order to host the shard with a number.
+    pub(crate) fn hosting(&self, number: u64) -> Hosting
+        ensures { result ≡ host_answer number self.now }
     {
         match self.hosted {
             Some(hosted) => {
@@ -107,11 +106,18 @@ impl Slot {
         if number <= self.mark {
             return Hosting::Ignored;
         }
+        Hosting::New
+    }
+
+    // Hosts the shard, where it is ordered so anew: it has its home here then.
+    pub(crate) fn host(&mut self, me: Unique, number: u64)
+        requires { host_answer number self.old ≡ Hosting.New }
+        ensures { self.new ≡ after_host me number Hosting.New self.old }
+    {
         self.hosted = Some(number);
         self.mark = number;
         self.held = false;
         self.home = Some(me);
-        Hosting::New
     }
 
     // The shard is held, and its home is forgotten.

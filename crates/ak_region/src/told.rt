@@ -1,7 +1,7 @@
 ghost use Rattle.std.specs.Prelude.{◌≡◌, ◌<◌, ◌+◌, ◌-◌, ◌++◌, length, replicate, slice_index_or, vec_capacity, option_copied, IfSome};
-ghost use Rattle.ak_region.specs.Slot.{untold, receives, other_home, can_flush};
+ghost use Rattle.ak_region.specs.Slot.{untold, receives, other_home, can_flush, host_answer};
 
-use crate::slot::Slot;
+use crate::slot::{Hosting, Slot};
 use ak_address::Unique;
 
 // What is known of a shard by the slots of those that were told of. Of a shard past their end nothing was told.
@@ -44,6 +44,16 @@ pub(crate) fn hosted_at(told: &[Slot], shard: u32) -> Option<u64>
     match told.get(shard as usize) {
         Some(slot) => slot.hosted,
         None => None,
+    }
+}
+
+// What comes of the order to host the shard with a number.
+pub(crate) fn hosting_at(told: &[Slot], shard: u32, number: u64) -> Hosting
+    ensures { result ≡ host_answer number (slice_index_or told.now shard untold) }
+{
+    match told.get(shard as usize) {
+        Some(slot) => slot.hosting(number),
+        None => Slot::untold().hosting(number),
     }
 }
 

@@ -2,7 +2,7 @@ use ak_address::{Unique, Uniques, parse_unique};
 use ak_downing::{Decision, decide, downs, reachable_addresses};
 use ak_member::{Effect, Members, Status};
 use ak_reach::Rows;
-use ak_schedule::Strategy;
+use ak_settings::Strategy;
 use std::alloc::Global;
 use std::test::Fail;
 

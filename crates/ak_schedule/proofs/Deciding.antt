@@ -16,11 +16,11 @@ use Rattle.ak_address.specs.Spelling.{SpellsAddress, SpellsUnique, before_byte, 
 use Rattle.ak_address.proofs.SpellingLemmas.{address_read, address_parts, unique_read, unique_parts}
 use Rattle.ak_schedule.specs.declared.event.Event.{Event}
 use Rattle.ak_schedule.specs.declared.event.Event.TheVariants.{Start, Found, Join, Tick, Deliver, Leave, Down, Offer, Stop}
-use Rattle.ak_schedule.specs.declared.settings.Header as header
-use Rattle.ak_schedule.specs.declared.settings.Strategy.{Strategy}
-use Rattle.ak_schedule.specs.declared.settings.Strategy.TheVariants.{StaticQuorum, KeepMajority, DownAll}
+use Rattle.ak_schedule.specs.declared.draft.Header as header
+use Rattle.ak_settings.specs.declared.settings.Strategy.{Strategy}
+use Rattle.ak_settings.specs.declared.settings.Strategy.TheVariants.{StaticQuorum, KeepMajority, DownAll}
 use Rattle.ak_schedule.specs.Line.{words, is_comment, most_bytes, IsPassedOver}
-use Rattle.ak_schedule.specs.Settings.{SettingsModel, IsListing}
+use Rattle.ak_settings.specs.Settings.{SettingsModel, IsListing}
 use Rattle.ak_schedule.specs.Schedule.{SpellsNumber, SpellsSetting, SpellsStrategy, SpellsListing, Sets, SetsHeader, SpellsWords, SpellsEvent}
 use Rattle.ak_schedule.proofs.OneWay.{same_addresses}
 

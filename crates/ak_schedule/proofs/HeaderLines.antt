@@ -1,13 +1,13 @@
 -- Which lines are the next header.
-use Rattle.std.proofs.Common.{◌≡◌, ℕ, List, Err, subst, refl}
+use Rattle.std.proofs.Common.{◌≡◌, ◌≤◌, ℕ, List, Err, length, subst, refl, ap, ◌∙◌}
 use Rattle.std.specs.Prelude.{Some, slice_get}
-use Rattle.ak_schedule.specs.declared.settings.Header.{Header}
+use Rattle.ak_schedule.specs.declared.draft.Header.{Header}
 use Rattle.ak_schedule.specs.declared.fault.LineFault.{LineFault}
 use Rattle.ak_schedule.specs.declared.fault.LineFault.TheVariants.{Malformed, BadHeader, NoMemory}
-use Rattle.ak_schedule.specs.Line.{words}
-use Rattle.ak_schedule.specs.Settings.{SettingsModel}
+use Rattle.ak_schedule.specs.Line.{words, most_bytes}
+use Rattle.ak_settings.specs.Settings.{SettingsModel}
 use Rattle.ak_schedule.specs.Schedule.{headers, Sets}
-use Rattle.ak_schedule.specs.Draft.{Drafted, ReadsHeader, HeaderAnswers, RefusesValue}
+use Rattle.ak_schedule.specs.Draft.{Drafted, ReadsHeader, SetsNext, NextAnswers, RefusesHeader, RefusesValue}
 
 pub header_refused : (which : Header) (line : List ℕ) (old : Drafted) → slice_get headers old.read ≡ Some which → ((new : SettingsModel) → Sets which (words line) old.settings new → ⊥)
     → (next : Drafted) → ReadsHeader line old next → ⊥
@@ -15,8 +15,21 @@ header_refused which line old is none next read =
     let same : read.which ≡ which = cc (read.next, is) in
     none next.settings (subst (λ (h : Header). Sets h (words line) old.settings next.settings) same read.sets.words)
 
-pub header_fault : {T : Type 0} (P : T → Type 0) (which : Header) (line : List ℕ) (old : Drafted) (fault : LineFault) → slice_get headers old.read ≡ Some which
-    → old.read ≡ 0 → RefusesValue P fault → ((new : SettingsModel) → Sets which (words line) old.settings new → (t : T) × P t) → HeaderAnswers (Err fault) line old old
-header_fault P which line old Malformed is first none part = none
-header_fault P which line old BadHeader is first none part = (refl, header_refused which line old is (λ new sets. none (part new sets).0 (part new sets).1))
-header_fault P which line old (NoMemory _) is first none part = (refl, first)
+-- the line is the next header, and sets it
+pub next_set : (k : ℕ) (which : Header) (line : List ℕ) (old new : Drafted) → old.read ≡ k → slice_get headers k ≡ Some which → length line ≤ most_bytes
+    → Sets which (words line) old.settings new.settings → new.read ≡ old.read → SetsNext line old new
+next_set k which line old new at is short sets count = record { which = which; next = ap (slice_get headers) at ∙ is; sets = record { short = short; words = sets }; count = count }
+
+-- no value makes the line the next header
+pub next_refused : {T : Type 0} (P : T → Type 0) (k : ℕ) (which : Header) (line : List ℕ) (old : Drafted) (fault : LineFault) → old.read ≡ k → slice_get headers k ≡ Some which
+    → RefusesHeader P fault → ((new : SettingsModel) → Sets which (words line) old.settings new → (t : T) × P t) → NextAnswers (Err fault) line old old
+next_refused P k which line old Malformed at is none part = none
+next_refused P k which line old BadHeader at is none part = (refl, header_refused which line old (ap (slice_get headers) at ∙ is) (λ new sets. none (part new sets).0 (part new sets).1))
+next_refused P k which line old (NoMemory _) at is none part = absurd none
+
+-- the same of the first header, which takes memory
+pub first_refused : {T : Type 0} (P : T → Type 0) (which : Header) (line : List ℕ) (old : Drafted) (fault : LineFault) → old.read ≡ 0 → slice_get headers 0 ≡ Some which
+    → RefusesValue P fault → ((new : SettingsModel) → Sets which (words line) old.settings new → (t : T) × P t) → NextAnswers (Err fault) line old old
+first_refused P which line old Malformed at is none part = none
+first_refused P which line old BadHeader at is none part = (refl, header_refused which line old (ap (slice_get headers) at ∙ is) (λ new sets. none (part new sets).0 (part new sets).1))
+first_refused P which line old (NoMemory _) at is none part = (refl, at)

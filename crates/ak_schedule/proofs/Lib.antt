@@ -5,7 +5,6 @@ pub mod EventWords
 pub mod HeaderLines
 pub mod HeaderRuns
 pub mod LineParts
-pub mod ListedLemmas
 pub mod Listing
 pub mod OneWay
 pub mod PassedOver

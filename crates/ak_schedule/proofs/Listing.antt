@@ -10,8 +10,8 @@ use Rattle.ak_address.specs.Spelling.{SpellsAddress}
 use Rattle.ak_address.proofs.SpellingLemmas.{address_same}
 use Rattle.ak_schedule.specs.declared.fault.LineFault.{LineFault}
 use Rattle.ak_schedule.specs.declared.fault.LineFault.TheVariants.{Malformed, BadHeader, NoMemory}
-use Rattle.ak_schedule.specs.declared.settings.Strategy.{Strategy}
-use Rattle.ak_schedule.specs.Settings.{IsListing}
+use Rattle.ak_settings.specs.declared.settings.Strategy.{Strategy}
+use Rattle.ak_settings.specs.Settings.{IsListing}
 use Rattle.ak_schedule.specs.Draft.{RefusesValue, SpellsAddresses, SpellsNext}
 use Rattle.ak_schedule.specs.Schedule.{SpellsStrategy}
 

@@ -6,10 +6,10 @@ use Rattle.ak_address.specs.Spelling.{IsNumber, SpellsAddress, SpellsUnique}
 use Rattle.ak_address.proofs.SpellingLemmas.{number_same, address_same, unique_same}
 use Rattle.ak_schedule.specs.declared.event.Event.{Event}
 use Rattle.ak_schedule.specs.declared.event.Event.TheVariants.{Start, Found, Join, Tick, Deliver, Leave, Down, Offer, Stop}
-use Rattle.ak_schedule.specs.declared.settings.Header as header
-use Rattle.ak_schedule.specs.declared.settings.Strategy.{Strategy}
-use Rattle.ak_schedule.specs.declared.settings.Strategy.TheVariants.{StaticQuorum, KeepMajority, DownAll}
-use Rattle.ak_schedule.specs.Settings.{SettingsModel}
+use Rattle.ak_schedule.specs.declared.draft.Header as header
+use Rattle.ak_settings.specs.declared.settings.Strategy.{Strategy}
+use Rattle.ak_settings.specs.declared.settings.Strategy.TheVariants.{StaticQuorum, KeepMajority, DownAll}
+use Rattle.ak_settings.specs.Settings.{SettingsModel}
 use Rattle.ak_schedule.specs.Schedule.{Sets, SetsHeader, SpellsEvent, SpellsWords, SpellsSetting, SpellsStrategy, SpellsListing}
 use Rattle.ak_schedule.specs.Draft.{Drafted, ReadsHeader}
 use Rattle.ak_schedule.specs.Line.{words}

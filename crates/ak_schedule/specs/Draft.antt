@@ -4,11 +4,11 @@ use Rattle.std.specs.List.{AllZip}
 use Rattle.std.specs.Coded.{Coded, code_by, coded×, coded_ℕ}
 use Rattle.ak_address.specs.Unique.{AddressModel}
 use Rattle.ak_address.specs.Spelling.{SpellsAddress}
-use Rattle.ak_schedule.specs.declared.settings.Strategy.TheVariants.{DownAll}
-use Rattle.ak_schedule.specs.declared.settings.Header.{Header}
+use Rattle.ak_settings.specs.declared.settings.Strategy.TheVariants.{DownAll}
+use Rattle.ak_schedule.specs.declared.draft.Header.{Header}
 use Rattle.ak_schedule.specs.declared.fault.LineFault.{LineFault}
 use Rattle.ak_schedule.specs.declared.fault.LineFault.TheVariants.{Malformed, BadHeader, NoMemory}
-use Rattle.ak_schedule.specs.Settings.{SettingsModel, IsListing, IsStrategy, IsWithin, coded_settings}
+use Rattle.ak_settings.specs.Settings.{SettingsModel, IsListing, IsStrategy, IsWithin, coded_settings}
 use Rattle.ak_schedule.specs.Schedule.{headers, SetsHeader}
 
 -- how many headers are read, and the settings by then
@@ -73,11 +73,28 @@ HeaderAnswers (Err Malformed) line old new = ⊥
 HeaderAnswers (Err BadHeader) line old new = (new ≡ old) × ((next : Drafted) → ReadsHeader line old next → ⊥)
 HeaderAnswers (Err (NoMemory _)) line old new = (new ≡ old) × (old.read ≡ 0)
 
+-- the same before the header is counted
+pub record SetsNext (line : List ℕ) (old new : Drafted) : Type 0 where
+  pub which : Header
+  pub next : slice_get headers old.read ≡ Some which
+  pub sets : SetsHeader which line old.settings new.settings
+  pub count : new.read ≡ old.read
+
+abbrev pub NextAnswers : Result (Unit {0}) LineFault → List ℕ → Drafted → Drafted → Type 0
+NextAnswers (Ok _) line old new = SetsNext line old new
+NextAnswers (Err fault) line old new = HeaderAnswers (Err fault) line old new
+
 -- a header's value is refused exactly where none is spelled
 abbrev pub RefusesValue : {T : Type 0} → (T → Type 0) → LineFault → Type 0
 RefusesValue Spells Malformed = ⊥
 RefusesValue {T} Spells BadHeader = (value : T) → Spells value → ⊥
 RefusesValue Spells (NoMemory _) = Unit {0}
+
+-- the same where no memory is taken
+abbrev pub RefusesHeader : {T : Type 0} → (T → Type 0) → LineFault → Type 0
+RefusesHeader Spells Malformed = ⊥
+RefusesHeader {T} Spells BadHeader = (value : T) → Spells value → ⊥
+RefusesHeader Spells (NoMemory _) = ⊥
 
 -- the words spell these addresses, of which there are 1 to 32 different ones
 abbrev pub SpellsAddresses : List (List ℕ) → List AddressModel → Type 0

@@ -2,5 +2,4 @@ pub mod Draft
 pub mod Kind
 pub mod Line
 pub mod Reading
-pub mod Settings
 pub mod Schedule

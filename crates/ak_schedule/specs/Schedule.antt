@@ -5,13 +5,13 @@ use Rattle.ak_field.specs.Ranges.{IsEntity}
 use Rattle.std.specs.Fmt.{decimal}
 use Rattle.ak_address.specs.Unique.{AddressModel, IsAddress, IsUnique}
 use Rattle.ak_address.specs.Spelling.{IsNumber, SpellsAddress, SpellsUnique, address_text, unique_text}
-use Rattle.ak_schedule.specs.declared.settings.Strategy.{Strategy}
-use Rattle.ak_schedule.specs.declared.settings.Strategy.TheVariants.{StaticQuorum, KeepMajority, DownAll}
+use Rattle.ak_settings.specs.declared.settings.Strategy.{Strategy}
+use Rattle.ak_settings.specs.declared.settings.Strategy.TheVariants.{StaticQuorum, KeepMajority, DownAll}
 use Rattle.ak_schedule.specs.declared.event.Event.{Event}
 use Rattle.ak_schedule.specs.declared.event.Event.TheVariants.{Start, Found, Join, Tick, Deliver, Leave, Down, Offer, Stop}
-use Rattle.ak_schedule.specs.declared.settings.Header as header
+use Rattle.ak_schedule.specs.declared.draft.Header as header
 use Rattle.ak_schedule.specs.Line.{words, most_bytes}
-use Rattle.ak_schedule.specs.Settings.{SettingsModel, IsListing}
+use Rattle.ak_settings.specs.Settings.{SettingsModel, IsListing}
 
 -- a word is a number from least to most
 pub record SpellsNumber (word : List ℕ) (least most n : ℕ) : Type 0 where

@@ -1,15 +1,29 @@
 ghost use Rattle.std.specs.Prelude.{◌≡◌, ◌≢◌, ◌<◌, ◌≤◌, length, MatchResult};
-ghost use Rattle.ak_schedule.specs.Draft.{first_draft, HeaderAnswers};
+ghost use Rattle.ak_schedule.specs.Draft.{first_draft, HeaderAnswers, NextAnswers};
 
 use crate::fault::LineFault;
 use crate::header::{read_listing, read_setting, read_strategy};
 use crate::line::MOST_BYTES;
-use crate::settings::{Settings, Strategy};
 use ak_address::Address;
+use ak_settings::{MOST_BUFFER, MOST_SHARDS, MOST_TICKS, Settings, Strategy};
 use std::alloc::Global;
 use std::marker::Model;
 
 const HEADERS: u32 = 9;
+
+/// The nine header lines of a schedule, in their order.
+#[derive(Clone, Copy, Debug, PartialEq, Eq)]
+pub enum Header {
+    Listed,
+    Strategy,
+    Margin,
+    Deadline,
+    Stable,
+    Shards,
+    Buffer,
+    Threshold,
+    Limit,
+}
 
 /// The header lines of a schedule, as far as they are read. Until a line sets it a setting has a first
 /// value: no address, the strategy that downs all, and 1.
@@ -68,7 +82,9 @@ impl Draft {
         if line.len() > MOST_BYTES {
             return Err(LineFault::BadHeader);
         }
-        self.set_next(alloc, line)
+        self.set_next(alloc, line)?;
+        self.read += 1;
+        Ok(self.read == HEADERS)
     }
 
     /// The settings, exactly where all nine headers are read. Else the draft is given back.
@@ -107,141 +123,23 @@ impl Draft {
 }
 
 impl Draft {
-    // Sets the setting that is next.
-    fn set_next(&mut self, alloc: Global, line: &[u8]) -> Result<bool, LineFault>
+    // Sets the setting that is next, and no other.
+    fn set_next(&mut self, alloc: Global, line: &[u8]) -> Result<(), LineFault>
         requires more { self.old.read < HEADERS }
         requires short { length line.now ≤ MOST_BYTES }
-        ensures { HeaderAnswers result line.now self.old self.new }
+        ensures { NextAnswers result line.now self.old self.new }
     {
         match self.read {
-            0 => return self.set_listed(alloc, line),
-            1 => return self.set_strategy(line),
-            2 => return self.set_margin(line),
-            3 => return self.set_deadline(line),
-            4 => return self.set_stable(line),
-            5 => return self.set_shards(line),
-            6 => return self.set_buffer(line),
-            7 => return self.set_threshold(line),
-            _ => return self.set_limit(line),
+            0 => self.listed = read_listing(alloc, line)?,
+            1 => self.strategy = read_strategy(line)?,
+            2 => self.margin = read_setting(line, b"margin", MOST_TICKS)?,
+            3 => self.deadline = read_setting(line, b"deadline", MOST_TICKS)?,
+            4 => self.stable = read_setting(line, b"stable", MOST_TICKS)?,
+            5 => self.shards = read_setting(line, b"shards", MOST_SHARDS)?,
+            6 => self.buffer = read_setting(line, b"buffer", MOST_BUFFER)?,
+            7 => self.threshold = read_setting(line, b"threshold", MOST_SHARDS)?,
+            _ => self.limit = read_setting(line, b"limit", MOST_SHARDS)?,
         }
-    }
-
-    fn set_listed(&mut self, alloc: Global, line: &[u8]) -> Result<bool, LineFault>
-        requires at { self.old.read ≡ 0 }
-        requires short { length line.now ≤ MOST_BYTES }
-        ensures { HeaderAnswers result line.now self.old self.new }
-    {
-        match read_listing(alloc, line) {
-            Err(fault) => return Err(fault),
-            Ok(listed) => {
-                self.listed = listed;
-                self.read = 1;
-                return Ok(false);
-            }
-        }
-    }
-
-    fn set_strategy(&mut self, line: &[u8]) -> Result<bool, LineFault>
-        requires at { self.old.read ≡ 1 }
-        requires short { length line.now ≤ MOST_BYTES }
-        ensures { HeaderAnswers result line.now self.old self.new }
-    {
-        let Some(strategy) = read_strategy(line) else {
-            return Err(LineFault::BadHeader);
-        };
-        self.strategy = strategy;
-        self.read = 2;
-        Ok(false)
-    }
-
-    fn set_margin(&mut self, line: &[u8]) -> Result<bool, LineFault>
-        requires at { self.old.read ≡ 2 }
-        requires short { length line.now ≤ MOST_BYTES }
-        ensures { HeaderAnswers result line.now self.old self.new }
-    {
-        let Some(margin) = read_setting(line, b"margin", 1_000_000) else {
-            return Err(LineFault::BadHeader);
-        };
-        self.margin = margin;
-        self.read = 3;
-        Ok(false)
-    }
-
-    fn set_deadline(&mut self, line: &[u8]) -> Result<bool, LineFault>
-        requires at { self.old.read ≡ 3 }
-        requires short { length line.now ≤ MOST_BYTES }
-        ensures { HeaderAnswers result line.now self.old self.new }
-    {
-        let Some(deadline) = read_setting(line, b"deadline", 1_000_000) else {
-            return Err(LineFault::BadHeader);
-        };
-        self.deadline = deadline;
-        self.read = 4;
-        Ok(false)
-    }
-
-    fn set_stable(&mut self, line: &[u8]) -> Result<bool, LineFault>
-        requires at { self.old.read ≡ 4 }
-        requires short { length line.now ≤ MOST_BYTES }
-        ensures { HeaderAnswers result line.now self.old self.new }
-    {
-        let Some(stable) = read_setting(line, b"stable", 1_000_000) else {
-            return Err(LineFault::BadHeader);
-        };
-        self.stable = stable;
-        self.read = 5;
-        Ok(false)
-    }
-
-    fn set_shards(&mut self, line: &[u8]) -> Result<bool, LineFault>
-        requires at { self.old.read ≡ 5 }
-        requires short { length line.now ≤ MOST_BYTES }
-        ensures { HeaderAnswers result line.now self.old self.new }
-    {
-        let Some(shards) = read_setting(line, b"shards", 1_000) else {
-            return Err(LineFault::BadHeader);
-        };
-        self.shards = shards;
-        self.read = 6;
-        Ok(false)
-    }
-
-    fn set_buffer(&mut self, line: &[u8]) -> Result<bool, LineFault>
-        requires at { self.old.read ≡ 6 }
-        requires short { length line.now ≤ MOST_BYTES }
-        ensures { HeaderAnswers result line.now self.old self.new }
-    {
-        let Some(buffer) = read_setting(line, b"buffer", 100_000) else {
-            return Err(LineFault::BadHeader);
-        };
-        self.buffer = buffer;
-        self.read = 7;
-        Ok(false)
-    }
-
-    fn set_threshold(&mut self, line: &[u8]) -> Result<bool, LineFault>
-        requires at { self.old.read ≡ 7 }
-        requires short { length line.now ≤ MOST_BYTES }
-        ensures { HeaderAnswers result line.now self.old self.new }
-    {
-        let Some(threshold) = read_setting(line, b"threshold", 1_000) else {
-            return Err(LineFault::BadHeader);
-        };
-        self.threshold = threshold;
-        self.read = 8;
-        Ok(false)
-    }
-
-    fn set_limit(&mut self, line: &[u8]) -> Result<bool, LineFault>
-        requires at { self.old.read ≡ 8 }
-        requires short { length line.now ≤ MOST_BYTES }
-        ensures { HeaderAnswers result line.now self.old self.new }
-    {
-        let Some(limit) = read_setting(line, b"limit", 1_000) else {
-            return Err(LineFault::BadHeader);
-        };
-        self.limit = limit;
-        self.read = 9;
-        Ok(true)
+        Ok(())
     }
 }

@@ -1,41 +1,48 @@
-ghost use Rattle.std.specs.Prelude.{◌≡◌, ℕ, [], ◌∷◌, MatchOption, MatchResult, codes};
+ghost use Rattle.std.specs.Prelude.{[], ◌∷◌, MatchOption, MatchResult, codes};
 ghost use Rattle.ak_address.specs.Spelling.{SpellsAddress};
 ghost use Rattle.ak_schedule.specs.Line.{words};
-ghost use Rattle.ak_schedule.specs.Draft.{RefusesValue, SpellsAddresses, SpellsNext};
+ghost use Rattle.ak_schedule.specs.Draft.{RefusesHeader, RefusesValue, SpellsAddresses, SpellsNext};
 ghost use Rattle.ak_schedule.specs.Schedule.{SpellsListing, SpellsSetting, SpellsStrategy};
 
 use crate::fault::LineFault;
 use crate::kind::is_text;
 use crate::line::{next_word, one_word, two_words};
-use crate::settings::{Strategy, contains_address};
 use ak_address::{Address, AddressFault, parse_address, parse_number};
+use ak_settings::{MOST_LISTED, MOST_QUORUM, Strategy, contains_address};
 use std::alloc::Global;
 
-const MOST_LISTED: usize = 32;
-
-const MOST_QUORUM: u64 = 32;
-
-/// The number of a header line that has this name, from 1 to the most. None exactly where the line is
+/// The number of a header line that has this name, from 1 to the most. Refused exactly where the line is
 /// no such header.
-pub(crate) fn read_setting(line: &[u8], name: &[u8], most: u32) -> Option<u32>
-    ensures { MatchOption result
-        ((n : ℕ) → SpellsSetting name.now most (words line.now) n → ⊥)
-        (λ n. SpellsSetting name.now most (words line.now) n) }
+pub(crate) fn read_setting(line: &[u8], name: &[u8], most: u32) -> Result<u32, LineFault>
+    ensures { MatchResult result
+        (λ n. SpellsSetting name.now most (words line.now) n)
+        (RefusesHeader (SpellsSetting name.now most (words line.now))) }
 {
     let Some((first, number)) = two_words(line) else {
-        return None;
+        return Err(LineFault::BadHeader);
     };
     if !is_text(first, name) {
-        return None;
+        return Err(LineFault::BadHeader);
     }
     match parse_number(number, 1, u64::from(most)) {
-        Some(number) => return Some(number as u32),
-        None => return None,
+        Some(number) => return Ok(number as u32),
+        None => return Err(LineFault::BadHeader),
     }
 }
 
-/// The strategy of a header line. None exactly where the line is no such header.
-pub(crate) fn read_strategy(line: &[u8]) -> Option<Strategy>
+/// The strategy of a header line. Refused exactly where the line is no such header.
+pub(crate) fn read_strategy(line: &[u8]) -> Result<Strategy, LineFault>
+    ensures { MatchResult result
+        (λ s. SpellsStrategy (words line.now) s)
+        (RefusesHeader (SpellsStrategy (words line.now))) }
+{
+    match strategy_of(line) {
+        Some(strategy) => return Ok(strategy),
+        None => return Err(LineFault::BadHeader),
+    }
+}
+
+fn strategy_of(line: &[u8]) -> Option<Strategy>
     ensures { MatchOption result
         ((s : Strategy) → SpellsStrategy (words line.now) s → ⊥)
         (λ s. SpellsStrategy (words line.now) s) }
@@ -67,7 +74,7 @@ fn read_quorum(rest: &[u8]) -> Option<Strategy>
     let Some(number) = one_word(rest) else {
         return None;
     };
-    match parse_number(number, 1, MOST_QUORUM) {
+    match parse_number(number, 1, u64::from(MOST_QUORUM)) {
         Some(number) => return Some(Strategy::StaticQuorum(number as u32)),
         None => return None,
     }

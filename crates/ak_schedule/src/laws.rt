@@ -1,11 +1,11 @@
 ghost use Rattle.std.specs.Prelude.{◌≡◌, ◌≢◌, ℕ, List, [], ◌∷◌, ◌++◌, All};
 ghost use Rattle.ak_schedule.specs.Draft.{Drafted, ReadsHeader, ReadsHeaders, all_read, first_draft};
 ghost use Rattle.ak_schedule.specs.Line.{lines, words, without_cr, IsPassedOver};
-ghost use Rattle.ak_schedule.specs.Settings.{SettingsModel};
+ghost use Rattle.ak_settings.specs.Settings.{SettingsModel};
 ghost use Rattle.ak_schedule.specs.Schedule.{SpellsEvent, SetsHeader, SpellsSettings, IsSpelled, IsEvent, event_text};
 
+use crate::draft::Header;
 use crate::event::Event;
-use crate::settings::Header;
 
 /// A line spells one event at most; a header line sets one value
 /// at most, and so the next draft.

@@ -10,9 +10,9 @@ mod laws;
 mod line;
 mod print;
 mod read;
-mod settings;
 
-pub use draft::Draft;
+pub use ak_settings::{Settings, Strategy};
+pub use draft::{Draft, Header};
 pub use event::Event;
 pub use fault::LineFault;
 pub use laws::{
@@ -23,4 +23,3 @@ pub use laws::{
 pub use line::{MOST_BYTES, cut, is_passed_over, next_line, next_word};
 pub use print::print_event;
 pub use read::read_line;
-pub use settings::{Header, Settings, Strategy};

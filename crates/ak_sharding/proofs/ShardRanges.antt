@@ -13,7 +13,7 @@ use Rattle.ak_region.specs.Slot.{untold}
 use Rattle.ak_region.specs.RegionModel.{RegionModel, Message}
 use Rattle.ak_region.specs.Region.{entity_shard, wanted, report_of, reports_from, reports}
 use Rattle.ak_region.proofs.WantedLaws.{wanted_is}
-use Rattle.ak_schedule.specs.Settings.{SettingsModel}
+use Rattle.ak_settings.specs.Settings.{SettingsModel}
 use Rattle.ak_shard_id.specs.Shard.{shard_of, text_hash}
 use Rattle.ak_shard_id.specs.declared.report.Report.{Report}
 use Rattle.ak_singleton.specs.declared.phase.Phase.{Phase}

@@ -11,7 +11,7 @@ use Rattle.ak_region.specs.declared.region.Offered.{Offered}
 use Rattle.ak_region.specs.declared.region.Offered.TheVariants as offered
 use Rattle.ak_region.specs.RegionModel.{RegionModel, Message}
 use Rattle.ak_region.specs.Region.{new_region, entity_shard, route, after_offer, flushed, after_flush}
-use Rattle.ak_schedule.specs.Settings.{SettingsModel}
+use Rattle.ak_settings.specs.Settings.{SettingsModel}
 use Rattle.ak_settled.specs.SettledView.{SettledView}
 use Rattle.ak_singleton.specs.Singleton.{SingletonModel}
 use Rattle.ak_wire.specs.declared.action.Action.{Action}

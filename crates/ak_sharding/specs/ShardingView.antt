@@ -8,7 +8,7 @@ use Rattle.ak_entity.specs.Active.{ActiveEntities, coded_entities}
 use Rattle.ak_member.specs.Standing.{Standings}
 use Rattle.ak_member.specs.contracts.standing.Standing as standing
 use Rattle.ak_region.specs.RegionModel.{RegionModel, coded_region}
-use Rattle.ak_schedule.specs.Settings.{SettingsModel, coded_settings}
+use Rattle.ak_settings.specs.Settings.{SettingsModel, coded_settings}
 use Rattle.ak_settled.specs.SettledView.{SettledView, coded_noted}
 use Rattle.ak_singleton.specs.Singleton.{SingletonModel}
 use Rattle.ak_singleton.specs.SingletonView.{coded_singleton}

@@ -2,7 +2,7 @@ ghost use Rattle.std.specs.Prelude.{Bool, List};
 ghost use Rattle.ak_address.specs.Unique.{UniqueModel, IsUnique};
 ghost use Rattle.ak_field.specs.Lists.{AreReports};
 ghost use Rattle.ak_region.specs.Region.{reports};
-ghost use Rattle.ak_schedule.specs.Settings.{SettingsModel, IsSettings};
+ghost use Rattle.ak_settings.specs.Settings.{SettingsModel, IsSettings};
 ghost use Rattle.ak_shard_id.specs.declared.report.Report.{Report};
 ghost use Rattle.ak_singleton.specs.declared.phase.Phase.{Phase};
 ghost use Rattle.ak_singleton.specs.declared.phase.TickRule.{TickRule};

@@ -10,7 +10,7 @@ use ak_address::Text;
 use ak_coordinator::Coordinator;
 use ak_entity::Entities;
 use ak_region::Region;
-use ak_schedule::Settings;
+use ak_settings::Settings;
 use ak_shard_id::Report;
 use std::alloc::{AllocError, Global};
 use std::marker::Model;

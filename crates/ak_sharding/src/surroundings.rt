@@ -9,7 +9,7 @@ use ak_allocation::Load;
 use ak_coordinator::Coordinator;
 use ak_member::Members;
 use ak_promise::Ballot;
-use ak_schedule::Settings;
+use ak_settings::Settings;
 use ak_settled::Settled;
 use ak_singleton::{Phase, Singleton};
 use std::alloc::{AllocError, Global};

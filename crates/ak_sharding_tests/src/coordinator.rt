@@ -1,9 +1,9 @@
-use ak_address::{Unique, Uniques, parse_unique};
+use ak_address::{Address, Unique, Uniques, parse_address, parse_unique};
 use ak_allocation::Load;
 use ak_clock::Version;
 use ak_coordinator::{Coordinator, Homing, Order, Placed};
 use ak_member::{Members, Standing, Status};
-use ak_schedule::{Draft, Settings};
+use ak_settings::{Settings, Strategy};
 use ak_settled::Settled;
 use ak_shard_id::Report;
 use std::alloc::Global;
@@ -77,26 +77,20 @@ pub(crate) fn settled(alloc: Global, standings: &[Standing]) -> Result<Settled, 
     settled_at(alloc, &members)
 }
 
-const HEADERS: [&str; 9] = [
-    "listed a:1",
-    "strategy down-all",
-    "margin 2",
-    "deadline 9",
-    "stable 9",
-    "shards 10",
-    "buffer 2",
-    "threshold 1",
-    "limit 1",
-];
+// One address is listed.
+fn listed(alloc: Global) -> Result<Vec<Address>, Fail> {
+    let mut listed = Vec::new(alloc);
+    listed.push(parse_address(alloc, b"a:1")?)?;
+    Ok(listed)
+}
 
 pub(crate) fn settings(alloc: Global) -> Result<Settings, Fail> {
-    let mut draft = Draft::new(alloc);
-    'headers: for line in HEADERS {
-        if draft.header(alloc, line.as_bytes())? {
-            return Ok(draft.finish().map_err(|_| "a header is missing")?);
-        }
-    }
-    Err("a header is missing")?
+    let made = Settings::of_membership(listed(alloc)?, Strategy::DownAll, 2, 9, 9);
+    let mut settings = made.ok_or("the settings are out of range")?;
+    settings.shards = 10;
+    settings.buffer = 2;
+    settings.limit = 1;
+    Ok(settings)
 }
 
 fn push_load(alloc: Global, loads: &mut Vec<Load>, letter: u8, shards: u32) -> Result<(), Fail> {

@@ -3,7 +3,7 @@ use ak_address::{Text, Unique};
 use ak_field::{EntityId, is_entity};
 use ak_member::{Members, Status};
 use ak_promise::Ballot;
-use ak_schedule::Settings;
+use ak_settings::Settings;
 use ak_settled::Settled;
 use ak_shard_id::Report;
 use ak_sharding::{Around, Sharding};

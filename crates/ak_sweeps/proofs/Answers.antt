@@ -13,7 +13,7 @@ use Rattle.ak_address.proofs.Elements.{any_there, any_found, map_in, contains_at
 use Rattle.ak_address.proofs.OrderLemmas.{address_total, address_exact}
 use Rattle.ak_address.proofs.TableLaws.{key_itself}
 use Rattle.ak_gossip.proofs.InvariantLemmas.{and_first}
-use Rattle.ak_schedule.specs.Settings.{is_listed}
+use Rattle.ak_settings.specs.Settings.{is_listed}
 use Rattle.ak_schedule.specs.declared.event.Event.{Event}
 use Rattle.ak_schedule.specs.declared.event.Event.TheVariants.{Start, Found, Join, Tick, Deliver, Leave, Down, Offer, Stop}
 use Rattle.ak_wire.specs.declared.envelope.Envelope.{Envelope}

@@ -2,7 +2,7 @@
 use Rattle.std.proofs.Common.{Bor, option_map, ◌≡◌, inl, inr, ℕ, suc, ◌+◌, ◌≤◌, List, [], ◌∷◌, ◌++◌, false, length, Option, None, Some, is_some, Result, Ok, Err, refl, sym, ap, ◌∙◌, subst, arith, append-nil, append_assoc, length-append}
 use Rattle.std.specs.Option.{option_copied}
 use Rattle.ak_schedule.specs.declared.event.Event.{Event}
-use Rattle.ak_schedule.specs.Settings.{SettingsModel}
+use Rattle.ak_settings.specs.Settings.{SettingsModel}
 use Rattle.ak_generate.specs.Fixed.{fixed}
 use Rattle.ak_generate.specs.declared.sight.Sight.{Sight}
 use Rattle.ak_generate.specs.Generated.{next_event}

@@ -13,7 +13,7 @@ use Rattle.ak_gossip.specs.declared.part.Part.{Part}
 use Rattle.ak_gossip.specs.Gossip.{GossipState}
 use Rattle.ak_gossip.specs.PartsWalk.{with_counts, with_standings, with_seen, with_part_rows}
 use Rattle.ak_field.specs.declared.fault.WireFault.{WireFault}
-use Rattle.ak_field.specs.declared.fault.WireFault.TheVariants.{Trailing}
+use Rattle.ak_field.specs.declared.fault.WireFault.TheVariants.{Trailing, NoMemory}
 use Rattle.ak_field.specs.Reading.{◌>>=◌, wide_at, Fails}
 use Rattle.ak_field.specs.Fields.{header_at, number_at, shard_at, unique_at, receiver_at, ballot_at, entity_at}
 use Rattle.ak_field.specs.Lists.{version_at, reports_at}
@@ -157,3 +157,9 @@ read bytes = do
 abbrev pub GivesWhole : {X : Type 0} → Result X WireFault → Result X WireFault → Type 0
 GivesWhole (Ok value) read = read ≡ Ok value
 GivesWhole (Err fault) read = Fails fault read
+
+-- Where memory ran out, a datagram is begun: its header stands there, and then its sender, both without a fault. Whatever has
+-- a fault there is refused without memory.
+abbrev pub IsBegun : Result Envelope WireFault → List ℕ → Type 0
+IsBegun (Err (NoMemory _)) bytes = (kind : ℕ × List ℕ) × (from : UniqueModel × List ℕ) × (header_at bytes ≡ Ok kind) × (unique_at kind.1 ≡ Ok from)
+IsBegun _ bytes = Unit {0}

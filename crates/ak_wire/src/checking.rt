@@ -113,9 +113,9 @@ fn is_sendable(gossip: &Gossip) -> bool
     true
 }
 
-/// Tells a proof that each process of a gossip is in its ranges, as every process is, so that the gossip can be spelled. It
-/// looks at each of them, and takes no memory.
-pub fn sendable(gossip: &Gossip)
+// Tells a proof that each process of a gossip is in its ranges, as every process is, so that the gossip can be spelled. It
+// looks at each of them.
+fn sendable(gossip: &Gossip)
     ensures { IsSendable gossip.now }
 {
     gossip.invariant();

@@ -16,7 +16,7 @@ mod writing;
 
 pub use action::{Action, Actions};
 pub use ak_field::{WireFault, check_header};
-pub use checking::{sendable, valid};
+pub use checking::valid;
 pub use cover::Cover;
 pub use envelope::{Envelope, Message};
 pub use laws::{

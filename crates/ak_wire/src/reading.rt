@@ -2,7 +2,7 @@ ghost use Rattle.std.specs.Prelude.{◌≡◌, IfOk, Ok};
 ghost use Rattle.ak_field.specs.Reading.{Gives};
 ghost use Rattle.ak_wire.specs.declared.envelope.Envelope.{Envelope};
 ghost use Rattle.ak_wire.specs.Datagram.{Spells};
-ghost use Rattle.ak_wire.specs.ReadingDatagram.{is_kind_for_anybody, datagram_at, read, GivesWhole};
+ghost use Rattle.ak_wire.specs.ReadingDatagram.{is_kind_for_anybody, datagram_at, read, GivesWhole, IsBegun};
 
 use crate::bodies::body;
 use crate::envelope::Envelope;
@@ -10,11 +10,13 @@ use ak_field::{Fields, WireFault};
 use std::alloc::Global;
 
 /// The envelope that the bytes spell (this project's format). Where they spell none it answers the first fault, W1 to W8, that
-/// reading them from left to right meets; that memory ran out says nothing of them.
+/// reading them from left to right meets; that memory ran out says no more of them than that their header and their sender have
+/// no fault.
 pub fn decode(alloc: Global, bytes: &[u8]) -> Result<Envelope, WireFault>
     ensures read { GivesWhole result (read bytes.now) }
     ensures spelled { IfOk result (λ e. Spells bytes.now e) }
     ensures only { (e : Envelope) → Spells bytes.now e → GivesWhole result (Ok e) }
+    ensures memory { IsBegun result bytes.now }
 {
     read(alloc, bytes)
 }
@@ -22,7 +24,8 @@ pub fn decode(alloc: Global, bytes: &[u8]) -> Result<Envelope, WireFault>
 // A datagram, and no byte after it.
 #[tactic(auto, using(crate::proofs::Steps::fails_first), unfolding(crate::specs::ReadingDatagram::read))]
 fn read(alloc: Global, bytes: &[u8]) -> Result<Envelope, WireFault>
-    ensures { GivesWhole result (read bytes.now) }
+    ensures read { GivesWhole result (read bytes.now) }
+    ensures memory { IsBegun result bytes.now }
 {
     let mut fields = Fields::new(bytes);
     let envelope = envelope(alloc, &mut fields)?;
@@ -34,7 +37,8 @@ fn read(alloc: Global, bytes: &[u8]) -> Result<Envelope, WireFault>
 
 #[tactic(auto, using(crate::proofs::Steps::fails_first, crate::proofs::Steps::fails_exactly), unfolding(crate::specs::ReadingDatagram::datagram_at))]
 fn envelope(alloc: Global, fields: &mut Fields<'_>) -> Result<Envelope, WireFault>
-    ensures { Gives result fields.new (datagram_at fields.old) }
+    ensures read { Gives result fields.new (datagram_at fields.old) }
+    ensures memory { IsBegun result fields.old }
 {
     let kind = fields.header()?;
     let from = fields.unique(alloc)?;

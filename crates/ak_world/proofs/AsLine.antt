@@ -13,7 +13,7 @@ use Rattle.ak_history.proofs.Covering.{did_more}
 use Rattle.ak_history.proofs.HistoryLemmas.{bounded-prefix}
 use Rattle.ak_line.specs.Line.{IsLine}
 use Rattle.ak_line.specs.Grows.{Grows}
-use Rattle.ak_schedule.specs.Settings.{SettingsModel}
+use Rattle.ak_settings.specs.Settings.{SettingsModel}
 use Rattle.ak_schedule.specs.declared.event.Event.{Event}
 use Rattle.ak_node.specs.Node.{known}
 use Rattle.ak_world.specs.InRun.{WasStarted, IsNamedIn, written}

@@ -1,7 +1,7 @@
 -- What is known already of each world of a run, together: it is the basis of what is said of settled versions.
 use Rattle.std.proofs.Common.{[], refl, sym, subst}
 use Rattle.ak_address.proofs.Elements.{contains_nothing}
-use Rattle.ak_schedule.specs.Settings.{SettingsModel}
+use Rattle.ak_settings.specs.Settings.{SettingsModel}
 use Rattle.ak_schedule.specs.declared.event.Event.{Event}
 use Rattle.ak_world.specs.World.{WorldState, happens}
 use Rattle.ak_world.specs.Remembered.{Remembered, remembers_answer, nothing_remembered}

@@ -7,7 +7,7 @@ use Rattle.std.specs.Ordering.{is_eq}
 use Rattle.ak_address.specs.Unique.{UniqueModel, address_cmp}
 use Rattle.ak_address.proofs.Elements.{any_there, contains_at}
 use Rattle.ak_address.proofs.OrderLemmas.{address_total}
-use Rattle.ak_schedule.specs.Settings.{SettingsModel}
+use Rattle.ak_settings.specs.Settings.{SettingsModel}
 use Rattle.ak_node.specs.declared.node.State.{State}
 use Rattle.ak_node.specs.declared.node.NodeEvent.{NodeEvent}
 use Rattle.ak_node.specs.Node.{me_of, started, step}

@@ -10,7 +10,7 @@ use Rattle.ak_history.specs.declared.entry.Entry.{Entry}
 use Rattle.ak_history.specs.History.{entries_of, IsNumbered, IsBounded}
 use Rattle.ak_address.proofs.Elements.{first_or_rest, contains_nothing}
 use Rattle.ak_history.proofs.HistoryLemmas.{bounded-prefix}
-use Rattle.ak_schedule.specs.Settings.{SettingsModel}
+use Rattle.ak_settings.specs.Settings.{SettingsModel}
 use Rattle.ak_schedule.specs.declared.event.Event.{Event}
 use Rattle.ak_wire.specs.declared.envelope.Envelope.{Envelope}
 use Rattle.ak_wire.specs.declared.action.Action.{Action}

@@ -3,7 +3,7 @@
 use Rattle.std.proofs.Common.{◌≡◌, ◌≢◌, ◌⊎◌, inl, inr, ℕ, zero, suc, ◌+◌, ◌<◌, ◌≤◌, List, [], ◌∷◌, ◌++◌, take, Some, None, is_some, Result, Ok, Err, slice_get, IsTrue, refl, sym, ap, ◌∙◌, subst, arith, true≢false}
 use Rattle.std.proofs.lemmas.Option.{same_Some}
 use Rattle.ak_address.specs.Unique.{UniqueModel}
-use Rattle.ak_schedule.specs.Settings.{SettingsModel}
+use Rattle.ak_settings.specs.Settings.{SettingsModel}
 use Rattle.ak_schedule.specs.declared.event.Event.{Event}
 use Rattle.ak_shard_id.specs.Shard.{shard_of}
 use Rattle.ak_sharding.specs.Alive.{IsActive}

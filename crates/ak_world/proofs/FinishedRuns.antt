@@ -7,7 +7,7 @@ use Rattle.ak_address.specs.Unique.{UniqueModel}
 use Rattle.ak_address.proofs.Elements.{index_of}
 use Rattle.ak_address.proofs.TableLaws.{get-empty}
 use Rattle.ak_member.specs.Standing.{tombstone_of}
-use Rattle.ak_schedule.specs.Settings.{SettingsModel}
+use Rattle.ak_settings.specs.Settings.{SettingsModel}
 use Rattle.ak_schedule.specs.declared.event.Event.{Event}
 use Rattle.ak_settled.specs.Settled.{is_finished, ticked, standings_of}
 use Rattle.ak_settled.specs.SettledView.{SettledView}

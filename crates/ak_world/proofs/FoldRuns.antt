@@ -10,7 +10,7 @@ use Rattle.ak_member.specs.View.{empty_view, after_entry}
 use Rattle.ak_address.proofs.TableLaws.{key_itself}
 use Rattle.ak_clock.specs.Version.{count}
 use Rattle.ak_clock.proofs.VersionLaws.{count-empty}
-use Rattle.ak_schedule.specs.Settings.{SettingsModel}
+use Rattle.ak_settings.specs.Settings.{SettingsModel}
 use Rattle.ak_schedule.specs.declared.event.Event.{Event}
 use Rattle.ak_history.specs.declared.entry.Entry.{Entry}
 use Rattle.ak_wire.specs.declared.envelope.Envelope.{Envelope}

@@ -16,7 +16,7 @@ use Rattle.ak_history.specs.History.{is_covered, view}
 use Rattle.ak_history.specs.Shown.{Rose}
 use Rattle.ak_history.proofs.HistoryLemmas.{one_entry}
 use Rattle.ak_history.proofs.Covering.{did_more, covered_by_more, size, size_less}
-use Rattle.ak_schedule.specs.Settings.{SettingsModel, settling_size}
+use Rattle.ak_settings.specs.Settings.{SettingsModel, settling_size}
 use Rattle.ak_node.specs.Node.{me_of}
 use Rattle.ak_world.specs.Remembered.{Remembered, IsClosed}
 use Rattle.ak_world.proofs.Agreed.{IsAgreed}

@@ -6,7 +6,7 @@ use Rattle.ak_clock.specs.Version.{Counts, Covers}
 use Rattle.ak_clock.proofs.VersionLaws.{covers_itself, covers_along, covers_equal}
 use Rattle.ak_gossip.specs.Gossip.{GossipState}
 use Rattle.ak_address.proofs.Elements.{first_or_rest}
-use Rattle.ak_schedule.specs.Settings.{SettingsModel}
+use Rattle.ak_settings.specs.Settings.{SettingsModel}
 use Rattle.ak_schedule.specs.declared.event.Event.{Event}
 use Rattle.ak_node.specs.declared.node.State.{State}
 use Rattle.ak_node.specs.declared.node.NodeEvent.{NodeEvent}

@@ -21,7 +21,7 @@ use Rattle.ak_history.specs.History.{view}
 use Rattle.ak_history.specs.Shown.{IsNamed}
 use Rattle.ak_history.proofs.Covering.{size}
 use Rattle.ak_line.proofs.Comparable as line
-use Rattle.ak_schedule.specs.Settings.{SettingsModel, settling_size, is_listed}
+use Rattle.ak_settings.specs.Settings.{SettingsModel, settling_size, is_listed}
 use Rattle.ak_node.specs.declared.node.State.{State}
 use Rattle.ak_node.specs.Node.{me_of}
 use Rattle.ak_world.specs.Remembered.{Remembered}

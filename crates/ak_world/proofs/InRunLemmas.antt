@@ -13,7 +13,7 @@ use Rattle.ak_gossip.specs.Gossip.{GossipState, is_known}
 use Rattle.ak_history.specs.History.{entries_of, view}
 use Rattle.ak_history.specs.Shown.{IsNamed, IsRemoved}
 use Rattle.ak_history.proofs.RowsShown.{row_shown}
-use Rattle.ak_schedule.specs.Settings.{SettingsModel, is_listed}
+use Rattle.ak_settings.specs.Settings.{SettingsModel, is_listed}
 use Rattle.ak_schedule.specs.declared.event.Event.{Event}
 use Rattle.ak_settled.specs.SettledView.{NotedView}
 use Rattle.ak_node.specs.declared.node.State.{State}

@@ -19,7 +19,7 @@ use Rattle.ak_line.proofs.BallotOrderLaws.{later_strict}
 use Rattle.ak_line.proofs.Grown.{safe_grown}
 use Rattle.ak_line.proofs.LocalAllowed.{after_node, after_other, after_sent, Moved, moved}
 use Rattle.ak_line.proofs.OneHome.{safe_first, safe_kept, safe_after}
-use Rattle.ak_schedule.specs.Settings.{SettingsModel}
+use Rattle.ak_settings.specs.Settings.{SettingsModel}
 use Rattle.ak_schedule.specs.declared.event.Event.{Event}
 use Rattle.ak_settled.specs.Settled.{version_of, is_finished, ticked, after_note}
 use Rattle.ak_settled.specs.SettledView.{SettledView, SettledModel, NotedView}

@@ -12,7 +12,7 @@ use Rattle.ak_history.specs.declared.entry.Entry.{Entry}
 use Rattle.ak_history.specs.History.{IsNumbered, IsBounded, view}
 use Rattle.ak_history.proofs.HistoryLemmas.{bounded-prefix}
 use Rattle.ak_history.proofs.ViewsMerged.{view-prefix}
-use Rattle.ak_schedule.specs.Settings.{SettingsModel}
+use Rattle.ak_settings.specs.Settings.{SettingsModel}
 use Rattle.ak_schedule.specs.declared.event.Event.{Event}
 use Rattle.ak_settled.specs.Settled.{version_of, standings_of}
 use Rattle.ak_settled.specs.SettledView.{NotedView}

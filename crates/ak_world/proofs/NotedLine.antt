@@ -10,7 +10,7 @@ use Rattle.ak_member.specs.Standing.{tombstone_of, is_gone}
 use Rattle.ak_history.specs.declared.entry.Entry.{Entry}
 use Rattle.ak_history.specs.History.{view}
 use Rattle.ak_history.specs.Shown.{IsRemoved}
-use Rattle.ak_schedule.specs.Settings.{SettingsModel}
+use Rattle.ak_settings.specs.Settings.{SettingsModel}
 use Rattle.ak_schedule.specs.declared.event.Event.{Event}
 use Rattle.ak_settled.specs.Settled.{is_finished, needed, candidate}
 use Rattle.ak_settled.specs.SettledView.{NotedView}

@@ -5,7 +5,7 @@ use Rattle.ak_line.specs.Moves as moves
 use Rattle.ak_line.specs.Moves.{Trial, Cluster}
 use Rattle.ak_line.specs.BallotOrder.{IsLater}
 use Rattle.ak_line.proofs.OneSingleton.{one_singleton}
-use Rattle.ak_schedule.specs.Settings.{SettingsModel}
+use Rattle.ak_settings.specs.Settings.{SettingsModel}
 use Rattle.ak_schedule.specs.declared.event.Event.{Event}
 use Rattle.ak_singleton.proofs.AsMoves.{HasPhase}
 use Rattle.ak_node.specs.declared.node.State.{State}

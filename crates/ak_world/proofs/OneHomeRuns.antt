@@ -21,7 +21,7 @@ use Rattle.ak_world.specs.declared.world.Reason.{Reason}
 use Rattle.ak_world.proofs.IndexLemmas.{push_at, set_at}
 use Rattle.ak_world.proofs.WhatHappened.{begins, steps, nobody, IsAnswer, happened}
 use Rattle.ak_region.specs.Marks.{marks_of}
-use Rattle.ak_schedule.specs.Settings.{SettingsModel}
+use Rattle.ak_settings.specs.Settings.{SettingsModel}
 use Rattle.ak_schedule.specs.declared.event.Event.{Event}
 use Rattle.ak_sharding.specs.Alive.{IsActive, Hosts}
 use Rattle.ak_sharding.proofs.NewEntities.{new_hosted}

@@ -18,7 +18,7 @@ use Rattle.ak_member.specs.Standing as standing
 use Rattle.ak_member.specs.View.{View}
 use Rattle.ak_history.specs.declared.entry.Entry.{Entry}
 use Rattle.ak_history.specs.Shown.{IsNamed}
-use Rattle.ak_schedule.specs.Settings.{SettingsModel, is_listed}
+use Rattle.ak_settings.specs.Settings.{SettingsModel, is_listed}
 use Rattle.ak_schedule.specs.declared.event.Event.{Event}
 use Rattle.ak_membership.specs.MembershipContracts.{IsMembership}
 use Rattle.ak_membership.specs.Knowledge.{Knowledge, Keeps, Updates, Accepts, made_by, HasMember, IsCause, IsLawful}

@@ -17,7 +17,7 @@ use Rattle.ak_converge.specs.Convergence.{is_settled}
 use Rattle.ak_history.specs.declared.entry.Entry.{Entry}
 use Rattle.ak_history.specs.History.{entries_of, IsNumbered, IsBounded, view}
 use Rattle.ak_history.specs.Shown.{IsNamed}
-use Rattle.ak_schedule.specs.Settings.{SettingsModel, settling_size}
+use Rattle.ak_settings.specs.Settings.{SettingsModel, settling_size}
 use Rattle.ak_membership.specs.Tick.{has_settled}
 use Rattle.ak_membership.specs.Knowledge.{Knowledge, Keeps, Updates, Accepts, made_by, HasMember, IsFounding, IsCause, IsLawful}
 use Rattle.ak_membership.proofs.Causes.{status_of, joining_member}

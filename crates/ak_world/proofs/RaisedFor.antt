@@ -10,7 +10,7 @@ use Rattle.ak_leader.specs.Led.{IsMemberWith}
 use Rattle.ak_history.specs.declared.entry.Entry.{Entry}
 use Rattle.ak_history.specs.History.{IsBounded, view}
 use Rattle.ak_history.specs.Shown.{Did, Rose, IsNamed}
-use Rattle.ak_schedule.specs.Settings.{SettingsModel, settling_size}
+use Rattle.ak_settings.specs.Settings.{SettingsModel, settling_size}
 use Rattle.ak_node.specs.declared.node.State.{State}
 use Rattle.ak_node.specs.Node.{me_of}
 use Rattle.ak_world.specs.Remembered.{Remembered}

@@ -12,7 +12,7 @@ use Rattle.ak_member.specs.declared.effect.Effect.TheVariants.{Joined, Rise}
 use Rattle.ak_history.specs.declared.entry.Entry.{Entry}
 use Rattle.ak_history.specs.History.{IsBounded}
 use Rattle.ak_history.specs.Shown.{IsNamed}
-use Rattle.ak_schedule.specs.Settings.{SettingsModel, settling_size}
+use Rattle.ak_settings.specs.Settings.{SettingsModel, settling_size}
 use Rattle.ak_schedule.specs.declared.event.Event.{Event}
 use Rattle.ak_node.specs.declared.node.State.{State}
 use Rattle.ak_node.specs.Node.{me_of, started}

@@ -2,7 +2,7 @@
 use Rattle.std.proofs.Common.{◌≡◌, List, [], ◌∷◌, ◌++◌, Option, Some, None, Result, Ok, Err, refl, ap, ◌∙◌}
 use Rattle.ak_address.specs.Unique.{UniqueModel}
 use Rattle.ak_clock.specs.Version.{Counts}
-use Rattle.ak_schedule.specs.Settings.{SettingsModel}
+use Rattle.ak_settings.specs.Settings.{SettingsModel}
 use Rattle.ak_schedule.specs.declared.event.Event.{Event}
 use Rattle.ak_history.specs.declared.entry.Entry.{Entry}
 use Rattle.ak_wire.specs.declared.action.Action.{Action}

@@ -15,7 +15,7 @@ use Rattle.ak_member.specs.Standing.{is_member}
 use Rattle.ak_gossip.specs.Gossip.{GossipState, nothing_known, accepted, noted, same, both, seen_by}
 use Rattle.ak_gossip.proofs.GossipLaws.{same_seen}
 use Rattle.ak_address.proofs.Elements.{contains_rest, first_or_rest, contains_nothing, contains_first}
-use Rattle.ak_schedule.specs.Settings.{SettingsModel}
+use Rattle.ak_settings.specs.Settings.{SettingsModel}
 use Rattle.ak_schedule.specs.declared.event.Event.{Event}
 use Rattle.ak_wire.specs.declared.envelope.Envelope.{Envelope}
 use Rattle.ak_wire.specs.Wire.{sent, gossip_of}

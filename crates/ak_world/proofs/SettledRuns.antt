@@ -4,7 +4,7 @@ use Rattle.ak_address.specs.Distinct.{distinct}
 use Rattle.ak_clock.specs.Version.{Counts}
 use Rattle.ak_converge.specs.Convergence.{is_settled}
 use Rattle.ak_schedule.specs.declared.event.Event.{Event}
-use Rattle.ak_schedule.specs.Settings.{SettingsModel, settling_size}
+use Rattle.ak_settings.specs.Settings.{SettingsModel, settling_size}
 use Rattle.ak_settled.specs.Settled.{version_of, ticked}
 use Rattle.ak_settled.specs.SettledView.{SettledView, SettledModel, NotedView}
 use Rattle.ak_node.specs.declared.node.State.{State}

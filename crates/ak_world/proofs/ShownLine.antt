@@ -22,7 +22,7 @@ use Rattle.ak_history.specs.Shown.{Did, IsRemoved, Stands}
 use Rattle.ak_history.proofs.HistoryLemmas.{number_range}
 use Rattle.ak_history.proofs.StandingsShown.{standings_shown}
 use Rattle.ak_line.specs.Grows.{Grows}
-use Rattle.ak_schedule.specs.Settings.{SettingsModel, settling_size}
+use Rattle.ak_settings.specs.Settings.{SettingsModel, settling_size}
 use Rattle.ak_schedule.specs.declared.event.Event.{Event}
 use Rattle.ak_settled.specs.Settled.{is_finished, needed, candidate, ticked}
 use Rattle.ak_settled.specs.SettledView.{SettledView, SettledModel, NotedView}

@@ -5,7 +5,7 @@ use Rattle.std.specs.Fmt.{decimal}
 use Rattle.ak_report.specs.ActionText.{actions_text}
 use Rattle.ak_world.specs.StepText.{summary_text, margin_text, double_text, IsSummary, step_text, delivery_text, shown, acting}
 use Rattle.ak_world.specs.declared.margin.Margin.{Margin}
-use Rattle.ak_schedule.specs.Settings.{SettingsModel}
+use Rattle.ak_settings.specs.Settings.{SettingsModel}
 use Rattle.ak_world.specs.Margin.{IsMargin}
 use Rattle.ak_world.specs.Double.{Doubled, IsFirstDouble}
 use Rattle.ak_world.specs.World.{WorldState, Done}

@@ -8,8 +8,7 @@ use Rattle.ak_wire.specs.declared.action.Action as action
 use Rattle.ak_node.specs.declared.node.State.{State}
 use Rattle.ak_node.specs.declared.node.NodeEvent.{NodeEvent}
 use Rattle.ak_node.specs.declared.node.NodeEvent as event
-use Rattle.ak_member.specs.Standing.{is_exiting}
-use Rattle.ak_membership.specs.Membership.{is_member_with}
+use Rattle.ak_member.specs.Standing.{is_exiting, is_member_with}
 use Rattle.ak_sharding.specs.Coordinates as coordinates
 use Rattle.ak_sharding.specs.Hosts as hosts
 use Rattle.ak_node.specs.Node.{Outcome, known, me_of, status_of, is_member, is_gone, nothing, and_then, shards_do, ends, beats, update_by, ticked, asks_at, asks_as, gossips, rest, ends_phase, may_leave, exits, leaves, goes_on, rule, closes, forgets, activates, concludes, is_dead, running_step, step}

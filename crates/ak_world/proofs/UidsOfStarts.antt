@@ -3,7 +3,7 @@ use Rattle.std.proofs.Common.{◌≡◌, ℕ, ◌+◌, ◌≤◌, leb, Bool, tru
 use Rattle.std.specs.List.{list_any}
 use Rattle.ak_address.specs.Unique.{UniqueModel}
 use Rattle.ak_address.proofs.Elements.{contains_first, contains_rest}
-use Rattle.ak_schedule.specs.Settings.{SettingsModel, is_listed}
+use Rattle.ak_settings.specs.Settings.{SettingsModel, is_listed}
 use Rattle.ak_schedule.specs.declared.event.Event.{Event}
 use Rattle.ak_schedule.specs.declared.event.Event.TheVariants.{Start, Found, Join, Tick, Deliver, Leave, Down, Offer, Stop}
 use Rattle.ak_wire.specs.declared.envelope.Envelope.{Envelope}

@@ -6,7 +6,7 @@ use Rattle.ak_address.specs.Unique.{UniqueModel}
 use Rattle.ak_address.specs.Counters.{Counters, counter}
 use Rattle.ak_address.proofs.Elements.{contains_left}
 use Rattle.ak_member.specs.Standing.{Standings, tombstone_of}
-use Rattle.ak_schedule.specs.Settings.{SettingsModel}
+use Rattle.ak_settings.specs.Settings.{SettingsModel}
 use Rattle.ak_schedule.specs.declared.event.Event.{Event}
 use Rattle.ak_settled.specs.Settled.{is_finished, ending, ticked, noted_as, after_note, counters_of, standings_of, IsCounting}
 use Rattle.ak_settled.specs.SettledView.{SettledView, SettledModel}

@@ -9,7 +9,7 @@ use Rattle.std.proofs.lemmas.List.{take_more, map-set}
 use Rattle.std.proofs.lemmas.List.Sums.{prefix_len-le-length}
 use Rattle.std.specs.List.{list_any, prefix_len, position_or_len}
 use Rattle.ak_address.specs.Unique.{AddressModel, UniqueModel}
-use Rattle.ak_schedule.specs.Settings.{SettingsModel, is_listed}
+use Rattle.ak_settings.specs.Settings.{SettingsModel, is_listed}
 use Rattle.ak_schedule.specs.declared.event.Event.{Event}
 use Rattle.ak_schedule.specs.declared.event.Event.TheVariants.{Start, Join}
 use Rattle.ak_history.specs.declared.entry.Entry.{Entry}

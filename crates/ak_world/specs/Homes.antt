@@ -3,7 +3,7 @@ use Rattle.std.specs.Prelude.{◌≡◌, ℕ, List, Some, IsTrue, slice_get}
 use Rattle.ak_coordinator.specs.Coordinator.{entry_of}
 use Rattle.ak_coordinator.specs.Table.{ShardTable}
 use Rattle.ak_region.specs.Marks.{marks_of}
-use Rattle.ak_schedule.specs.Settings.{SettingsModel}
+use Rattle.ak_settings.specs.Settings.{SettingsModel}
 use Rattle.ak_schedule.specs.declared.event.Event.{Event}
 use Rattle.ak_sharding.specs.Alive.{Hosts}
 use Rattle.ak_node.specs.declared.node.State.{State}

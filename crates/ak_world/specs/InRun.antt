@@ -12,7 +12,7 @@ use Rattle.ak_member.specs.View.{Row}
 use Rattle.ak_gossip.specs.Gossip.{GossipState, is_known}
 use Rattle.ak_history.specs.declared.entry.Entry.{Entry}
 use Rattle.ak_history.specs.History.{IsBounded, view}
-use Rattle.ak_schedule.specs.Settings.{SettingsModel, is_listed}
+use Rattle.ak_settings.specs.Settings.{SettingsModel, is_listed}
 use Rattle.ak_schedule.specs.declared.event.Event.{Event}
 use Rattle.ak_settled.specs.SettledView.{NotedView}
 use Rattle.ak_wire.specs.declared.envelope.Envelope.{Envelope}

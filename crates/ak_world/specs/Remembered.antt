@@ -3,7 +3,7 @@
 use Rattle.std.specs.Prelude.{◌+◌, List, [], ◌∷◌, map, slice_get, Option, Some, None, option_and_then, Result, Ok, Err, IsTrue, Contains}
 use Rattle.ak_address.specs.Unique.{UniqueModel}
 use Rattle.ak_clock.specs.Version.{Counts, Covers}
-use Rattle.ak_schedule.specs.Settings.{SettingsModel}
+use Rattle.ak_settings.specs.Settings.{SettingsModel}
 use Rattle.ak_schedule.specs.declared.event.Event.{Event}
 use Rattle.ak_history.specs.declared.entry.Entry.{Entry}
 use Rattle.ak_history.specs.History.{entries_of, is_covered}

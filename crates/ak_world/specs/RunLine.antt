@@ -9,7 +9,7 @@ use Rattle.ak_history.specs.declared.entry.Entry.{Entry}
 use Rattle.ak_history.specs.Shown.{Rose, IsRemoved}
 use Rattle.ak_line.specs.Line.{Line}
 use Rattle.ak_schedule.specs.declared.event.Event.{Event}
-use Rattle.ak_schedule.specs.Settings.{SettingsModel}
+use Rattle.ak_settings.specs.Settings.{SettingsModel}
 use Rattle.ak_world.specs.World.{run}
 use Rattle.ak_world.specs.SettledLine.{WasSettled}
 

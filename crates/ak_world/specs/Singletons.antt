@@ -2,7 +2,7 @@
 -- what it tells is this project's choice).
 use Rattle.std.specs.Prelude.{◌≡◌, ◌⊎◌, ℕ, ◌<◌, List, slice_get, Some, Contains, IsTrue}
 use Rattle.ak_address.specs.Unique.{UniqueModel}
-use Rattle.ak_schedule.specs.Settings.{SettingsModel}
+use Rattle.ak_settings.specs.Settings.{SettingsModel}
 use Rattle.ak_schedule.specs.declared.event.Event.{Event}
 use Rattle.ak_settled.specs.Settled.{is_finished}
 use Rattle.ak_singleton.specs.declared.phase.Phase.TheVariants.{Active}

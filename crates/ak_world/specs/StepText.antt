@@ -16,7 +16,7 @@ use Rattle.ak_world.specs.declared.margin.Margin.{Margin}
 use Rattle.ak_world.specs.declared.margin.Margin.TheVariants.{Kept, Broken}
 use Rattle.ak_world.specs.Margin.{IsMargin}
 use Rattle.ak_world.specs.Double.{Doubled, IsFirstDouble}
-use Rattle.ak_schedule.specs.Settings.{SettingsModel}
+use Rattle.ak_settings.specs.Settings.{SettingsModel}
 use Rattle.ak_world.specs.World.{WorldState, Done, packet_at}
 
 -- to whom a packet was given, what it is and from whom

@@ -1,8 +1,8 @@
 -- Two runs, as they are worked by hand: a process becomes active alone; and of three one becomes active after another.
 use Rattle.std.specs.Prelude.{ℕ, List, [], ◌∷◌, codes}
 use Rattle.ak_address.specs.Unique.{AddressModel, UniqueModel}
-use Rattle.ak_schedule.specs.Settings.{SettingsModel}
-use Rattle.ak_schedule.specs.declared.settings.Strategy.TheVariants.{StaticQuorum}
+use Rattle.ak_settings.specs.Settings.{SettingsModel}
+use Rattle.ak_settings.specs.declared.settings.Strategy.TheVariants.{StaticQuorum}
 use Rattle.ak_schedule.specs.declared.event.Event.{Event}
 use Rattle.ak_schedule.specs.declared.event.Event.TheVariants.{Start, Found, Join, Tick, Deliver, Leave}
 

@@ -4,7 +4,7 @@ ghost use Rattle.ak_address.specs.Uniques.{has};
 ghost use Rattle.ak_clock.specs.Version.{Counts, count, Covers};
 ghost use Rattle.ak_member.specs.declared.effect.Effect.{Effect};
 ghost use Rattle.ak_wire.specs.declared.action.Action.TheVariants.{Update, MarginEnd};
-ghost use Rattle.ak_schedule.specs.Settings.{SettingsModel, settling_size};
+ghost use Rattle.ak_settings.specs.Settings.{SettingsModel, settling_size};
 ghost use Rattle.ak_schedule.specs.declared.event.Event.{Event};
 ghost use Rattle.ak_node.specs.declared.node.State.{State};
 ghost use Rattle.ak_node.specs.Node.{known, me_of, settled_of, margin_of};

@@ -6,6 +6,7 @@ mod kept;
 mod laws;
 mod margin;
 mod print;
+mod seek;
 mod world;
 
 pub use double::Double;

@@ -6,7 +6,6 @@ ghost use Rattle.ak_world.specs.Margin.{IsMargin};
 ghost use Rattle.ak_world.specs.Singletons.{FinishedHaveStopped, OneIsActive};
 ghost use Rattle.ak_world.specs.declared.margin.Margin.TheVariants.{Kept};
 ghost use Rattle.ak_world.specs.MarginMark as mark;
-ghost use Rattle.std.specs.List.{list_any, position};
 ghost use Rattle.ak_address.specs.Unique.{IsUnique, UniqueModel};
 ghost use Rattle.ak_address.specs.Uniques.{has};
 ghost use Rattle.ak_clock.specs.Version.{Counts, Covers};
@@ -19,26 +18,28 @@ ghost use Rattle.ak_settled.specs.SettledView.{NotedView};
 ghost use Rattle.ak_node.specs.declared.node.State.{State};
 ghost use Rattle.ak_world.specs.InRun.{WasStarted, HasStopped, AllServe, RunAlone, IsConfirmed, IsNamedIn, IsSettled, HasNoted};
 ghost use Rattle.ak_world.specs.SettledLine.{WasSettled, IsOverHalf, AreInLine};
-ghost use Rattle.ak_schedule.specs.Settings.{settling_size};
+ghost use Rattle.ak_settings.specs.Settings.{settling_size};
 ghost use Rattle.ak_node.specs.Node as rules_of_nodes;
 ghost use Rattle.ak_node.specs.Sends.{AreValid, ComesValid};
 ghost use Rattle.ak_world.specs.Double.{IsFirstDouble};
 ghost use Rattle.ak_world.specs.Homes.{HasOneHome};
 ghost use Rattle.ak_world.specs.WorldContracts.{AreSpelled, Applies, Scenes, IsNoMemory, IsReady, Acts, Keeps, states, state_of, doubled_of};
 ghost use Rattle.ak_world.specs.DoubleMark.{NextDouble};
-ghost use Rattle.ak_node.specs.NodeContracts.{NodeModel};
 
 use crate::double::{Double, first_made};
 use crate::kept::KeptEvent;
 use crate::margin::{Margin, first_end};
+use crate::seek::{is_in_use, node_of, receiver_of};
 use ak_address::{Address, Unique};
 use ak_field::EntityId;
 use ak_history::History;
-use ak_node::{Node, NodeEvent, is_for};
-use ak_schedule::{Event, Settings};
+use ak_node::{Node, NodeEvent};
+use ak_schedule::Event;
+use ak_settings::Settings;
 use ak_wire::{Action, Actions, Envelope, Packet};
 use std::alloc::{AllocError, AllocFailed, Global};
 use std::marker::Model;
+use std::rc::Rc;
 
 /// Why an event may not happen in a world. The first reason that applies is the answer.
 #[derive(Clone, Copy, Debug, PartialEq, Eq)]
@@ -92,50 +93,11 @@ const MOST_PACKETS: usize = 200_000;
 pub(crate) struct Scene {
     settings: Settings,
     nodes: Vec<Node>,
+    // The processes of the nodes, by their start numbers: kept events share them. No contract speaks of them.
+    names: Vec<Rc<Unique>>,
     packets: Vec<Packet>,
     history: History,
     founded: bool,
-}
-
-// Which node the process is.
-fn node_of(nodes: &[Node], who: &Unique) -> Option<usize>
-    ensures { result ≡ position (λ (n : NodeModel). rules.is_process who.now n.state) nodes.now }
-{
-    nodes.iter().position(|node| node.me().is(who))
-}
-
-// The node runs, and the packet is for it.
-fn is_reached(node: &Node, envelope: &Envelope) -> bool
-    ensures { result ≡ rules.is_reached envelope.now node.now.state }
-{
-    if node.stopped() {
-        return false;
-    }
-    is_for(node.me(), envelope)
-}
-
-// Which node the packet reaches.
-fn receiver_of(nodes: &[Node], envelope: &Envelope) -> Option<usize>
-    ensures { result ≡ position (λ (n : NodeModel). rules.is_reached envelope.now n.state) nodes.now }
-{
-    nodes.iter().position(|node| is_reached(node, envelope))
-}
-
-// The node runs at the address.
-fn runs_at(node: &Node, address: &Address) -> bool
-    ensures { result ≡ rules.runs_at address.now node.now.state }
-{
-    if node.stopped() {
-        return false;
-    }
-    node.me().address.is(address)
-}
-
-// A node runs at the address.
-fn is_in_use(nodes: &[Node], address: &Address) -> bool
-    ensures { result ≡ list_any (λ (n : NodeModel). rules.runs_at address.now n.state) nodes.now }
-{
-    nodes.iter().any(|node| runs_at(node, address))
 }
 
 impl Scene {
@@ -168,6 +130,7 @@ impl Scene {
     {
         let index = self.nodes.len();
         let me = who.copy(alloc)?;
+        self.names.push(shared_name(alloc, who)?)?;
         let node = Node::start(alloc, me, &self.settings)?;
         self.nodes.push(node)?;
         Ok(Step {
@@ -185,7 +148,7 @@ impl Scene {
         if self.founded {
             return Err(Refused::Invalid(Reason::SecondFound));
         }
-        match self.act(alloc, who, NodeEvent::Found) {
+        match self.act(alloc, who, &NodeEvent::Found) {
             Ok(step) => {
                 self.founded = true;
                 Ok(step)
@@ -207,7 +170,23 @@ impl Scene {
             Err(why) => return Err(Refused::Invalid(why)),
         };
         let target = target.copy(alloc)?;
-        self.give(alloc, index, NodeEvent::Join(target))
+        self.give(alloc, index, &NodeEvent::Join(target))
+    }
+
+    fn tick(&mut self, alloc: Global, who: &Unique, word: u32) -> Result<Step, Refused>
+        requires ready { IsReady (state_of self.old) }
+        ensures settings { self.new.settings ≡ self.old.settings }
+        ensures scenes { Scenes (state_of self.old) (rules.happens self.old.settings (Event.Tick who.now word) (state_of self.old)) result (state_of self.new) }
+    {
+        self.act(alloc, who, &NodeEvent::Tick(word))
+    }
+
+    fn stop(&mut self, alloc: Global, who: &Unique) -> Result<Step, Refused>
+        requires ready { IsReady (state_of self.old) }
+        ensures settings { self.new.settings ≡ self.old.settings }
+        ensures scenes { Scenes (state_of self.old) (rules.happens self.old.settings (Event.Stop who.now) (state_of self.old)) result (state_of self.new) }
+    {
+        self.act(alloc, who, &NodeEvent::Stop)
     }
 
     fn leave(&mut self, alloc: Global, who: &Unique, member: &Unique) -> Result<Step, Refused>
@@ -220,7 +199,7 @@ impl Scene {
             Err(why) => return Err(Refused::Invalid(why)),
         };
         let member = member.copy(alloc)?;
-        self.give(alloc, index, NodeEvent::Leave(member))
+        self.give(alloc, index, &NodeEvent::Leave(member))
     }
 
     fn down(&mut self, alloc: Global, who: &Unique, member: &Unique) -> Result<Step, Refused>
@@ -233,7 +212,7 @@ impl Scene {
             Err(why) => return Err(Refused::Invalid(why)),
         };
         let member = member.copy(alloc)?;
-        self.give(alloc, index, NodeEvent::Down(member))
+        self.give(alloc, index, &NodeEvent::Down(member))
     }
 
     fn offer(
@@ -252,7 +231,7 @@ impl Scene {
             Err(why) => return Err(Refused::Invalid(why)),
         };
         let entity = entity.copy(alloc)?;
-        self.give(alloc, index, NodeEvent::Offer(entity, payload))
+        self.give(alloc, index, &NodeEvent::Offer(entity, payload))
     }
 
     fn deliver(&mut self, alloc: Global, number: u64) -> Result<Step, Refused>
@@ -275,7 +254,7 @@ impl Scene {
                 actions: Actions::empty(alloc),
             });
         };
-        let actions = self.nodes[index].receive(alloc, packet.envelope())?;
+        let actions = self.nodes[index].receive_own(alloc, packet.envelope())?;
         self.keep(alloc, index, actions)
     }
 
@@ -303,11 +282,11 @@ impl Scene {
     }
 
     // The process is given an event.
-    fn act(&mut self, alloc: Global, who: &Unique, event: NodeEvent) -> Result<Step, Refused>
+    fn act(&mut self, alloc: Global, who: &Unique, event: &NodeEvent) -> Result<Step, Refused>
         requires ready { IsReady (state_of self.old) }
-        requires comes { ComesValid event }
+        requires comes { ComesValid event.now }
         ensures settings { self.new.settings ≡ self.old.settings }
-        ensures scenes { Scenes (state_of self.old) (rules.acts event (rules.node_of who.now (state_of self.old)) (state_of self.old)) result (state_of self.new) }
+        ensures scenes { Scenes (state_of self.old) (rules.acts event.now (rules.node_of who.now (state_of self.old)) (state_of self.old)) result (state_of self.new) }
     {
         match self.actor(who) {
             Ok(index) => return self.give(alloc, index, event),
@@ -316,14 +295,14 @@ impl Scene {
     }
 
     // The node at an index is given an event; what it sends and updates is kept.
-    fn give(&mut self, alloc: Global, index: usize, event: NodeEvent) -> Result<Step, Refused>
+    fn give(&mut self, alloc: Global, index: usize, event: &NodeEvent) -> Result<Step, Refused>
         requires ready { IsReady (state_of self.old) }
         requires index { index < length self.old.nodes.items }
-        requires comes { ComesValid event }
+        requires comes { ComesValid event.now }
         ensures settings { self.new.settings ≡ self.old.settings }
-        ensures scenes { Scenes (state_of self.old) (rules.gives event index (slice_get (state_of self.old).nodes index) (state_of self.old)) result (state_of self.new) }
+        ensures scenes { Scenes (state_of self.old) (rules.gives event.now index (slice_get (state_of self.old).nodes index) (state_of self.old)) result (state_of self.new) }
     {
-        let actions = self.nodes[index].step(alloc, event)?;
+        let actions = self.nodes[index].step_on(alloc, event)?;
         self.keep(alloc, index, actions)
     }
 
@@ -361,12 +340,12 @@ impl Scene {
             Event::Start(who) => self.start(alloc, who),
             Event::Found(who) => self.found(alloc, who),
             Event::Join(who, target) => self.join(alloc, who, target),
-            Event::Tick(who, word) => self.act(alloc, who, NodeEvent::Tick(*word)),
+            Event::Tick(who, word) => self.tick(alloc, who, *word),
             Event::Deliver(number) => self.deliver(alloc, *number),
             Event::Leave(who, member) => self.leave(alloc, who, member),
             Event::Down(who, member) => self.down(alloc, who, member),
             Event::Offer(who, entity, payload) => self.offer(alloc, who, entity, *payload),
-            Event::Stop(who) => self.act(alloc, who, NodeEvent::Stop),
+            Event::Stop(who) => self.stop(alloc, who),
         }
     }
 
@@ -376,6 +355,7 @@ impl Scene {
         ensures empty { state_of self.new ≡ rules.empty_world }
     {
         self.nodes.clear();
+        self.names.clear();
         self.packets.clear();
         self.history = History::empty(alloc);
         self.founded = false;
@@ -421,12 +401,23 @@ impl Scene {
         }
     }
 
+    // The process of the node that acted, to be shared, where one did.
+    fn name_of(&self, node: Option<u32>) -> Option<&Rc<Unique>> {
+        self.names.get(node? as usize)
+    }
+
     // The number of the next packet that is sent.
     fn next_packet(&self) -> u64
         ensures { result ≡ length self.now.packets.items + 1 }
     {
         self.packets.len() as u64 + 1
     }
+}
+
+// A process, to be shared.
+fn shared_name(alloc: Global, who: &Unique) -> Result<Rc<Unique>, AllocError> {
+    let name = who.copy(alloc)?;
+    Ok(Rc::new(alloc, name)?)
 }
 
 // The packet of a number from 1 on.
@@ -497,12 +488,17 @@ impl<T: Drop> From<AllocFailed<T>> for Refused {
     }
 }
 
-// An event is added to the accepted ones. An error leaves them as they were.
-fn keep_event(alloc: Global, event: &Event, accepted: &mut Vec<KeptEvent>) -> Result<(), AllocError>
+// An event is added to the accepted ones; a tick shares this name, where it is its process. An error leaves them as they were.
+fn keep_event(
+    alloc: Global,
+    event: &Event,
+    name: Option<&Rc<Unique>>,
+    accepted: &mut Vec<KeptEvent>,
+) -> Result<(), AllocError>
     ensures ok { OnOk result (accepted.new.items ≡ accepted.old.items ++ event.now ∷ []) }
     ensures err { OnErr result (accepted.new.items ≡ accepted.old.items) }
 {
-    let kept = KeptEvent::of(alloc, event)?;
+    let kept = KeptEvent::of(alloc, event, name)?;
     accepted.push(kept)?;
     Ok(())
 }
@@ -532,12 +528,15 @@ fn keep_step(
     ensures same { OnErr result (marks.new ≡ marks.old) }
 {
     let number = count_of(accepted) + 1;
+    let name = scene.name_of(step.node);
     if marks.double.is_none() {
         let double = scene.double_at(alloc, number, step)?;
-        keep_event(alloc, event, accepted)?;
-        marks.double = double;
+        keep_event(alloc, event, name, accepted)?;
+        if let Some(double) = double {
+            marks.double = Some(double);
+        }
     } else {
-        keep_event(alloc, event, accepted)?;
+        keep_event(alloc, event, name, accepted)?;
     }
     marks.margin = scene.marked(marks.margin, number, step);
     Ok(())
@@ -580,7 +579,7 @@ pub struct World {
 impl Model for World {
     ghost use Rattle.std.specs.Coded.{codes};
     ghost use Rattle.ak_address.specs.Unique.{coded_address, coded_unique};
-    ghost use Rattle.ak_schedule.specs.Settings.{coded_settings};
+    ghost use Rattle.ak_settings.specs.Settings.{coded_settings};
     ghost use Rattle.ak_gossip.specs.Gossip.{coded_gossip};
     ghost use Rattle.ak_member.specs.View.{coded_uniques};
     ghost use Rattle.ak_membership.specs.contracts.membership.Membership as membership;
@@ -609,6 +608,7 @@ impl World {
         let scene = Scene {
             settings,
             nodes: Vec::new(alloc),
+            names: Vec::new(alloc),
             packets: Vec::new(alloc),
             history: History::empty(alloc),
             founded: false,

@@ -1,13 +1,18 @@
 ghost use Rattle.std.specs.Prelude.{◌<◌, length};
 
 use crate::margin::margin_after;
-use crate::story::{Headers, Story, is_so};
+use crate::story::{Cluster, Story, is_so};
+use ak_settings::Strategy;
 use ak_world::{Double, World};
 use std::alloc::Global;
 use std::test::Fail;
 
 // Each side of a split goes on.
-pub(crate) const HEADERS: Headers = ["listed a:1 b:1", "strategy static-quorum 1", "deadline 1"];
+pub(crate) const CLUSTER: Cluster = Cluster {
+    hosts: "ab",
+    strategy: Strategy::StaticQuorum(1),
+    deadline: 1,
+};
 
 // a founds, is active, and starts an entity; b joins, comes Up, downs a, which does not hear of it, and is active too.
 static ACTIVE: [&str; 21] = [

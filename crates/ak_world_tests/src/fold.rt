@@ -1,18 +1,19 @@
 ghost use Rattle.std.specs.Prelude.{◌+◌, ◌<◌, length};
 
-use crate::story::{FIRST_JOIN, Headers, Story, TWO_UPDATES_MERGE, apply_line, is_so};
+use crate::story::{Cluster, FIRST_JOIN, Story, TWO_UPDATES_MERGE, apply_line, is_so};
 use ak_gossip::Gossip;
 use ak_history::View;
+use ak_settings::Strategy;
 use ak_wire::Message;
 use ak_world::World;
 use std::alloc::{AllocError, Global};
 use std::test::Fail;
 
-pub(crate) const HEADERS: Headers = [
-    "listed a:1 b:1 c:1 d:1",
-    "strategy static-quorum 3",
-    "deadline 9",
-];
+pub(crate) const CLUSTER: Cluster = Cluster {
+    hosts: "abcd",
+    strategy: Strategy::StaticQuorum(3),
+    deadline: 9,
+};
 
 // The members and tombstones of a gossip are those of the view, and it has as many rows.
 fn same(view: &View, gossip: &Gossip) -> bool {

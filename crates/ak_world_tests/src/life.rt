@@ -1,14 +1,19 @@
 ghost use Rattle.std.specs.Prelude.{◌+◌, ◌<◌, ◌≤◌, length, OnOk};
 
-use crate::story::{Headers, Outcome, Row, Story, is_so, rows_that_go, try_line};
+use crate::story::{Cluster, Outcome, Row, Story, is_so, rows_that_go, try_line};
 use ak_address::{Unique, parse_unique};
 use ak_member::{Standing, Status};
+use ak_settings::Strategy;
 use ak_world::{Reason, World};
 use std::alloc::Global;
 use std::test::Fail;
 
 // One member is enough for a settled view.
-pub(crate) const HEADERS: Headers = ["listed a:1 b:1 c:1", "strategy down-all", "deadline 9"];
+pub(crate) const CLUSTER: Cluster = Cluster {
+    hosts: "abc",
+    strategy: Strategy::DownAll,
+    deadline: 9,
+};
 
 // What is known of a process.
 const NOTHING: Option<Standing> = None;

@@ -1,16 +1,25 @@
 ghost use Rattle.std.specs.Prelude.{◌+◌, ◌<◌, ◌≤◌, length, OnOk};
 
-use crate::story::{Headers, Row, Story, apply_line, is_so, rows_that_go};
+use crate::story::{Cluster, Row, Story, apply_line, is_so, rows_that_go};
 use ak_address::{Unique, parse_unique};
+use ak_settings::Strategy;
 use ak_world::World;
 use std::alloc::Global;
 use std::test::Fail;
 
 // One member is enough for a settled view, and there is one address.
-pub(crate) const ALONE: Headers = ["listed a:1", "strategy static-quorum 1", "deadline 9"];
+pub(crate) const ALONE: Cluster = Cluster {
+    hosts: "a",
+    strategy: Strategy::StaticQuorum(1),
+    deadline: 9,
+};
 
 // Both members are needed for a settled view.
-pub(crate) const BOTH: Headers = ["listed a:1 b:1", "strategy static-quorum 2", "deadline 9"];
+pub(crate) const BOTH: Cluster = Cluster {
+    hosts: "ab",
+    strategy: Strategy::StaticQuorum(2),
+    deadline: 9,
+};
 
 // How many updates of a:1#1 and of b:1#1 a version counts.
 #[derive(Clone, Copy, PartialEq, Eq)]

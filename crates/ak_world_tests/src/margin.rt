@@ -1,12 +1,17 @@
 ghost use Rattle.std.specs.Prelude.{◌+◌, ◌<◌, ◌≤◌, length, IfOk};
 
-use crate::story::{Headers, Story, apply_line, is_so};
+use crate::story::{Cluster, Story, apply_line, is_so};
+use ak_settings::Strategy;
 use ak_world::{Margin, World};
 use std::alloc::Global;
 use std::test::Fail;
 
 // A tombstone waits for two ticks.
-pub(crate) const HEADERS: Headers = ["listed a:1 b:1", "strategy down-all", "deadline 1"];
+pub(crate) const CLUSTER: Cluster = Cluster {
+    hosts: "ab",
+    strategy: Strategy::DownAll,
+    deadline: 1,
+};
 
 // a founds, b joins, both are Up, and b downs a, which does not hear of it.
 static DOWNED: [&str; 11] = [

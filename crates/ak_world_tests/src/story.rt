@@ -2,37 +2,37 @@ ghost use Rattle.std.specs.Prelude.{◌+◌, ◌<◌, ◌≤◌, length, OnOk};
 
 // The stories of all tests of worlds, and how one goes.
 use crate::{double, fold, life, line, margin, seen};
-use ak_schedule::{Draft, Event, LineFault, Settings, read_line};
+use ak_address::{Address, parse_address};
+use ak_schedule::{Event, LineFault, read_line};
+use ak_settings::{Settings, Strategy};
 use ak_world::{Reason, Refused, World};
 use std::alloc::Global;
 use std::test::Fail;
 
-// The headers in which the stories differ: the listed addresses, the strategy and the deadline.
-pub(crate) type Headers = [&'static str; 3];
-
-fn all_headers(headers: Headers) -> [&'static str; 9] {
-    let [listed, strategy, deadline] = headers;
-    [
-        listed,
-        strategy,
-        "margin 2",
-        deadline,
-        "stable 9",
-        "shards 10",
-        "buffer 2",
-        "threshold 1",
-        "limit 1",
-    ]
+// In what the settings of the stories differ: the hosts whose port 1 is listed, the strategy and the deadline.
+#[derive(Clone, Copy)]
+pub(crate) struct Cluster {
+    pub(crate) hosts: &'static str,
+    pub(crate) strategy: Strategy,
+    pub(crate) deadline: u32,
 }
 
-fn settings_of(alloc: Global, headers: Headers) -> Result<Settings, Fail> {
-    let mut draft = Draft::new(alloc);
-    'headers: for line in all_headers(headers) {
-        if draft.header(alloc, line.as_bytes())? {
-            return Ok(draft.finish().map_err(|_| "a header is missing")?);
-        }
+fn listed(alloc: Global, hosts: &str) -> Result<Vec<Address>, Fail> {
+    let mut listed = Vec::new(alloc);
+    'hosts: for host in hosts.as_bytes() {
+        listed.push(parse_address(alloc, &[*host, b':', b'1'])?)?;
     }
-    Err("a header is missing")?
+    Ok(listed)
+}
+
+fn settings_of(alloc: Global, cluster: Cluster) -> Result<Settings, Fail> {
+    let listed = listed(alloc, cluster.hosts)?;
+    let made = Settings::of_membership(listed, cluster.strategy, 2, cluster.deadline, 9);
+    let mut settings = made.ok_or("the settings are out of range")?;
+    settings.shards = 10;
+    settings.buffer = 2;
+    settings.limit = 1;
+    Ok(settings)
 }
 
 // What comes of an event: the node that acts, or why it is refused.
@@ -157,14 +157,14 @@ pub(crate) enum Story {
     IsDowned,
 }
 
-fn headers(story: Story) -> Headers {
+fn cluster(story: Story) -> Cluster {
     match story {
-        Story::EndsTooEarly | Story::StopsInTime | Story::IsTold => margin::HEADERS,
-        Story::StartsTwice => double::HEADERS,
+        Story::EndsTooEarly | Story::StopsInTime | Story::IsTold => margin::CLUSTER,
+        Story::StartsTwice => double::CLUSTER,
         Story::FounderLeaves => line::ALONE,
         Story::BothRise => line::BOTH,
-        Story::Leaves | Story::IsReplaced | Story::IsDowned => life::HEADERS,
-        _ => fold::HEADERS,
+        Story::Leaves | Story::IsReplaced | Story::IsDowned => life::CLUSTER,
+        _ => fold::CLUSTER,
     }
 }
 
@@ -192,6 +192,6 @@ fn goes_so(alloc: Global, world: &mut World, story: Story) -> Result<bool, Fail>
 // Whether the story goes so in a new world. A function that owns a world is proved to let it go at each of its ends, which takes
 // long, so this one alone owns one, and the others borrow it.
 pub(crate) fn is_so(alloc: Global, story: Story) -> Result<bool, Fail> {
-    let mut world = World::new(alloc, settings_of(alloc, headers(story))?);
+    let mut world = World::new(alloc, settings_of(alloc, cluster(story))?);
     goes_so(alloc, &mut world, story)
 }

@@ -8,26 +8,14 @@ ghost use Rattle.std.specs.Prelude.{◌<◌, ◌^◌};
 ghost use Rattle.ak_node.specs.Sends.{ComesValid};
 ghost use Rattle.ak_wire.specs.Datagram.{IsValid};
 
-use ak_address::{Address, parse_unique};
+use ak_address::{Address, Unique, parse_address, parse_unique};
 use ak_node::{Action, Actions, Node, NodeEvent, is_for};
 use ak_outside::{Sink, StdSink};
-use ak_schedule::{Draft, Settings};
+use ak_settings::{Settings, Strategy};
 use ak_wire::{Envelope, decode, encode, valid};
 use std::alloc::{AllocError, AllocFailed, Global};
 use std::process::ExitCode;
 use words::{tell_loss, tell_update};
-
-static SETTINGS: [&[u8]; 9] = [
-    b"listed a:1 b:1 c:1",
-    b"strategy static-quorum 2",
-    b"margin 5",
-    b"deadline 3",
-    b"stable 4",
-    b"shards 10",
-    b"buffer 10",
-    b"threshold 1",
-    b"limit 1",
-];
 
 static PROCESSES: [&[u8]; 3] = [b"a:1#1", b"b:1#1", b"c:1#1"];
 
@@ -56,16 +44,27 @@ impl<T: Drop> From<AllocFailed<T>> for Fault {
     }
 }
 
-fn settings(alloc: Global) -> Result<Settings, Fault> {
-    let mut draft = Draft::new(alloc);
-    'lines: for line in &SETTINGS {
-        match draft.header(alloc, line) {
-            Ok(false) => {}
-            Ok(true) => return draft.finish().map_err(|_| Fault),
-            Err(_) => return Err(Fault),
-        }
+// The addresses of the processes.
+fn listed(alloc: Global) -> Result<Vec<Address>, Fault> {
+    let mut listed = Vec::new(alloc);
+    'processes: for process in &PROCESSES {
+        let Unique { address, uid: _ } = parse_unique(alloc, process).map_err(|_| Fault)?;
+        listed.push(address)?;
     }
-    Err(Fault)
+    Ok(listed)
+}
+
+// A side with two of the three addresses goes on. A removed process counts as stopped after 5 ticks, one that is silent for 3 is
+// unreachable, and a side is decided upon after 4 in which nothing changed.
+fn settings(alloc: Global) -> Result<Settings, Fault> {
+    match Settings::of_membership(listed(alloc)?, Strategy::StaticQuorum(2), 5, 3, 4) {
+        Some(mut settings) => {
+            // Nothing is put into a shard here, so there are few.
+            settings.shards = 10;
+            Ok(settings)
+        }
+        None => Err(Fault),
+    }
 }
 
 fn start(alloc: Global, settings: &Settings, process: &[u8]) -> Result<Node, Fault> {

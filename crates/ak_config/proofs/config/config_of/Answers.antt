@@ -1,4 +1,4 @@
-use Rattle.ak_config.proofs.Different.{different_pairs}
+use Rattle.ak_settings.proofs.Different.{different_pairs}
 use Rattle.ak_config.proofs.config.config_of.Goals as goal
 
 pub invariant_of-settings : goal.invariant_of-settings

@@ -1,5 +1,5 @@
 use Rattle.std.proofs.Common.{sym, subst}
-use Rattle.ak_schedule.specs.Settings.{IsSettings}
+use Rattle.ak_settings.specs.Settings.{IsSettings}
 use Rattle.ak_generate.specs.Fixed.{fixed}
 use Rattle.ak_generate.proofs.GenerateLemmas.{fixed_are_settings}
 use Rattle.ak_generate.proofs.settings.fixed_settings.Goals as goal

@@ -1,5 +1,5 @@
 use Rattle.std.proofs.Common.{◌≡◌, [], ◌+◌, ◌-◌, ℕ, Bool, false, refl, sym, ap, ◌∙◌, subst, arith}
-use Rattle.ak_schedule.specs.Settings.{SettingsModel}
+use Rattle.ak_settings.specs.Settings.{SettingsModel}
 use Rattle.ak_world.specs.World.{empty_world}
 use Rattle.ak_world.specs.WorldContracts.{WorldModel}
 use Rattle.ak_sweeps.specs.GeneratedRun.{sight_of}

@@ -4,7 +4,8 @@ use Rattle.ak_wire.proofs.reading.decode.Goals as goal
 
 pub returns : goal.returns
 returns c = record {
-  read = c.read.ensures;
-  spelled = spelled_of c.read.result c.args.bytes.now (λ i. omega (arith, c.type_inv.bytes i)) c.read.ensures;
-  only = only_of c.read.result c.args.bytes.now c.read.ensures;
+  read = c.read.ensures.read;
+  spelled = spelled_of c.read.result c.args.bytes.now (λ i. omega (arith, c.type_inv.bytes i)) c.read.ensures.read;
+  only = only_of c.read.result c.args.bytes.now c.read.ensures.read;
+  memory = c.read.ensures.memory;
 }

@@ -1,20 +1,25 @@
-use Rattle.std.proofs.Common.{subst, sym, true≢false}
+use Rattle.std.proofs.Common.{subst, sym, ◌∙◌, true≢false}
 use Rattle.ak_membership.specs.Knowledge.{nothing_given}
 use Rattle.ak_membership.specs.declared.state.MembershipState.{MembershipState}
 use Rattle.ak_membership.specs.Membership.{leave}
 use Rattle.ak_membership.specs.MembershipContracts.{IsSameProcess, Answers, IsAccepted, IsCounting}
 use Rattle.ak_membership.proofs.MembershipLemmas.{answered_keeps, answered_same}
+use Rattle.ak_membership.proofs.RestLemmas.{rests_left}
 use Rattle.ak_membership.proofs.Walk.{leave_learns}
 use Rattle.ak_membership.proofs.membership.Membership.leave.Goals as goal
+use Rattle.ak_membership.proofs.membership.Membership.leave.Goals.{then-self, else-self}
 
 pub invariant_of-self : goal.invariant_of-self
 invariant_of-self c = (
-  answered_keeps c.self.inside.state c.leave.new.self c.self.invariant.0 nothing_given _ _ c.leave.result (leave_learns nothing_given c.self.inside.state c.args.who.now) c.leave.ensures,
-  λ is. absurd (true≢false (sym is)),
+  answered_keeps c.self.inside.state c.leave-done.new.self c.self.invariant.0 nothing_given _ _ c.leave-done.result (leave_learns nothing_given c.self.inside.state c.args.who.now) c.leave-done.ensures,
+  λ rests. elim c.if-self.branch [
+    | then-self w ↦ rests_left c.args.who.now c.self.inside.state c.leave-done.new.self _ c.leave-done.result c.leave-done.ensures (sym w.makes_none-self-inside.ensures ∙ sym w.self-is ∙ rests) (c.self.invariant.1 w.if-self.true)
+    | else-self w ↦ absurd (true≢false (sym rests ∙ w.self-is ∙ w.if-self.false))
+  ],
 )
 
 pub returns-clause-answers : goal.returns-clause-answers
-returns-clause-answers c = subst (λ (m : MembershipState). Answers (IsCounting m × IsAccepted (leave c.args.who.now m)) (leave c.args.who.now m) m c.leave.result c.leave.new.self) c.self.view_is c.leave.ensures
+returns-clause-answers c = subst (λ (m : MembershipState). Answers (IsCounting m × IsAccepted (leave c.args.who.now m)) (leave c.args.who.now m) m c.leave-done.result c.leave-done.new.self) c.self.view_is c.leave-done.ensures
 
 pub returns-clause-same : goal.returns-clause-same
-returns-clause-same c = subst (λ (m : MembershipState). IsSameProcess m c.leave.new.self) c.self.view_is (answered_same c.self.inside.state c.leave.new.self nothing_given _ _ c.leave.result (leave_learns nothing_given c.self.inside.state c.args.who.now) c.leave.ensures)
+returns-clause-same c = subst (λ (m : MembershipState). IsSameProcess m c.leave-done.new.self) c.self.view_is (answered_same c.self.inside.state c.leave-done.new.self nothing_given _ _ c.leave-done.result (leave_learns nothing_given c.self.inside.state c.args.who.now) c.leave-done.ensures)

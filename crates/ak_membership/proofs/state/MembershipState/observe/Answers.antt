@@ -5,4 +5,4 @@ use Rattle.ak_membership.proofs.state.MembershipState.observe.Goals as goal
 
 pub update-requires : goal.update-requires
 update-requires c =
-    may_observe c.args.self.now c.invariant.ensures c.in_ok-effects.effects c.requires.member c.requires.watching (c.in_ok-effects.ensures ∙ ap (λ them. Observed them ∷ []) c.requires.silent)
+    may_observe c.args.self.now c.invariant.ensures c.in_ok-effects.effects c.requires.member c.requires.watching (c.in_ok-effects.ensures ∙ ap (λ them. Observed them ∷ []) c.in_ok-silent.ensures)

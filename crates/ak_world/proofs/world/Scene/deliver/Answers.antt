@@ -1,24 +1,37 @@
-use Rattle.std.proofs.Common.{◌≡◌, List, Some, refl, sym, ap, ◌∙◌, arith, set}
+use Rattle.std.proofs.Common.{◌≡◌, List, Some, IsTrue, refl, sym, subst, ap, ◌∙◌, arith, set}
 use Rattle.std.proofs.Math.ListN.{length-set}
 use Rattle.std.proofs.lemmas.Result.{err_from_is_err_and}
+use Rattle.ak_gossip.proofs.InvariantLemmas.{and_second}
 use Rattle.ak_wire.specs.declared.envelope.Envelope.{Envelope}
 use Rattle.ak_node.specs.declared.node.NodeEvent.TheVariants.{Packet}
 use Rattle.ak_node.specs.declared.node.State.{State}
-use Rattle.ak_world.specs.World.{numbered}
+use Rattle.ak_node.specs.Node.{is_for, me_of}
+use Rattle.ak_world.specs.World.{is_reached, numbered}
 use Rattle.ak_world.specs.WorldContracts.{state_of, states}
+use Rattle.ak_world.proofs.WhatHappened.{position_passes}
 use Rattle.ak_world.proofs.WorldLemmas.{found-receiver, same-answer, ran-out, dead-delivery, delivery, delivery-accepted, receiver-within, length-states, state-at, state-set, set-states, kept-scenes}
 use Rattle.ak_world.proofs.world.Scene.deliver.Goals as goal
 
-pub receive-requires-clause-steps : goal.receive-requires-clause-steps
-receive-requires-clause-steps c =
+pub receive_own-requires-clause-steps : goal.receive_own-requires-clause-steps
+receive_own-requires-clause-steps c =
     let e = c.in-Some.packet.now in
     let nodes = c.args.self.now.nodes.items in
     let reached = found-receiver e _ nodes _ _ _ c.receiver_of.ensures c.envelope.ensures.same c.deref-2.ensures.value c.in-Some-receiver_of.is in
     let within = receiver-within e nodes c.in-Some-receiver_of.index reached in
     c.requires.ready.few_steps c.in-Some-receiver_of.index c.index_mut.result.now.state (state-at nodes c.in-Some-receiver_of.index c.index_mut.result.now within c.index_mut.ensures.value)
 
-pub receive-requires-clause-comes : goal.receive-requires-clause-comes
-receive-requires-clause-comes c = c.envelope-2.ensures.valid
+pub receive_own-requires-clause-comes : goal.receive_own-requires-clause-comes
+receive_own-requires-clause-comes c = c.envelope-2.ensures.valid
+
+pub receive_own-requires-clause-own : goal.receive_own-requires-clause-own
+receive_own-requires-clause-own c =
+    let e = c.in-Some.packet.now in
+    let nodes = c.args.self.now.nodes.items in
+    let m = c.index_mut.result.now in
+    let reached = found-receiver e _ nodes _ _ _ c.receiver_of.ensures c.envelope.ensures.same c.deref-2.ensures.value c.in-Some-receiver_of.is in
+    let within = receiver-within e nodes c.in-Some-receiver_of.index reached in
+    let passes = position_passes (is_reached e) (states nodes) c.in-Some-receiver_of.index m.state reached (state-at nodes c.in-Some-receiver_of.index m within c.index_mut.ensures.value) in
+    subst (λ (f : Envelope). IsTrue (is_for (me_of m.state) f)) (sym c.envelope-2.ensures.same) (and_second m.state.runs (is_for (me_of m.state) e) passes)
 
 pub keep-requires-clause-index : goal.keep-requires-clause-index
 keep-requires-clause-index c =
@@ -26,7 +39,7 @@ keep-requires-clause-index c =
     let nodes = c.args.self.now.nodes.items in
     let reached = found-receiver e _ nodes _ _ _ c.receiver_of.ensures c.envelope.ensures.same c.deref-2.ensures.value c.in-Some-receiver_of.is in
     let within = receiver-within e nodes c.in-Some-receiver_of.index reached in
-    let long = length-set nodes c.in-Some-receiver_of.index c.receive.new.self in
+    let long = length-set nodes c.in-Some-receiver_of.index c.receive_own.new.self in
     omega (arith, long, within)
 
 pub keep-requires-clause-number : goal.keep-requires-clause-number
@@ -60,7 +73,7 @@ returns-clause-scenes c =
     let within = receiver-within e nodes c.in-Some-receiver_of.index reached in
     let w = state_of c.args.self.now in
     let index = c.in-Some-receiver_of.index in
-    let m = c.receive.new.self in
+    let m = c.receive_own.new.self in
     let packet : numbered c.args.self.now.packets.items c.args.number ≡ Some e =
     sym (ap (λ (ps : List Envelope). numbered ps c.args.number) c.deref.ensures.value) ∙ sym c.in-Some.ensures in
     same-answer _ _ _ _ _ (delivery w c.args.number e c.envelope-2.result.now index packet (sym c.is_full-is_full.ensures ∙ c.if-is_full.false) reached c.envelope-2.ensures.same)

@@ -5,23 +5,23 @@ use Rattle.ak_world.specs.WorldContracts.{state_of, states}
 use Rattle.ak_world.proofs.WorldLemmas.{state-at, state-set, set-states, kept-scenes}
 use Rattle.ak_world.proofs.world.Scene.give.Goals as goal
 
-pub step-requires-clause-steps : goal.step-requires-clause-steps
-step-requires-clause-steps c =
+pub step_on-requires-clause-steps : goal.step_on-requires-clause-steps
+step_on-requires-clause-steps c =
     c.requires.ready.few_steps c.args.index c.index_mut.result.now.state (state-at c.args.self.now.nodes.items c.args.index c.index_mut.result.now c.requires.index c.index_mut.ensures.value)
 
-pub step-requires-clause-comes : goal.step-requires-clause-comes
-step-requires-clause-comes c = c.requires.comes
+pub step_on-requires-clause-comes : goal.step_on-requires-clause-comes
+step_on-requires-clause-comes c = c.requires.comes
 
 pub keep-requires-clause-index : goal.keep-requires-clause-index
 keep-requires-clause-index c =
-    let same = length-set c.args.self.now.nodes.items c.args.index c.step.new.self in omega (arith, same, c.requires.index)
+    let same = length-set c.args.self.now.nodes.items c.args.index c.step_on.new.self in omega (arith, same, c.requires.index)
 
 pub returns-clause-scenes : goal.returns-clause-scenes
 returns-clause-scenes c =
     let w = state_of c.args.self.now in
     let nodes = c.args.self.now.nodes.items in
-    let m = c.step.new.self in
-    kept-scenes w (record w { nodes = states (set nodes c.args.index m) }) _ c.args.index c.args.event c.index_mut.result.now.state m.state c.in_ok-actions.actions _
+    let m = c.step_on.new.self in
+    kept-scenes w (record w { nodes = states (set nodes c.args.index m) }) _ c.args.index c.args.event.now c.index_mut.result.now.state m.state c.in_ok-actions.actions _
     (state-at nodes c.args.index c.index_mut.result.now c.requires.index c.index_mut.ensures.value)
     c.in_ok-actions.ensures.ok.state_after c.in_ok-actions.ensures.ok.actions_done
     (ap (λ (xs : List State). record w { nodes = xs }) (set-states nodes c.args.index m))

@@ -2,7 +2,7 @@ use Rattle.std.proofs.Common.{◌≡◌, false, is_ok, is_some, true≢false, �
 use Rattle.std.specs.Option.{option_map}
 use Rattle.std.proofs.lemmas.Grind.{common_steps}
 use Rattle.ak_schedule.specs.declared.event.Event.{Event}
-use Rattle.ak_schedule.specs.Settings.{SettingsModel}
+use Rattle.ak_settings.specs.Settings.{SettingsModel}
 use Rattle.ak_world.specs.World.{WorldState, run}
 use Rattle.ak_world.specs.WorldContracts.{WorldModel, IsReady, state_of, doubled_of}
 use Rattle.ak_world.proofs.FoldRuns.{folds-of_run, views_at_times}
