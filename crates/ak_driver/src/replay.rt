@@ -123,7 +123,7 @@ impl Replay {
         }
     }
 
-    // What one line does. Each stage looks at the line once, and says whether it is passed over where it is asked.
+    // What one line does. Each stage tells by itself which lines it passes over.
     fn turn<N: Notes>(
         &mut self,
         alloc: Global,
