@@ -2,9 +2,11 @@
 use Rattle.std.specs.Prelude.{◌≡◌, ℕ, ◌+◌, ◌<◌, ◌≤◌, ◌⊎◌, ◌↔◌, Option, is_some, List, [], ◌∷◌, ◌++◌, Bool, true, false, IsTrue, length, Result, Ok, Err}
 use Rattle.std.specs.List.{concat}
 use Rattle.ak_schedule.specs.Draft.{Drafted, ReadsHeader}
+use Rattle.ak_schedule.specs.Line.{IsPassedOver}
 use Rattle.ak_schedule.specs.Schedule.{SpellsEvent}
 use Rattle.ak_schedule.specs.declared.event.Event.{Event}
 use Rattle.ak_world.specs.declared.world.Refused as refused
+use Rattle.ak_driver.specs.declared.replay.Code.{Code}
 use Rattle.ak_driver.specs.declared.replay.Code.TheVariants.{Malformed, BadHeader, PastLimit, Invalid}
 use Rattle.ak_driver.specs.declared.replay.Stop.{Stop}
 use Rattle.ak_driver.specs.declared.replay.Stop.TheVariants.{Refused, NoMemory}
@@ -18,7 +20,7 @@ use Rattle.ak_outside.specs.declared.status.Status as status
 use Rattle.ak_world.specs.declared.margin.Margin.{Margin}
 use Rattle.ak_world.specs.Margin.{IsMargin}
 use Rattle.ak_world.specs.Double.{Doubled, IsFirstDouble}
-use Rattle.ak_driver.specs.ReplayText.{Progress, Judgement, Judged, IsRefused, WantsEvent, HasRoom, Finished, turn, header_count, ending_text, refusal_text}
+use Rattle.ak_driver.specs.ReplayText.{Progress, Judgement, Judged, IsRefused, WantsEvent, HasRoom, Finished, turn, header_count, most_events, ending_text, refusal_text}
 use Rattle.ak_driver.specs.StatusContracts.{Written, memory_line}
 use Rattle.ak_world.specs.StepText.{step_text}
 
@@ -50,10 +52,11 @@ progress (Running world) line = record { line = line; headers = header_count; se
 abbrev pub progress_of : Replay → Progress
 progress_of r = progress r.stage r.line
 
--- what one header line does; memory runs out at the first one alone
+-- what one line does while headers are read: it is passed over, or is the next header; memory runs out at the first one alone
 abbrev pub HeadingAnswers : Result Bool Stop → List ℕ → Drafted → Drafted → Type 0
-HeadingAnswers (Ok whole) line old new = ReadsHeader line old new × (IsTrue whole ↔ (new.read ≡ 9))
-HeadingAnswers (Err (Refused BadHeader)) line old new = (new ≡ old) × ((next : Drafted) → ReadsHeader line old next → ⊥)
+HeadingAnswers (Ok whole) line old new =
+    (IsPassedOver line × (new ≡ old) × (whole ≡ false)) ⊎ ((IsPassedOver line → ⊥) × ReadsHeader line old new × (IsTrue whole ↔ (new.read ≡ 9)))
+HeadingAnswers (Err (Refused BadHeader)) line old new = (new ≡ old) × (IsPassedOver line → ⊥) × ((next : Drafted) → ReadsHeader line old next → ⊥)
 HeadingAnswers (Err (Refused Malformed)) line old new = ⊥
 HeadingAnswers (Err (Refused PastLimit)) line old new = ⊥
 HeadingAnswers (Err (Refused (Invalid why))) line old new = ⊥
@@ -68,15 +71,24 @@ pub record Runs (line : List ℕ) (number : ℕ) (old new : WorldModel) (before 
   pub world : new ≡ record { settings = old.settings; state = done.world; events = old.events ++ event ∷ []; spent = false }
   pub text : after ≡ before ++ step_text (length old.state.packets + 1) number event done
 
--- what one event line does; memory runs out at a line that spells an event alone
-abbrev pub RunningAnswers : Result (Unit {0}) Stop → List ℕ → ℕ → WorldModel → WorldModel → List ℕ → List ℕ → Type 0
-RunningAnswers (Ok u) line number old new before after = Runs line number old new before after
-RunningAnswers (Err (Refused Malformed)) line number old new before after = ((event : Event) → SpellsEvent line event → ⊥) × (after ≡ before)
-RunningAnswers (Err (Refused (Invalid why))) line number old new before after =
-    (event : Event) × SpellsEvent line event × (happens old.settings event old.state ≡ Err why) × (after ≡ before)
-RunningAnswers (Err (Refused BadHeader)) line number old new before after = ⊥
-RunningAnswers (Err (Refused PastLimit)) line number old new before after = ⊥
-RunningAnswers (Err NoMemory) line number old new before after = (event : Event) × SpellsEvent line event × (after ≡ before)
+-- what one line does after the headers, when so many events were applied: it is passed over, or its step is taken; memory runs out
+-- at a line that spells an event alone
+abbrev pub RunningAnswers : Result Bool Stop → List ℕ → ℕ → WorldModel → WorldModel → List ℕ → List ℕ → Type 0
+RunningAnswers (Ok true) line steps old new before after = (steps < most_events) × Runs line (steps + 1) old new before after
+RunningAnswers (Ok false) line steps old new before after = IsPassedOver line × (new ≡ old) × (after ≡ before)
+RunningAnswers (Err (Refused Malformed)) line steps old new before after =
+    (steps < most_events) × (IsPassedOver line → ⊥) × ((event : Event) → SpellsEvent line event → ⊥) × (after ≡ before)
+RunningAnswers (Err (Refused (Invalid why))) line steps old new before after =
+    (steps < most_events) × (event : Event) × SpellsEvent line event × (happens old.settings event old.state ≡ Err why) × (after ≡ before)
+RunningAnswers (Err (Refused BadHeader)) line steps old new before after = ⊥
+RunningAnswers (Err (Refused PastLimit)) line steps old new before after = (most_events ≤ steps) × (IsPassedOver line → ⊥) × (after ≡ before)
+RunningAnswers (Err NoMemory) line steps old new before after = (steps < most_events) × (event : Event) × SpellsEvent line event × (after ≡ before)
+
+-- what a line does that brings no event: it is passed over, or refused with this code
+abbrev pub PassesOver : Result Bool Stop → List ℕ → Code → Type 0
+PassesOver (Ok went) line code = IsPassedOver line × (went ≡ false)
+PassesOver (Err (Refused why)) line code = (IsPassedOver line → ⊥) × (why ≡ code)
+PassesOver (Err NoMemory) line code = ⊥
 
 -- a line is accepted, and brings a replay from p to q with this text
 pub record Turns (p : Progress) (line : List ℕ) (q : Progress) (text : List ℕ) : Type 0 where

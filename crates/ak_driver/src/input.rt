@@ -5,7 +5,7 @@ ghost use Rattle.std.specs.List.{slice_split};
 ghost use Rattle.std.specs.Bool.{OnFalse};
 ghost use Rattle.ak_driver.specs.InputContracts.{reach, UnreadCause, IsExtent, Reads};
 
-use ak_outside::{Read, Source};
+use ak_outside::{MOST_READ, Read, Source};
 use ak_schedule::cut;
 use std::alloc::{AllocError, Global};
 
@@ -118,7 +118,7 @@ pub fn read_all<S: Source>(alloc: Global, input: &mut S) -> Result<Vec<u8>, Unre
     ensures reads { IfOk result (λ bytes. IfSome (S.remaining input.old) (λ all. Reads all bytes.items (S.remaining input.new))) }
 {
     let mut bytes = Vec::new(alloc);
-    let mut buffer = vec![in alloc; 0; 65536]?;
+    let mut buffer = vec![in alloc; 0; MOST_READ]?;
     let mut extent = Extent::new();
     'reads: while !extent.past {
         match input.read(&mut buffer) {

@@ -3,11 +3,10 @@
 ghost use Rattle.std.specs.Prelude.{◌≡◌, ◌⊎◌, ◌+◌, ◌≤◌, ◌<◌, ◌^◌, ◌++◌, ℕ, List, OnOk, OnErr, Some, IfSome, length};
 ghost use Rattle.ak_outside.specs.Outside.{Rose};
 ghost use Rattle.ak_schedule.specs.Draft.{first_draft};
-ghost use Rattle.ak_schedule.specs.Line.{IsPassedOver};
 ghost use Rattle.ak_driver.specs.Headline.{KeepsEntitiesApart};
 ghost use Rattle.ak_driver.specs.ReplayPromise.{Prints, Promises, EndsSource, IsCompleted};
 ghost use Rattle.ak_driver.specs.ReplayText.{refusal_text, code_text, reason_text};
-ghost use Rattle.ak_driver.specs.ReplayContracts.{stop_of, IsReady, IsWhole, opened, progress, progress_of, HeadingAnswers, RunningAnswers, TurnAnswers, FinishAnswers, finished_status, Ended};
+ghost use Rattle.ak_driver.specs.ReplayContracts.{stop_of, IsReady, IsWhole, opened, progress_of, HeadingAnswers, RunningAnswers, PassesOver, TurnAnswers, FinishAnswers, finished_status, Ended};
 ghost use Rattle.ak_driver.specs.StatusContracts.{ReplayCause, Written, memory_line};
 ghost use Rattle.ak_outside.specs.declared.status.Status.TheVariants.{Schedule, Memory};
 
@@ -124,7 +123,7 @@ impl Replay {
         }
     }
 
-    // What one line does.
+    // What one line does. Each stage tells by itself which lines it passes over.
     fn turn<N: Notes>(
         &mut self,
         alloc: Global,
@@ -141,41 +140,19 @@ impl Replay {
         if self.line > u64::from(MOST_LINES) {
             return Err(Stop::Refused(Code::PastLimit));
         }
-        if !is_passed_over(line) {
-            self.advance(alloc, line, text, out, notes)?;
-        }
-        self.line += 1;
-        Ok(())
-    }
-
-    fn advance<N: Notes>(
-        &mut self,
-        alloc: Global,
-        line: &[u8],
-        text: &mut Vec<u8>,
-        out: &mut Vec<u8>,
-        notes: &mut N,
-    ) -> Result<(), Stop>
-        requires ready { IsReady self.old.stage self.old.steps }
-        requires few { self.old.line ≤ 200_000 }
-        requires open { IsPassedOver line.now → ⊥ }
-        ensures ready { OnOk result (IsReady self.new.stage self.new.steps) }
-        ensures line { self.new.line ≡ self.old.line }
-        ensures turn { TurnAnswers result line.now (progress_of self.old) (progress self.new.stage (self.old.line + 1)) out.old.items out.new.items }
-    {
         match &mut self.stage {
             Stage::Heading(draft) => {
                 if heading(alloc, draft, line)? {
                     self.open(alloc, notes);
                 }
+                self.line += 1;
                 Ok(())
             }
             Stage::Running(world) => {
-                if self.steps >= MOST_EVENTS {
-                    return Err(Stop::Refused(Code::PastLimit));
+                if running(alloc, world, self.steps, line, text, out)? {
+                    self.steps += 1;
                 }
-                running(alloc, world, self.steps + 1, line, text, out)?;
-                self.steps += 1;
+                self.line += 1;
                 Ok(())
             }
         }
@@ -214,11 +191,14 @@ impl Replay {
     }
 }
 
-// One header line; true where it was the last.
+// One line while headers are read; true where it was the last of them.
 fn heading(alloc: Global, draft: &mut Draft, line: &[u8]) -> Result<bool, Stop>
     requires { draft.old.read < 9 }
     ensures { HeadingAnswers result line.now draft.old draft.new }
 {
+    if is_passed_over(line) {
+        return Ok(false);
+    }
     match draft.header(alloc, line) {
         Ok(whole) => Ok(whole),
         Err(LineFault::Malformed) => Err(Stop::Refused(Code::Malformed)),
@@ -227,31 +207,46 @@ fn heading(alloc: Global, draft: &mut Draft, line: &[u8]) -> Result<bool, Stop>
     }
 }
 
-// One event line: the event is read, applied and printed, whole or not at all, by way of the text.
+// One line after the headers, when so many events were applied: its event is read, applied and printed, whole or not at all, by way
+// of the text. False where it is passed over. Most lines spell an event, so that this is tried first: no line that is passed over
+// spells one.
 fn running(
     alloc: Global,
     world: &mut World,
-    number: u64,
+    steps: u64,
     line: &[u8],
     text: &mut Vec<u8>,
     out: &mut Vec<u8>,
-) -> Result<(), Stop>
-    requires { length world.old.events < 2 ^ 62 }
-    ensures { RunningAnswers result line.now number world.old world.new out.old.items out.new.items }
+) -> Result<bool, Stop>
+    requires { length world.old.events ≡ steps }
+    ensures { RunningAnswers result line.now steps world.old world.new out.old.items out.new.items }
 {
+    if steps >= MOST_EVENTS {
+        return pass_over(line, Code::PastLimit);
+    }
     let event = match read_line(alloc, line) {
         Ok(event) => event,
         Err(LineFault::NoMemory(error)) => return Err(error.into()),
-        Err(_) => return Err(Stop::Refused(Code::Malformed)),
+        Err(_) => return pass_over(line, Code::Malformed),
     };
     let step = match world.apply(alloc, &event) {
         Ok(step) => step,
         Err(why) => return Err(stop_of(why)),
     };
     text.clear();
-    append_step(alloc, world, number, &event, &step, text)?;
+    append_step(alloc, world, steps + 1, &event, &step, text)?;
     print_bytes(text, out)?;
-    Ok(())
+    Ok(true)
+}
+
+// A line that brings no event: it is passed over, or else refused with this code.
+fn pass_over(line: &[u8], code: Code) -> Result<bool, Stop>
+    ensures { PassesOver result line.now code }
+{
+    if is_passed_over(line) {
+        return Ok(false);
+    }
+    Err(Stop::Refused(code))
 }
 
 // The line that says which line is refused, and why.

@@ -4,6 +4,7 @@ use Rattle.std.specs.Io.KnownBytes.{Consumes}
 use Rattle.std.proofs.KnownBytes.{Consumes-nil, Consumes-trans}
 use Rattle.std.specs.Prelude.{MatchResult}
 use Rattle.std.proofs.lemmas.Result.{err_from_is_err_and}
+use Rattle.ak_outside.specs.declared.reader.TheConstants.{MOST_READ}
 use Rattle.ak_driver.specs.InputContracts.{reach, UnreadCause, IsExtent}
 use Rattle.ak_driver.specs.declared.input.Unread.{Unread}
 use Rattle.ak_driver.proofs.InputLemmas.{rest_falls, reads_whole, reads_prefix, is_past}
@@ -11,7 +12,7 @@ use Rattle.ak_driver.proofs.input.read_all.Goals as goal
 
 pub reads-init : goal.reads-init
 reads-init g c =
-    let size : length c.in_ok-buffer.buffer.items ≡ 65536 = omega (arith, c.in_ok-buffer.ensures.len, c.in_ok-buffer.buffer.ok) in
+    let size : length c.in_ok-buffer.buffer.items ≡ MOST_READ = omega (arith, c.in_ok-buffer.ensures.len, c.in_ok-buffer.buffer.ok) in
     let within = c.new-extent.result.within in
     let none : c.new-bytes.result.items ≡ [] = c.new-bytes.ensures.items in
     let source = g.S.Source.remaining c.args.input.now in (
@@ -44,7 +45,7 @@ returns-in-Got-eq0-clause-reads g c =
 pub reads-preserved : goal.reads-preserved
 reads-preserved g c =
     let got = c.read.new.buffer in
-    let room : length got ≡ 65536 = omega (arith, c.read.auto.buffer, ap length c.deref_mut.ensures.value, c.reads.invariant.0) in
+    let room : length got ≡ MOST_READ = omega (arith, c.read.auto.buffer, ap length c.deref_mut.ensures.value, c.reads.invariant.0) in
     let same : length got ≡ c.reads.buffer.len = omega (arith, room, c.reads.invariant.0, c.reads.buffer.ok) in
     let whole : take c.reads.buffer.len (got ++ drop (length got) c.reads.buffer.items) ≡ got = take_at got (drop (length got) c.reads.buffer.items) c.reads.buffer.len same in
     let piece : take c.in-Got.count c.deref.result.now ≡ take c.in-Got.count got = ap (take c.in-Got.count) (c.deref.ensures.value ∙ whole) in
