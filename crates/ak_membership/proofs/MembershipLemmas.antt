@@ -19,7 +19,7 @@ use Rattle.ak_gossip.proofs.InvariantLemmas.{known_second, known_after_effects}
 use Rattle.ak_settled.specs.Settled.{version_of, standings_of, ticked, after_note, IsCounting}
 use Rattle.ak_settled.specs.SettledView.{SettledView, SettledModel}
 use Rattle.ak_settled.proofs.SettledLaws.{counting_ticked}
-use Rattle.ak_schedule.specs.Settings.{SettingsModel}
+use Rattle.ak_settings.specs.Settings.{SettingsModel}
 use Rattle.ak_membership.specs.declared.change.Change.{Change}
 use Rattle.ak_membership.specs.declared.change.Closing.{Closing}
 use Rattle.ak_membership.specs.declared.change.MemberFault.{MemberFault}

@@ -17,7 +17,7 @@ use Rattle.ak_member.specs.declared.status.Status.TheVariants.{Leaving, Down}
 use Rattle.ak_gossip.specs.Gossip.{is_known}
 use Rattle.ak_member.specs.Standing as standing
 use Rattle.ak_member.specs.Standing.{is_up, is_down}
-use Rattle.ak_schedule.specs.Settings.{is_listed}
+use Rattle.ak_settings.specs.Settings.{is_listed}
 use Rattle.ak_leader.specs.Leader.{leaders_effects, founding_effects}
 use Rattle.ak_settled.specs.Settled as settled
 use Rattle.ak_settled.specs.Settled.{version_of}
