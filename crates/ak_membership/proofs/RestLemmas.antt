@@ -27,7 +27,8 @@ use Rattle.ak_membership.specs.declared.change.Closing.{Closing}
 use Rattle.ak_membership.specs.declared.change.MemberFault.{MemberFault}
 use Rattle.ak_membership.specs.declared.change.MemberFault.TheVariants.{NotUp, UnknownMember, NotMember, Unlisted, ForeignCount, TooManyUniques, NoMemory}
 use Rattle.ak_membership.specs.declared.state.MembershipState.{MembershipState}
-use Rattle.ak_membership.specs.Membership.{Outcome, unchanged, made, update, update_any, may_count, is_gone, is_member, is_member_with, has_member_beside, replaced, most_at_join, admitted, on_join, leave, down}
+use Rattle.ak_member.specs.Standing.{is_member_with}
+use Rattle.ak_membership.specs.Membership.{Outcome, unchanged, made, update, update_any, may_count, is_gone, is_member, has_member_beside, replaced, most_at_join, admitted, on_join, leave, down}
 use Rattle.ak_membership.specs.Tick.{tick, updates, counted, silent, decided, observes, decides, founds, leads, has_settled}
 use Rattle.ak_membership.specs.Closing.{is_other, is_same, is_viewed, stops, is_noted, notes, settled_after, stable_after, close}
 use Rattle.ak_membership.specs.MembershipContracts.{Answers, IsAtRest, Closes, makes_none}
