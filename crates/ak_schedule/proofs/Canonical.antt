@@ -11,7 +11,7 @@ use Rattle.ak_address.specs.Spelling.{IsWord, address_text, unique_text}
 use Rattle.ak_address.proofs.SpellingLemmas.{number_word, address_word, unique_word, number_text_spells, address_text_spells, unique_text_spells}
 use Rattle.ak_schedule.specs.declared.event.Event.{Event}
 use Rattle.ak_schedule.specs.declared.event.Event.TheVariants.{Start, Found, Join, Tick, Deliver, Leave, Down, Offer, Stop}
-use Rattle.ak_schedule.specs.declared.kind.Kind as kind
+use Rattle.ak_schedule.specs.Kind as kind
 use Rattle.ak_schedule.specs.Line.{words, begins, most_bytes}
 use Rattle.ak_schedule.specs.Kind.{kind_name}
 use Rattle.ak_schedule.proofs.LineParts.{IsPlain, next_words, one_word}
@@ -59,15 +59,15 @@ plain_bytes word begun all = record {
     other false h = refl
 
 plain_name : (k : kind.Kind) → IsPlain (kind_name k)
-plain_name kind.TheVariants.Start = plain_bytes (codes "start") refl refl
-plain_name kind.TheVariants.Found = plain_bytes (codes "found") refl refl
-plain_name kind.TheVariants.Join = plain_bytes (codes "join") refl refl
-plain_name kind.TheVariants.Tick = plain_bytes (codes "tick") refl refl
-plain_name kind.TheVariants.Deliver = plain_bytes (codes "deliver") refl refl
-plain_name kind.TheVariants.Leave = plain_bytes (codes "leave") refl refl
-plain_name kind.TheVariants.Down = plain_bytes (codes "down") refl refl
-plain_name kind.TheVariants.Offer = plain_bytes (codes "offer") refl refl
-plain_name kind.TheVariants.Stop = plain_bytes (codes "stop") refl refl
+plain_name kind.Start = plain_bytes (codes "start") refl refl
+plain_name kind.Found = plain_bytes (codes "found") refl refl
+plain_name kind.Join = plain_bytes (codes "join") refl refl
+plain_name kind.Tick = plain_bytes (codes "tick") refl refl
+plain_name kind.Deliver = plain_bytes (codes "deliver") refl refl
+plain_name kind.Leave = plain_bytes (codes "leave") refl refl
+plain_name kind.Down = plain_bytes (codes "down") refl refl
+plain_name kind.Offer = plain_bytes (codes "offer") refl refl
+plain_name kind.Stop = plain_bytes (codes "stop") refl refl
 
 two : (a b : List ℕ) → IsPlain a → IsPlain b → words (a ++ 32 ∷ b) ≡ a ∷ b ∷ []
 two a b first second = next_words a b first ∙ ap (λ (ws : List (List ℕ)). a ∷ ws) (one_word b second)
@@ -90,21 +90,21 @@ number_spelled least most n from to fits = record { number = number_text_spells 
 
 canonical_words : (e : Event) → IsEvent e → SpellsWords (words (event_text e)) e
 canonical_words (Start u) range =
-    (unique_text u, two (codes "start") (unique_text u) (plain_name kind.TheVariants.Start) (plain_unique u range), unique_text_spells u range)
+    (unique_text u, two (codes "start") (unique_text u) (plain_name kind.Start) (plain_unique u range), unique_text_spells u range)
 canonical_words (Found u) range =
-    (unique_text u, two (codes "found") (unique_text u) (plain_name kind.TheVariants.Found) (plain_unique u range), unique_text_spells u range)
+    (unique_text u, two (codes "found") (unique_text u) (plain_name kind.Found) (plain_unique u range), unique_text_spells u range)
 canonical_words (Stop u) range =
-    (unique_text u, two (codes "stop") (unique_text u) (plain_name kind.TheVariants.Stop) (plain_unique u range), unique_text_spells u range)
+    (unique_text u, two (codes "stop") (unique_text u) (plain_name kind.Stop) (plain_unique u range), unique_text_spells u range)
 canonical_words (Deliver packet) range = (
   decimal packet,
-  two (codes "deliver") (decimal packet) (plain_name kind.TheVariants.Deliver) (plain_number packet (omega arith)),
+  two (codes "deliver") (decimal packet) (plain_name kind.Deliver) (plain_number packet (omega arith)),
   number_spelled 0 (2 ^ 63 - 1) packet (omega arith) (omega arith) (omega arith),
 )
 canonical_words (Join u t) range = (
   unique_text u,
   address_text t,
   ap words (joined_three (codes "join ") (unique_text u) (codes " ") (address_text t))
-      ∙ three (codes "join") (unique_text u) (address_text t) (plain_name kind.TheVariants.Join) (plain_unique u range.0) (plain_address t range.1),
+      ∙ three (codes "join") (unique_text u) (address_text t) (plain_name kind.Join) (plain_unique u range.0) (plain_address t range.1),
   unique_text_spells u range.0,
   address_text_spells t range.1,
 )
@@ -112,7 +112,7 @@ canonical_words (Tick u n) range = (
   unique_text u,
   decimal n,
   ap words (joined_three (codes "tick ") (unique_text u) (codes " ") (decimal n))
-      ∙ three (codes "tick") (unique_text u) (decimal n) (plain_name kind.TheVariants.Tick) (plain_unique u range.0) (plain_number n (omega arith)),
+      ∙ three (codes "tick") (unique_text u) (decimal n) (plain_name kind.Tick) (plain_unique u range.0) (plain_number n (omega arith)),
   unique_text_spells u range.0,
   number_spelled 0 (2 ^ 32 - 1) n (omega arith) (omega arith) (omega arith),
 )
@@ -120,7 +120,7 @@ canonical_words (Leave u who) range = (
   unique_text u,
   unique_text who,
   ap words (joined_three (codes "leave ") (unique_text u) (codes " ") (unique_text who))
-      ∙ three (codes "leave") (unique_text u) (unique_text who) (plain_name kind.TheVariants.Leave) (plain_unique u range.0) (plain_unique who range.1),
+      ∙ three (codes "leave") (unique_text u) (unique_text who) (plain_name kind.Leave) (plain_unique u range.0) (plain_unique who range.1),
   unique_text_spells u range.0,
   unique_text_spells who range.1,
 )
@@ -128,7 +128,7 @@ canonical_words (Down u who) range = (
   unique_text u,
   unique_text who,
   ap words (joined_three (codes "down ") (unique_text u) (codes " ") (unique_text who))
-      ∙ three (codes "down") (unique_text u) (unique_text who) (plain_name kind.TheVariants.Down) (plain_unique u range.0) (plain_unique who range.1),
+      ∙ three (codes "down") (unique_text u) (unique_text who) (plain_name kind.Down) (plain_unique u range.0) (plain_unique who range.1),
   unique_text_spells u range.0,
   unique_text_spells who range.1,
 )
@@ -136,7 +136,7 @@ canonical_words (Offer u entity n) range = (
   unique_text u,
   decimal n,
   ap words (joined_four (codes "offer ") (unique_text u) (codes " ") entity (decimal n))
-      ∙ four (codes "offer") (unique_text u) entity (decimal n) (plain_name kind.TheVariants.Offer) (plain_unique u range.0) (plain_entity entity range.1) (plain_number n (omega arith)),
+      ∙ four (codes "offer") (unique_text u) entity (decimal n) (plain_name kind.Offer) (plain_unique u range.0) (plain_entity entity range.1) (plain_number n (omega arith)),
   unique_text_spells u range.0,
   range.1,
   number_spelled 0 (2 ^ 63 - 1) n (omega arith) (omega arith) (omega arith),

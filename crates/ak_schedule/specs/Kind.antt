@@ -1,7 +1,17 @@
 -- The first words of event lines (this project's format).
 use Rattle.std.specs.Prelude.{ℕ, List, codes}
-use Rattle.ak_schedule.specs.declared.kind.Kind.{Kind}
-use Rattle.ak_schedule.specs.declared.kind.Kind.TheVariants.{Start, Found, Join, Tick, Deliver, Leave, Down, Offer, Stop}
+
+-- what the first word of an event line says
+pub data Kind : Type 0 where
+  Start : Kind
+  Found : Kind
+  Join : Kind
+  Tick : Kind
+  Deliver : Kind
+  Leave : Kind
+  Down : Kind
+  Offer : Kind
+  Stop : Kind
 
 abbrev pub kind_name : Kind → List ℕ
 kind_name Start = codes "start"

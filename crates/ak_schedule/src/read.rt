@@ -1,13 +1,12 @@
-ghost use Rattle.std.specs.Prelude.{◌≡◌, ◌↔◌, ◌+◌, ◌-◌, ◌≤◌, ◌∷◌, IsTrue, MatchOption, ℕ};
+ghost use Rattle.std.specs.Prelude.{◌≡◌, ◌↔◌, ◌+◌, ◌-◌, ◌≤◌, ◌∷◌, IsTrue, MatchOption, codes, ℕ};
 ghost use Rattle.ak_address.specs.Spelling.{SpellsAddress, SpellsUnique};
 ghost use Rattle.ak_schedule.specs.Line.{words};
-ghost use Rattle.ak_schedule.specs.Kind.{kind_name};
 ghost use Rattle.ak_schedule.specs.Reading.{Reads, SpellsOne, SpellsTwo};
 ghost use Rattle.ak_schedule.specs.Schedule.{SpellsEvent, SpellsWords, SpellsNumber};
 
 use crate::event::Event;
 use crate::fault::LineFault;
-use crate::kind::{Kind, kind_of};
+use crate::kind::{is_deliver, is_text};
 use crate::line::{MOST_BYTES, next_word, one_word, three_words, two_words};
 use ak_address::{
     Address, AddressFault, Text, Unique, is_address, is_unique, parse_address, parse_number,
@@ -29,40 +28,49 @@ pub fn read_line(alloc: Global, line: &[u8]) -> Result<Event, LineFault>
     if line.len() > MOST_BYTES {
         return Err(LineFault::Malformed);
     }
-    read_words(alloc, line)
-}
-
-fn read_words(alloc: Global, line: &[u8]) -> Result<Event, LineFault>
-    ensures { Reads (SpellsWords (words line.now)) result }
-{
     let Some((name, rest)) = next_word(line) else {
         return Err(LineFault::Malformed);
     };
-    let Some(kind) = kind_of(name) else {
-        return Err(LineFault::Malformed);
-    };
-    read_kind(alloc, kind, rest)
+    if is_deliver(name) {
+        return read_deliver(rest);
+    }
+    read_other(alloc, name, rest)
 }
 
-// The event of this kind, from the words after its name.
-fn read_kind(alloc: Global, kind: Kind, rest: &[u8]) -> Result<Event, LineFault>
-    ensures { Reads (SpellsWords (kind_name kind ∷ words rest.now)) result }
+// An event that is no delivery, from the first word of its line and the words after it.
+fn read_other(alloc: Global, name: &[u8], rest: &[u8]) -> Result<Event, LineFault>
+    requires { name.now ≡ codes "deliver" → ⊥ }
+    ensures { Reads (SpellsWords (name.now ∷ words rest.now)) result }
 {
-    match kind {
-        Kind::Start => return read_start(alloc, rest),
-        Kind::Found => return read_found(alloc, rest),
-        Kind::Join => return read_join(alloc, rest),
-        Kind::Tick => return read_tick(alloc, rest),
-        Kind::Deliver => return read_deliver(rest),
-        Kind::Leave => return read_leave(alloc, rest),
-        Kind::Down => return read_down(alloc, rest),
-        Kind::Offer => return read_offer(alloc, rest),
-        Kind::Stop => return read_stop(alloc, rest),
+    if is_text(name, b"start") {
+        return read_start(alloc, rest);
     }
+    if is_text(name, b"found") {
+        return read_found(alloc, rest);
+    }
+    if is_text(name, b"join") {
+        return read_join(alloc, rest);
+    }
+    if is_text(name, b"tick") {
+        return read_tick(alloc, rest);
+    }
+    if is_text(name, b"leave") {
+        return read_leave(alloc, rest);
+    }
+    if is_text(name, b"down") {
+        return read_down(alloc, rest);
+    }
+    if is_text(name, b"offer") {
+        return read_offer(alloc, rest);
+    }
+    if is_text(name, b"stop") {
+        return read_stop(alloc, rest);
+    }
+    Err(LineFault::Malformed)
 }
 
 fn read_start(alloc: Global, rest: &[u8]) -> Result<Event, LineFault>
-    ensures { Reads (SpellsWords (kind_name Kind.Start ∷ words rest.now)) result }
+    ensures { Reads (SpellsWords (codes "start" ∷ words rest.now)) result }
 {
     match one_unique(alloc, rest) {
         Ok(who) => return Ok(Event::Start(who)),
@@ -71,7 +79,7 @@ fn read_start(alloc: Global, rest: &[u8]) -> Result<Event, LineFault>
 }
 
 fn read_found(alloc: Global, rest: &[u8]) -> Result<Event, LineFault>
-    ensures { Reads (SpellsWords (kind_name Kind.Found ∷ words rest.now)) result }
+    ensures { Reads (SpellsWords (codes "found" ∷ words rest.now)) result }
 {
     match one_unique(alloc, rest) {
         Ok(who) => return Ok(Event::Found(who)),
@@ -80,7 +88,7 @@ fn read_found(alloc: Global, rest: &[u8]) -> Result<Event, LineFault>
 }
 
 fn read_stop(alloc: Global, rest: &[u8]) -> Result<Event, LineFault>
-    ensures { Reads (SpellsWords (kind_name Kind.Stop ∷ words rest.now)) result }
+    ensures { Reads (SpellsWords (codes "stop" ∷ words rest.now)) result }
 {
     match one_unique(alloc, rest) {
         Ok(who) => return Ok(Event::Stop(who)),
@@ -89,7 +97,7 @@ fn read_stop(alloc: Global, rest: &[u8]) -> Result<Event, LineFault>
 }
 
 fn read_leave(alloc: Global, rest: &[u8]) -> Result<Event, LineFault>
-    ensures { Reads (SpellsWords (kind_name Kind.Leave ∷ words rest.now)) result }
+    ensures { Reads (SpellsWords (codes "leave" ∷ words rest.now)) result }
 {
     match two_uniques(alloc, rest) {
         Ok((who, member)) => return Ok(Event::Leave(who, member)),
@@ -98,7 +106,7 @@ fn read_leave(alloc: Global, rest: &[u8]) -> Result<Event, LineFault>
 }
 
 fn read_down(alloc: Global, rest: &[u8]) -> Result<Event, LineFault>
-    ensures { Reads (SpellsWords (kind_name Kind.Down ∷ words rest.now)) result }
+    ensures { Reads (SpellsWords (codes "down" ∷ words rest.now)) result }
 {
     match two_uniques(alloc, rest) {
         Ok((who, member)) => return Ok(Event::Down(who, member)),
@@ -107,7 +115,7 @@ fn read_down(alloc: Global, rest: &[u8]) -> Result<Event, LineFault>
 }
 
 fn read_join(alloc: Global, rest: &[u8]) -> Result<Event, LineFault>
-    ensures { Reads (SpellsWords (kind_name Kind.Join ∷ words rest.now)) result }
+    ensures { Reads (SpellsWords (codes "join" ∷ words rest.now)) result }
 {
     let Some((who, target)) = two_words(rest) else {
         return Err(LineFault::Malformed);
@@ -125,12 +133,12 @@ fn read_join(alloc: Global, rest: &[u8]) -> Result<Event, LineFault>
 }
 
 fn read_tick(alloc: Global, rest: &[u8]) -> Result<Event, LineFault>
-    ensures { Reads (SpellsWords (kind_name Kind.Tick ∷ words rest.now)) result }
+    ensures { Reads (SpellsWords (codes "tick" ∷ words rest.now)) result }
 {
     let Some((who, word)) = two_words(rest) else {
         return Err(LineFault::Malformed);
     };
-    let Some(word) = number_of(word, MOST_TICK_WORD) else {
+    let Some(word) = parse_number(word, 0, MOST_TICK_WORD) else {
         return Err(LineFault::Malformed);
     };
     match unique_of(alloc, who) {
@@ -140,19 +148,19 @@ fn read_tick(alloc: Global, rest: &[u8]) -> Result<Event, LineFault>
 }
 
 fn read_deliver(rest: &[u8]) -> Result<Event, LineFault>
-    ensures { Reads (SpellsWords (kind_name Kind.Deliver ∷ words rest.now)) result }
+    ensures { Reads (SpellsWords (codes "deliver" ∷ words rest.now)) result }
 {
     let Some(packet) = one_word(rest) else {
         return Err(LineFault::Malformed);
     };
-    match number_of(packet, MOST_NUMBER) {
+    match parse_number(packet, 0, MOST_NUMBER) {
         Some(packet) => return Ok(Event::Deliver(packet)),
         None => return Err(LineFault::Malformed),
     }
 }
 
 fn read_offer(alloc: Global, rest: &[u8]) -> Result<Event, LineFault>
-    ensures { Reads (SpellsWords (kind_name Kind.Offer ∷ words rest.now)) result }
+    ensures { Reads (SpellsWords (codes "offer" ∷ words rest.now)) result }
 {
     let Some((who, entity, payload)) = three_words(rest) else {
         return Err(LineFault::Malformed);
@@ -160,7 +168,7 @@ fn read_offer(alloc: Global, rest: &[u8]) -> Result<Event, LineFault>
     if !is_entity(entity) {
         return Err(LineFault::Malformed);
     }
-    let Some(payload) = number_of(payload, MOST_NUMBER) else {
+    let Some(payload) = parse_number(payload, 0, MOST_NUMBER) else {
         return Err(LineFault::Malformed);
     };
     match unique_of(alloc, who) {
@@ -223,11 +231,4 @@ fn address_of(alloc: Global, word: &[u8]) -> Result<Address, LineFault>
         Err(AddressFault::BadUid) => return Err(LineFault::Malformed),
         Err(AddressFault::NoMemory(error)) => return Err(error.into()),
     }
-}
-
-// The number from 0 to the most.
-fn number_of(word: &[u8], most: u64) -> Option<u64>
-    ensures { MatchOption result ((n : ℕ) → SpellsNumber word.now 0 most n → ⊥) (λ n. SpellsNumber word.now 0 most n) }
-{
-    parse_number(word, 0, most)
 }
