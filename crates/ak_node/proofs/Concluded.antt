@@ -29,7 +29,6 @@ module _ (n : State) (runs : n.runs ≡ true)
     (closed : closing.close false n.membership ≡ (n.membership, record { viewed = false; stopped = false; settled = false }))
     (forgot : (hosts.forgets (around n) n.sharding).0 ≡ n.sharding)
     (waits : singleton.may_activate (me_of n) (settled_of n) (margin_of n) n.singleton ≡ false) where
-
   closes_nothing : closes n ≡ (n, [])
   closes_nothing =
       ap (λ c. (record n { membership = c.0; runs = not c.1.stopped }, due c.1)) (ap (λ b. closing.close (not b) n.membership) runs ∙ closed)
