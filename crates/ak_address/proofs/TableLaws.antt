@@ -40,7 +40,7 @@ pub true_is : (b : Bool) → T b → b ≡ true
 true_is true h = refl
 true_is false h = absurd h
 
-none_of_length : {A : Type 0} (es : List A) → length es ≡ 0 → es ≡ []
+pub none_of_length : {A : Type 0} (es : List A) → length es ≡ 0 → es ≡ []
 none_of_length [] e = refl
 none_of_length (x ∷ es) e = absurd (omega arith)
 

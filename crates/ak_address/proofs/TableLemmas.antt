@@ -7,11 +7,11 @@ use Rattle.std.specs.Cmp.{alike_right, eq_by_cmp_equiv}
 use Rattle.std.specs.FinMap as map
 use Rattle.std.specs.FinMap.Entries.{where_key, find-where_key, is_sorted-where_key}
 use Rattle.ak_address.specs.Unique.{UniqueModel, unique_cmp}
-use Rattle.ak_address.specs.Table.{merged_tables}
+use Rattle.ak_address.specs.Table.{merged_tables, with_pairs}
 use Rattle.ak_address.specs.Pairs.{index, woven}
 use Rattle.ak_address.proofs.OrderLemmas.{unique_total, unique_exact}
 use Rattle.ak_address.proofs.Pairs.{Stands, Goes, known, sorted_woven}
-use Rattle.ak_address.proofs.TableLaws.{is_true, true_is, same_table, pairs_of, pairs_found, pairs_sorted, pairs_back, woven_merged, get-remove}
+use Rattle.ak_address.proofs.TableLaws.{is_true, true_is, same_table, none_of_length, entries-empty, no_pairs, pairs_of, pairs_found, pairs_sorted, pairs_back, woven_merged, get-remove}
 
 turned : {A : Type 0} (b : Bool) (x y : A) → cond (not b) x y ≡ cond b y x
 turned true x y = refl
@@ -34,6 +34,13 @@ module _ {X : Type 0} where
   module _ (es : List (UniqueModel × X)) (m : map.FinMap unique_cmp X) (b : Underlies es m) where
     pub pairs : map.entries m ≡ es
     pairs = pairs_of es b.in_order m b.seen
+
+    -- the table is empty exactly where the list is
+    pub none_in : m ≡ map.empty → length es ≡ 0
+    none_in is = ap length (sym pairs) ∙ ap (λ t. length (map.entries t)) is ∙ ap length entries-empty
+
+    pub none_of : length es ≡ 0 → m ≡ map.empty
+    none_of e = sym b.seen ∙ ap (λ l. map.from_sorted {R = unique_cmp} l) (none_of_length es e) ∙ no_pairs
 
     pub found_in : (q : UniqueModel) → map.find unique_cmp q es ≡ map.get m q
     found_in q = pairs_found es b.in_order m b.seen q
@@ -84,6 +91,11 @@ module _ {X : Type 0} where
 
     pub absent_in : (q : UniqueModel) (n : ℕ) → Goes unique_cmp q es n → map.get m q ≡ None
     absent_in q n g = sym (found_in q) ∙ g.absent
+
+  -- a table that has no process brings nothing
+  pub merged_with_none : (f : X → X → X) (m n : map.FinMap unique_cmp X) → n ≡ map.empty → m ≡ merged_tables f m n
+  unfolding merged_tables
+  merged_with_none f m n is = sym (ap (merged_tables f m) is ∙ ap (with_pairs f m) entries-empty)
 
   pub underlies_merged : (f : X → X → X) (es fs : List (UniqueModel × X)) (m n : map.FinMap unique_cmp X) → Underlies es m → Underlies fs n → (ws : List (UniqueModel × X)) → ws ≡ woven unique_cmp f es fs → Underlies ws (merged_tables f m n)
   underlies_merged f es fs m n b d ws is =

@@ -27,6 +27,7 @@ impl Model for Address {
 
     ghost view = { λ a. record { host = a.host; port = a.port } };
 
+    // How long a host is fits in one byte of a packet, and it has no byte that parts the words of a line; port 0 is none.
     ghost invariant = { λ a. IsAddress (record { host = a.host; port = a.port }) };
 }
 
@@ -86,6 +87,7 @@ impl Model for Unique {
 
     ghost view = { λ u. record { address = u.address; uid = u.uid } };
 
+    // Uid 0 is no process, and a uid fits in a signed number of 64 bits, which is what a configuration holds.
     ghost invariant = { λ u. IsUnique (record { address = u.address; uid = u.uid }) };
 }
 

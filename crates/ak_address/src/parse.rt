@@ -35,16 +35,20 @@ impl From<AllocError> for AddressFault {
     }
 }
 
+// Port 0 is none that a datagram reaches, and a port has 16 bits.
 const LEAST_PORT: u64 = 1;
 
 const MOST_PORT: u64 = 65535;
 
+// Uid 0 is no process, and the greatest is the greatest integer of a configuration, 2^63 - 1.
 const LEAST_UID: u64 = 1;
 
 const MOST_UID: u64 = 9223372036854775807;
 
+// As many as the greatest number of 64 bits has: more digits would have to be zeros before it.
 const MOST_DIGITS: usize = 20;
 
+// So that a packet has a greatest length, whatever hosts are in it.
 const MOST_HOST_BYTES: usize = 64;
 
 /// The number that these bytes are: 1 to 20 decimal digits, leading zeros allowed, of a value from `least` to

@@ -55,6 +55,7 @@ impl<V> Model for Table<V> {
 
     ghost view = { λ t. map.from_sorted t.entries.items };
 
+    // In order, and each process once: so a search goes by halves, and a merge is one walk along both.
     ghost invariant = { λ t. IsTrue (map.is_sorted unique_cmp t.entries.items) };
 }
 
@@ -67,9 +68,10 @@ impl<V> Table<V> {
         Table { entries }
     }
 
-    /// The table that has no process, with memory for so many. Only memory can fail.
+    /// The table that has no process, with memory for so many. Only memory can fail; memory for none takes none.
     pub fn with_capacity(alloc: Global, many: usize) -> Result<Self, AllocError>
-        ensures { IfOk result (λ table. table ≡ map.empty) }
+        ensures ok { IfOk result (λ table. table ≡ map.empty) }
+        ensures memory { many ≡ 0 → IsOk result }
     {
         let entries = Vec::with_capacity(alloc, many)?;
         Ok(Table { entries })
@@ -201,10 +203,14 @@ impl<V: Drop> Table<V> {
 }
 
 impl<V: Duplicate + Drop> Table<V> {
-    /// An equal table. Only memory can fail.
+    /// An equal table. Only memory can fail; that of a table that has no process takes none.
     pub fn copy(&self, alloc: Global) -> Result<Table<V>, AllocError>
-        ensures { IfOk result (λ copy. copy ≡ self.now) }
+        ensures ok { IfOk result (λ copy. copy ≡ self.now) }
+        ensures memory { self.now ≡ map.empty → IsOk result }
     {
+        if self.entries.len() == 0 {
+            return Ok(Table::empty(alloc));
+        }
         let mut entries = Vec::with_capacity(alloc, self.entries.len())?;
         push_copies(alloc, &mut entries, &self.entries)?;
         Ok(Table { entries })
@@ -213,11 +219,15 @@ impl<V: Duplicate + Drop> Table<V> {
 
 impl<V: Merge + Drop> Table<V> {
     /// Takes in another table: a process that one of the two has keeps its value, and where both have it, the
-    /// values are merged. After an error the table is as it was.
+    /// values are merged. After an error the table is as it was; one that has no process brings nothing and takes no memory.
     pub fn merge(&mut self, alloc: Global, other: &Table<V>) -> Result<(), AllocError>
         ensures ok { OnOk result (self.new ≡ merged_tables V.merged self.old other.now) }
         ensures err { OnErr result (self.new ≡ self.old) }
+        ensures memory { other.now ≡ map.empty → IsOk result }
     {
+        if other.entries.len() == 0 {
+            return Ok(());
+        }
         let entries = weave(alloc, &self.entries, &other.entries)?;
         self.entries = entries;
         Ok(())

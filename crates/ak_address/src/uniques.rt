@@ -34,9 +34,10 @@ impl Uniques {
         Uniques { table }
     }
 
-    /// The set of no process, with memory for so many. Only memory can fail.
+    /// The set of no process, with memory for so many. Only memory can fail; memory for none takes none.
     pub fn with_capacity(alloc: Global, many: usize) -> Result<Uniques, AllocError>
-        ensures { IfOk result (λ set. set ≡ no_one) }
+        ensures ok { IfOk result (λ set. set ≡ no_one) }
+        ensures memory { many ≡ 0 → IsOk result }
     {
         let table = Table::with_capacity(alloc, many)?;
         Ok(Uniques { table })
@@ -102,18 +103,21 @@ impl Uniques {
         }
     }
 
-    /// Takes in the processes of another set. After an error the set is as it was; only memory can fail.
+    /// Takes in the processes of another set. After an error the set is as it was; only memory can fail, and the set of no
+    /// process takes none.
     #[tactic(auto, unfolding(crate::specs::Uniques::union))]
     pub fn merge(&mut self, alloc: Global, other: &Uniques) -> Result<(), AllocError>
         ensures ok { OnOk result (self.new ≡ union self.old other.now) }
         ensures err { OnErr result (self.new ≡ self.old) }
+        ensures memory { other.now ≡ no_one → IsOk result }
     {
         self.table.merge(alloc, &other.table)
     }
 
-    /// An equal set. Only memory can fail.
+    /// An equal set. Only memory can fail; that of the set of no process takes none.
     pub fn copy(&self, alloc: Global) -> Result<Uniques, AllocError>
-        ensures { IfOk result (λ copy. copy ≡ self.now) }
+        ensures ok { IfOk result (λ copy. copy ≡ self.now) }
+        ensures memory { self.now ≡ no_one → IsOk result }
     {
         let table = self.table.copy(alloc)?;
         Ok(Uniques { table })

@@ -195,6 +195,10 @@ merged_covers_second v w u = omega (arith, count-merged v w u)
 pub merged_is_covered : (u v w : Counts) → Covers u v → Covers u w → Covers u (merged v w)
 merged_is_covered u v w p q x = omega (arith, count-merged v w x, p x, q x)
 
+-- what is covered already brings nothing
+pub merged_covered : (v w : Counts) → IsVersion v → IsVersion w → Covers v w → v ≡ merged v w
+merged_covered v w a b le = same_version v (merged v w) a (merged_is_version v w a b) (λ u. omega (arith, le u, count-merged v w u))
+
 pub merged-comm : (v w : Counts) → merged v w ≡ merged w v
 merged-comm v w = same_table _ _ (λ u. get-merged_tables max v w u ∙ swapped (map.get v u) (map.get w u) ∙ sym (get-merged_tables max w v u))
 

@@ -45,6 +45,7 @@ impl Model for Version {
 
     ghost view = { λ v. v.counts };
 
+    // A count of 0 would be another spelling of none, and equal versions are to be equal tables.
     ghost invariant = { λ v. IsVersion v.counts };
 }
 
@@ -57,9 +58,10 @@ impl Version {
         Version { counts }
     }
 
-    /// The version that counts nothing, with memory for so many processes. Only memory can fail.
+    /// The version that counts nothing, with memory for so many processes. Only memory can fail; memory for none takes none.
     pub fn with_capacity(alloc: Global, many: usize) -> Result<Version, AllocError>
-        ensures { IfOk result (λ version. version ≡ map.empty) }
+        ensures ok { IfOk result (λ version. version ≡ map.empty) }
+        ensures memory { many ≡ 0 → IsOk result }
     {
         let counts = Table::with_capacity(alloc, many)?;
         Ok(Version { counts })
@@ -92,9 +94,10 @@ impl Version {
         }
     }
 
-    /// An equal version. Only memory can fail.
+    /// An equal version. Only memory can fail; that of the version that counts nothing takes none.
     pub fn copy(&self, alloc: Global) -> Result<Version, AllocError>
-        ensures { IfOk result (λ copy. copy ≡ self.now) }
+        ensures ok { IfOk result (λ copy. copy ≡ self.now) }
+        ensures memory { self.now ≡ map.empty → IsOk result }
     {
         let counts = self.counts.copy(alloc)?;
         Ok(Version { counts })
@@ -121,30 +124,38 @@ impl Version {
         relation_by(covers, is_covered)
     }
 
-    /// Takes in the other version: the greater count of each process. After an error the version is as it was.
+    /// Takes in the other version: the greater count of each process. After an error the version is as it was; one that it
+    /// covers brings nothing and takes no memory.
     pub fn merge(&mut self, alloc: Global, other: &Version) -> Result<(), AllocError>
         ensures ok { OnOk result (self.new ≡ merged self.old other.now) }
         ensures err { OnErr result (self.new ≡ self.old) }
+        ensures memory { Covers self.old other.now → IsOk result }
     {
+        if reaches(&self.counts, &other.counts) {
+            return Ok(());
+        }
         self.counts.merge(alloc, &other.counts)
     }
 
-    /// One more entry of this process: answers its new count. After an error the version is as it was.
+    /// One more entry of this process: answers its new count. After an error the version is as it was; only the first entry of a
+    /// process takes memory.
     pub fn bump(&mut self, alloc: Global, author: &Unique) -> Result<u64, AllocError>
         requires { count self.old author.now < BOUND }
         ensures ok { IfOk result (λ n. (n ≡ count self.old author.now + 1) × (self.new ≡ bumped self.old author.now)) }
         ensures err { OnErr result (self.new ≡ self.old) }
+        ensures memory { OnErr result (count self.old author.now ≡ 0) }
     {
         bump_in(alloc, &mut self.counts, author)
     }
 
     /// At least so many entries of this process, up to `BOUND`. After an error the version is as it was; where it counts
-    /// as many already it stays as it is and takes no memory.
+    /// as many already it stays as it is and takes no memory, and neither does any process that has a count.
     pub fn reach(&mut self, alloc: Global, who: &Unique, least: u64) -> Result<(), AllocError>
         requires { least ≤ BOUND }
         ensures ok { OnOk result (self.new ≡ reaching self.old who.now least) }
         ensures err { OnErr result (self.new ≡ self.old) }
         ensures reached { least ≤ count self.old who.now → IsOk result }
+        ensures memory { OnErr result (count self.old who.now ≡ 0) }
     {
         reach_in(alloc, &mut self.counts, who, least)
     }
@@ -177,6 +188,7 @@ fn bump_in(alloc: Global, counts: &mut Table<u64>, author: &Unique) -> Result<u6
     requires { count counts.old author.now < BOUND }
     ensures ok { IfOk result (λ n. (n ≡ count counts.old author.now + 1) × (counts.new ≡ bumped counts.old author.now)) }
     ensures err { OnErr result (counts.new ≡ counts.old) }
+    ensures memory { OnErr result (count counts.old author.now ≡ 0) }
 {
     match counts.place(author) {
         Ok(place) => {
@@ -202,6 +214,7 @@ fn reach_in(
     ensures ok { OnOk result (counts.new ≡ reaching counts.old who.now least) }
     ensures err { OnErr result (counts.new ≡ counts.old) }
     ensures reached { least ≤ count counts.old who.now → IsOk result }
+    ensures memory { OnErr result (count counts.old who.now ≡ 0) }
 {
     match counts.place_from_end(who) {
         Ok(place) => {

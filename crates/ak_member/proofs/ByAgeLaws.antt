@@ -1,5 +1,6 @@
 -- The counted members with their indices, and what a sort makes of them.
 use Rattle.std.proofs.Common.{◌≡◌, ◌≢◌, ℕ, zero, suc, ◌+◌, ◌<◌, ◌≤◌, Bool, true, false, cond, eqb, IsTrue, List, [], ◌∷◌, ◌++◌, map, length, drop, get_or, slice_get, Option, Some, None, option_map, option_to_list, Contains, ◌⊎◌, inl, inr, refl, sym, ap, ◌∙◌, subst, append_assoc, append-nil, arith, true≢false}
+use Rattle.std.proofs.lemmas.List.{length-append}
 use Rattle.std.proofs.lemmas.Bool.{ne_eqb, eq-eqb}
 use Rattle.std.proofs.lemmas.Option.{none-some, same_Some, slice_get-map, slice_get-get_or, slice_get_within, get_or_from_slice_get}
 use Rattle.std.proofs.lemmas.List.Sorted.{IsPermutation-sym, Contains-permutation, ranks_by, sorted_far}
@@ -14,7 +15,7 @@ use Rattle.ak_address.specs.Unique.{UniqueModel}
 use Rattle.ak_member.specs.declared.status.Status.{Status}
 use Rattle.ak_member.specs.declared.standing.Standing.{Standing}
 use Rattle.ak_member.specs.Standing.{Standings, member_pairs, members_of}
-use Rattle.ak_member.specs.Age.{counts, IsCountedAt, IsOlder, IsByAge}
+use Rattle.ak_member.specs.Age.{counts, counted_pairs, IsCountedAt, IsOlder, IsByAge}
 use Rattle.ak_member.specs.Indices.{indexed_from}
 use Rattle.ak_address.proofs.Elements.{contains_at, index_of}
 use Rattle.ak_member.proofs.MemberLemmas.{keeps_members, kept_pair, kept_at_end}
@@ -42,6 +43,23 @@ indexed_passed es i index done all is so_far = ap (λ l. done ++ indexed_from in
 pub indexed_end : (es : List (UniqueModel × Standing)) (i index : ℕ) (done : List (ℕ × ℕ)) (all : List (ℕ × ℕ)) → length es ≤ i → done ++ indexed_from index (member_pairs (drop i es)) ≡ all → done ≡ all
 indexed_end es i index done all past so_far =
     sym (append-nil done) ∙ ap (λ l. done ++ indexed_from index l) (sym (kept_at_end member_pairs keeps_members es i past)) ∙ so_far
+
+-- where a pair is reached whose member counts, there is one
+pub indexed_some : (m : MemberPair) (es : List (UniqueModel × Standing)) (i index : ℕ) (done : List (ℕ × ℕ)) (all : List (ℕ × ℕ))
+    → m ∷ [] ≡ member_pairs (option_to_list (slice_get es i)) → done ++ indexed_from index (member_pairs (drop i es)) ≡ all → IsTrue (counts m.1.0) → all ≢ []
+indexed_some m es i index done all is so_far counted none =
+    let here : indexed_from index (m ∷ []) ≡ (m.1.1, index) ∷ [] = ap (λ b. cond b ((m.1.1, index) ∷ []) []) counted in
+    let whole = ap (λ l. (done ++ l) ++ indexed_from (index + 1) (member_pairs (drop (i + 1) es))) (sym here) ∙ indexed_next m es i index done all is so_far ∙ none in
+    absurd (omega (arith, (length-append done ((m.1.1, index) ∷ [])), length-append (done ++ (m.1.1, index) ∷ []) (indexed_from (index + 1) (member_pairs (drop (i + 1) es))), ap length whole))
+
+-- where nobody counts, there is none
+pub indexed_none : (index : ℕ) (ms : List MemberPair) → counted_pairs ms ≡ [] → indexed_from index ms ≡ []
+indexed_none index [] none = refl
+indexed_none index (m ∷ ms) none =
+    elim (counts m.1.0) as (λ b. cond b ((m.0, m.1.1) ∷ counted_pairs ms) (counted_pairs ms) ≡ [] → cond b ((m.1.1, index) ∷ indexed_from (index + 1) ms) (indexed_from (index + 1) ms) ≡ []) [
+      | true ↦ λ some. absurd (omega (arith, ap length some))
+      | false ↦ λ none. indexed_none (index + 1) ms none
+    ] none
 
 -- ---- what stands in the list of numbers and indices
 -- at an index there is a counted member with this number

@@ -1,9 +1,13 @@
 -- A walk along the rows of a table that takes in what it keeps of each row, one after the other.
-use Rattle.std.proofs.Common.{◌≡◌, ℕ, ◌+◌, ◌≤◌, Bool, List, [], ◌∷◌, map, length, drop, slice_get, Option, option_to_list, refl, sym, ap, ◌∙◌}
+use Rattle.std.proofs.Common.{◌≡◌, ℕ, zero, suc, ◌+◌, ◌≤◌, Bool, ◌||◌, true≢false, List, [], ◌∷◌, map, length, drop, slice_get, Option, option_to_list, refl, sym, ap, ◌∙◌, arith}
 use Rattle.std.specs.List.{fold, filter}
 use Rattle.std.proofs.lemmas.List.Sums.{fold-append}
 use Rattle.std.proofs.lemmas.List.Elements.{filter-append}
-use Rattle.std.proofs.lemmas.List.{map-append}
+use Rattle.std.proofs.lemmas.List.{map-append, length-append}
+use Rattle.ak_address.specs.Unique.{UniqueModel}
+use Rattle.ak_address.specs.Uniques.{no_one, has, set_of}
+use Rattle.ak_address.proofs.TableLaws.{none_of_length, key_itself}
+use Rattle.ak_address.proofs.UniquesLaws.{has-no_one, has-with_one}
 use Rattle.ak_member.proofs.MemberLemmas.{KeepsPairs, kept_pair, kept_at_end}
 
 module _ {X Y S : Type 0} (kept : List X → List Y) (k : KeepsPairs kept) (step : S → Y → S) where
@@ -34,3 +38,17 @@ module _ {X Y : Type 0} (kept : List X → List Y) (k : KeepsPairs kept) where
 
 pub keeps_all : {X : Type 0} → KeepsPairs {X = X} {Y = X} (λ xs. xs)
 keeps_all = record { none = refl; more = λ x xs. refl }
+
+-- where nothing is kept of a list, nothing is kept of a pair of it
+pub kept_none : {X Y : Type 0} (kept : List X → List Y) → KeepsPairs kept → (xs : List X) (i : ℕ) → kept xs ≡ [] → kept (option_to_list (slice_get xs i)) ≡ []
+kept_none kept k [] i none = k.none
+kept_none kept k (x ∷ xs) zero none =
+    none_of_length _ (omega (arith, ap length (sym (k.more x xs) ∙ none), length-append (kept (x ∷ [])) (kept xs)))
+kept_none kept k (x ∷ xs) (suc i) none =
+    kept_none kept k xs i (none_of_length _ (omega (arith, ap length (sym (k.more x xs) ∙ none), length-append (kept (x ∷ [])) (kept xs))))
+
+-- nobody is in the list where nobody is in its set
+pub set_of_none : (whos : List UniqueModel) → set_of whos ≡ no_one → whos ≡ []
+set_of_none [] none = refl
+set_of_none (who ∷ whos) none =
+    absurd (true≢false (sym (has-with_one (set_of whos) who who ∙ ap (λ b. b || has (set_of whos) who) (key_itself who)) ∙ ap (λ s. has s who) none ∙ has-no_one who))

@@ -1,10 +1,10 @@
-ghost use Rattle.std.specs.Prelude.{◌≡◌, ◌<◌, ◌^◌, [], ◌∷◌, ◌++◌, IfOk, OnOk, IsTrue, length, slice_get, option_map, option_to_list, option_copied};
+ghost use Rattle.std.specs.Prelude.{◌≡◌, ◌≢◌, ◌<◌, ◌^◌, [], ◌∷◌, ◌++◌, IfOk, OnOk, OnErr, IsTrue, length, slice_get, option_map, option_to_list, option_copied};
 ghost use Rattle.std.specs.Prelude as list;
 ghost use Rattle.std.specs.FinMap as map;
 ghost use Rattle.ak_address.specs.Distinct.{distinct};
 ghost use Rattle.ak_address.specs.Unique.{unique_cmp};
 ghost use Rattle.ak_member.specs.Standing.{member_pairs, members_of};
-ghost use Rattle.ak_member.specs.Age.{counted_pairs, least_pair, oldest, IsOldest, counted_addresses, IsByAge};
+ghost use Rattle.ak_member.specs.Age.{counts, counted_pairs, least_pair, oldest, IsOldest, counted_addresses, IsByAge};
 ghost use Rattle.ak_member.specs.Indices.{indexed_from};
 
 use crate::members::{Member, Members};
@@ -27,12 +27,16 @@ impl Members {
     }
 
     /// The indices among the members of the Up and Leaving ones, the oldest first, each once (Akka's "Cluster Singleton"
-    /// orders members by age). Only memory can fail.
+    /// orders members by age). Only memory can fail, and only where a member is Up or Leaving.
     pub fn by_age(&self, alloc: Global) -> Result<Vec<u32>, AllocError>
         requires { map.len self.now < 2 ^ 32 }
-        ensures { IfOk result (λ indices. IsByAge self.now indices.items) }
+        ensures ok { IfOk result (λ indices. IsByAge self.now indices.items) }
+        ensures memory { OnErr result (counted_pairs (members_of self.now) ≢ []) }
     {
         let mut counted = counted_indices(alloc, self)?;
+        if counted.len() == 0 {
+            return Ok(Vec::new(alloc));
+        }
         counted.sort_unstable();
         indices_of(alloc, &counted)
     }
@@ -136,7 +140,8 @@ fn older<'a>(
 // The up number and the index of each member that counts, in the order of indices.
 fn counted_indices(alloc: Global, members: &Members) -> Result<Vec<(u64, u32)>, AllocError>
     requires { map.len members.now < 2 ^ 32 }
-    ensures { IfOk result (λ counted. counted.items ≡ indexed_from 0 (members_of members.now)) }
+    ensures ok { IfOk result (λ counted. counted.items ≡ indexed_from 0 (members_of members.now)) }
+    ensures memory { OnErr result (indexed_from 0 (members_of members.now) ≢ []) }
 {
     let mut counted = Vec::new(alloc);
     let mut index = 0;
@@ -155,7 +160,8 @@ fn push_counted(
     member: &Member<'_>,
     index: u32,
 ) -> Result<(), AllocError>
-    ensures { OnOk result (counted.new.items ≡ counted.old.items ++ indexed_from index ((member.now.unique.now, (member.now.status, member.now.up_number)) ∷ [])) }
+    ensures ok { OnOk result (counted.new.items ≡ counted.old.items ++ indexed_from index ((member.now.unique.now, (member.now.status, member.now.up_number)) ∷ [])) }
+    ensures memory { OnErr result (IsTrue (counts member.now.status)) }
 {
     if member.status.counts() {
         counted.push((member.up_number, index))?;

@@ -1,4 +1,4 @@
-ghost use Rattle.std.specs.Prelude.{◌≡◌, [], ◌∷◌, ◌++◌, length, slice_get, IfOk, OnOk, OnErr};
+ghost use Rattle.std.specs.Prelude.{◌≡◌, [], ◌∷◌, ◌++◌, length, slice_get, IfOk, OnOk, OnErr, IsOk};
 ghost use Rattle.std.specs.Option.{option_copied};
 ghost use Rattle.ak_member.specs.View.{observed};
 
@@ -104,10 +104,14 @@ impl Effects {
         last_observed(&self.list)
     }
 
-    /// An equal list. Only memory can fail.
+    /// An equal list. Only memory can fail; that of the list of no effect takes none.
     pub fn copy(&self, alloc: Global) -> Result<Effects, AllocError>
-        ensures { IfOk result (λ copy. copy ≡ self.now) }
+        ensures ok { IfOk result (λ copy. copy ≡ self.now) }
+        ensures memory { self.now ≡ [] → IsOk result }
     {
+        if self.list.len() == 0 {
+            return Ok(Effects::empty(alloc));
+        }
         let list = copied(alloc, &self.list)?;
         Ok(Effects { list })
     }

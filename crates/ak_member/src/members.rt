@@ -61,9 +61,10 @@ impl Members {
         Members { table }
     }
 
-    /// Nobody, with memory for so many. Only memory can fail.
+    /// Nobody, with memory for so many. Only memory can fail; memory for none takes none.
     pub fn with_capacity(alloc: Global, many: usize) -> Result<Members, AllocError>
-        ensures { IfOk result (λ members. members ≡ nobody) }
+        ensures ok { IfOk result (λ members. members ≡ nobody) }
+        ensures memory { many ≡ 0 → IsOk result }
     {
         let table = Table::with_capacity(alloc, many)?;
         Ok(Members { table })
@@ -237,17 +238,20 @@ impl Members {
     }
 
     /// Takes in what another view knows: of each process what both know of it (Akka's Cluster Specification, "Gossip":
-    /// gossips that conflict are merged). After an error the members are as they were.
+    /// gossips that conflict are merged). After an error the members are as they were; one that knows nobody brings nothing
+    /// and takes no memory.
     pub fn merge(&mut self, alloc: Global, other: &Members) -> Result<(), AllocError>
         ensures ok { OnOk result (self.new ≡ merged_standings self.old other.now) }
         ensures err { OnErr result (self.new ≡ self.old) }
+        ensures memory { other.now ≡ nobody → IsOk result }
     {
         self.table.merge(alloc, &other.table)
     }
 
-    /// Equal members and tombstones. Only memory can fail.
+    /// Equal members and tombstones. Only memory can fail; a copy of nobody takes none.
     pub fn copy(&self, alloc: Global) -> Result<Members, AllocError>
-        ensures { IfOk result (λ copy. copy ≡ self.now) }
+        ensures ok { IfOk result (λ copy. copy ≡ self.now) }
+        ensures memory { self.now ≡ nobody → IsOk result }
     {
         let table = self.table.copy(alloc)?;
         Ok(Members { table })
@@ -286,7 +290,6 @@ impl Members {
     }
 }
 
-// The member at a pair of the table, where there is one.
 // The standing, merged with what is known of the process that stands at a place.
 fn with_known(table: &Table<Standing>, place: usize, standing: Standing) -> Standing
     ensures { (who : UniqueModel) → Ok place ≡ index unique_cmp who (map.entries table.now) → result ≡ value_with merged_standing (map.get table.now who) standing }
@@ -297,6 +300,7 @@ fn with_known(table: &Table<Standing>, place: usize, standing: Standing) -> Stan
     before.with(&standing)
 }
 
+// The member at a pair of the table, where there is one.
 fn member_at(table: &Table<Standing>, pair: usize) -> Option<Member<'_>>
     ensures { option_to_list (option_map (λ m. (m.unique.now, (m.status, m.up_number))) result) ≡ member_pairs (option_to_list (slice_get (map.entries table.now) pair)) }
 {

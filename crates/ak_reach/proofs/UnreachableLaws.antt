@@ -10,9 +10,9 @@ use Rattle.std.proofs.lemmas.List.Folds.{list_any-append}
 use Rattle.std.specs.List.{list_any}
 use Rattle.std.specs.FinMap as map
 use Rattle.ak_address.specs.Unique.{UniqueModel, unique_cmp}
-use Rattle.ak_address.specs.Uniques.{UniqueSet, has, no_one}
+use Rattle.ak_address.specs.Uniques.{UniqueSet, has, no_one, those, in_order}
 use Rattle.ak_address.proofs.TableLaws.{get_at, index_of_get, key_itself}
-use Rattle.ak_address.proofs.UniquesLaws.{has-no_one, has-those, same_uniques}
+use Rattle.ak_address.proofs.UniquesLaws.{has-no_one, has-those, has_at, same_uniques}
 use Rattle.ak_member.specs.declared.standing.Standing.{Standing}
 use Rattle.ak_member.specs.declared.status.Status.{Status}
 use Rattle.ak_member.specs.declared.status.Status.TheVariants.{Joining, Up, Leaving, Exiting, Down}
@@ -149,3 +149,21 @@ found_all v = same_uniques _ _ (λ q.
     by_has : (q : UniqueModel) (b : Bool) → has (unreachable_members v) q ≡ b → (is_among q (known_ones v.standings) && b) ≡ b
     by_has q true is = ap (λ t. t && true) (known q (map.get v.standings q) refl ((unreachable_means v q).0 is).member)
     by_has q false is = and_right (is_among q (known_ones v.standings)) false refl
+
+-- ---- a set that has somebody
+pub some_there : (s : UniqueSet) (o : Option UniqueModel) → list_any (has s) (option_to_list o) ≡ true → s ≢ no_one
+some_there s None any none = true≢false (sym any)
+some_there s (Some who) any none = true≢false (sym (either _ any) ∙ ap (λ s. has s who) none ∙ has-no_one who)
+  where
+    either : (b : Bool) → (b || false) ≡ true → b ≡ true
+    either true any = any
+    either false any = any
+
+pub some_of_those : (test : UniqueModel → Bool) (s : UniqueSet) (i : ℕ) (o : Option UniqueModel) → o ≡ slice_get (in_order s) i → list_any test (option_to_list o) ≡ true → those s test ≢ no_one
+some_of_those test s i None is any none = true≢false (sym any)
+some_of_those test s i (Some who) is any none =
+    true≢false (sym (ap (λ b. b && test who) (has_at s i who (sym is)) ∙ either _ any) ∙ sym (has-those s test who) ∙ ap (λ s. has s who) none ∙ has-no_one who)
+  where
+    either : (b : Bool) → (b || false) ≡ true → b ≡ true
+    either true any = any
+    either false any = any

@@ -1,7 +1,9 @@
-ghost use Rattle.std.specs.Prelude.{◌≡◌, ◌↔◌, IfOk, OnOk, OnErr, IsOk, IsTrue, Ok, slice_get, option_map, option_copied};
+ghost use Rattle.std.specs.Prelude.{◌≡◌, ◌≢◌, ◌↔◌, IfOk, OnOk, OnErr, IsOk, IsSome, IsTrue, Ok, slice_get, option_map, option_copied, option_to_list};
+ghost use Rattle.std.specs.List.{list_any};
 ghost use Rattle.std.specs.FinMap as map;
 ghost use Rattle.ak_address.specs.Pairs.{index};
 ghost use Rattle.ak_address.specs.Unique.{UniqueModel, unique_cmp};
+ghost use Rattle.ak_address.specs.Uniques.{no_one};
 ghost use Rattle.ak_member.specs.View.{RowTable, merged_rows};
 ghost use Rattle.ak_reach.specs.Reach.{with_row, is_as_new, row_has, reported, IsReported, unreachable};
 ghost use Rattle.ak_reach.specs.Walk.{reports, with_reported};
@@ -39,9 +41,10 @@ impl Rows {
         Rows { table }
     }
 
-    /// No row, with memory for so many. Only memory can fail.
+    /// No row, with memory for so many. Only memory can fail; memory for none takes none.
     pub fn with_capacity(alloc: Global, many: usize) -> Result<Rows, AllocError>
-        ensures { IfOk result (λ rows. rows ≡ map.empty) }
+        ensures ok { IfOk result (λ rows. rows ≡ map.empty) }
+        ensures memory { many ≡ 0 → IsOk result }
     {
         let table = Table::with_capacity(alloc, many)?;
         Ok(Rows { table })
@@ -69,7 +72,7 @@ impl Rows {
     }
 
     /// Gives the observer this row, unless it has one with the same number or a greater one. After an error the rows
-    /// are as they were; only memory can fail, and a row that stays takes none.
+    /// are as they were; only memory can fail, and a row that stays takes none, nor does one that comes to name nobody.
     pub fn set_row(
         &mut self,
         alloc: Global,
@@ -80,6 +83,7 @@ impl Rows {
         ensures ok { OnOk result (self.new ≡ with_row self.old observer.now (record { number = number; subjects = subjects.now })) }
         ensures err { OnErr result (self.new ≡ self.old) }
         ensures kept { IsTrue (is_as_new (map.get self.old observer.now) number) → IsOk result }
+        ensures memory { IsSome (map.get self.old observer.now) → subjects.now ≡ no_one → IsOk result }
     {
         match self.table.place_from_end(observer) {
             Ok(place) => {
@@ -100,17 +104,19 @@ impl Rows {
 
     /// Takes in other rows: of each observer the row with the greater number, at equal numbers the own one (Akka's
     /// Cluster Specification, "Gossip": an observer's later record counts). After an error the rows are as they were;
-    /// only memory can fail.
+    /// only memory can fail, and no row brings nothing and takes none.
     pub fn merge(&mut self, alloc: Global, other: &Rows) -> Result<(), AllocError>
         ensures ok { OnOk result (self.new ≡ merged_rows self.old other.now) }
         ensures err { OnErr result (self.new ≡ self.old) }
+        ensures memory { other.now ≡ map.empty → IsOk result }
     {
         self.table.merge(alloc, &other.table)
     }
 
-    /// Equal rows. Only memory can fail.
+    /// Equal rows. Only memory can fail; a copy of no row takes none.
     pub fn copy(&self, alloc: Global) -> Result<Rows, AllocError>
-        ensures { IfOk result (λ copy. copy ≡ self.now) }
+        ensures ok { IfOk result (λ copy. copy ≡ self.now) }
+        ensures memory { self.now ≡ map.empty → IsOk result }
     {
         let table = self.table.copy(alloc)?;
         Ok(Rows { table })
@@ -125,14 +131,15 @@ impl Rows {
         is_reported(&self.table, observers, subject)
     }
 
-    /// Those of the subjects that one of these observers has in its row. Only memory can fail.
+    /// Those of the subjects that one of these observers has in its row. Only memory can fail, and only where there is one.
     pub fn unreachable(
         &self,
         alloc: Global,
         observers: &Uniques,
         subjects: &Uniques,
     ) -> Result<Uniques, AllocError>
-        ensures { IfOk result (λ them. them ≡ unreachable self.now observers.now subjects.now) }
+        ensures ok { IfOk result (λ them. them ≡ unreachable self.now observers.now subjects.now) }
+        ensures memory { OnErr result (unreachable self.now observers.now subjects.now ≢ no_one) }
     {
         reported_of(alloc, &self.table, observers, subjects)
     }
@@ -187,7 +194,8 @@ fn add_reported(
     subject: Option<&Unique>,
     them: &mut Uniques,
 ) -> Result<(), AllocError>
-    ensures { OnOk result (them.new ≡ with_reported (reported rows.now observers.now) (option_copied subject.entry) them.old) }
+    ensures ok { OnOk result (them.new ≡ with_reported (reported rows.now observers.now) (option_copied subject.entry) them.old) }
+    ensures memory { OnErr result (IsTrue (list_any (reported rows.now observers.now) (option_to_list (option_copied subject.entry)))) }
 {
     match subject {
         Some(subject) => {
@@ -206,7 +214,8 @@ fn reported_of(
     observers: &Uniques,
     subjects: &Uniques,
 ) -> Result<Uniques, AllocError>
-    ensures { IfOk result (λ them. them ≡ unreachable rows.now observers.now subjects.now) }
+    ensures ok { IfOk result (λ them. them ≡ unreachable rows.now observers.now subjects.now) }
+    ensures memory { OnErr result (unreachable rows.now observers.now subjects.now ≢ no_one) }
 {
     let mut them = Uniques::empty(alloc);
     'subjects: for index in 0..subjects.len() {

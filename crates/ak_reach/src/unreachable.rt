@@ -1,7 +1,7 @@
-ghost use Rattle.std.specs.Prelude.{◌≡◌, ◌↔◌, IsTrue, IfOk, OnOk, slice_get, option_map, option_to_list};
+ghost use Rattle.std.specs.Prelude.{◌≡◌, ◌≢◌, ◌↔◌, IsTrue, IfOk, OnOk, OnErr, slice_get, option_map, option_to_list};
 ghost use Rattle.std.specs.List.{list_any};
 ghost use Rattle.std.specs.FinMap as map;
-ghost use Rattle.ak_address.specs.Uniques.{has};
+ghost use Rattle.ak_address.specs.Uniques.{has, no_one};
 ghost use Rattle.ak_member.specs.Standing.{has_status};
 ghost use Rattle.ak_reach.specs.Unreachable.{observes, unreachable_members, IsUnreachable};
 ghost use Rattle.ak_reach.specs.Walk.{row_shows, with_reported};
@@ -24,13 +24,14 @@ pub fn is_unreachable(members: &Members, rows: &Rows, who: &Unique) -> bool
     false
 }
 
-/// The unreachable members, as a set. Only memory can fail.
+/// The unreachable members, as a set. Only memory can fail, and only where there is one.
 pub fn unreachable_members(
     alloc: Global,
     members: &Members,
     rows: &Rows,
 ) -> Result<Uniques, AllocError>
-    ensures { IfOk result (λ them. them ≡ unreachable_members (record { standings = members.now; rows = rows.now })) }
+    ensures ok { IfOk result (λ them. them ≡ unreachable_members (record { standings = members.now; rows = rows.now })) }
+    ensures memory { OnErr result (unreachable_members (record { standings = members.now; rows = rows.now }) ≢ no_one) }
 {
     let mut them = Uniques::empty(alloc);
     'pairs: for pair in 0..members.uniques() {
@@ -47,7 +48,8 @@ fn add_unreachable(
     pair: usize,
     them: &mut Uniques,
 ) -> Result<(), AllocError>
-    ensures { OnOk result (them.new ≡ with_reported (has (unreachable_members (record { standings = members.now; rows = rows.now }))) (option_map (λ e. e.0) (slice_get (map.entries members.now) pair)) them.old) }
+    ensures ok { OnOk result (them.new ≡ with_reported (has (unreachable_members (record { standings = members.now; rows = rows.now }))) (option_map (λ e. e.0) (slice_get (map.entries members.now) pair)) them.old) }
+    ensures memory { OnErr result (IsTrue (list_any (has (unreachable_members (record { standings = members.now; rows = rows.now }))) (option_to_list (option_map (λ e. e.0) (slice_get (map.entries members.now) pair))))) }
 {
     match members.pair(pair) {
         Some((who, _)) => {

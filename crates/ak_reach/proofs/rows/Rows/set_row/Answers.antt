@@ -1,4 +1,4 @@
-use Rattle.std.proofs.Common.{◌≡◌, OnOk, None, true≢false, sym, ap, ◌∙◌, subst}
+use Rattle.std.proofs.Common.{◌≡◌, OnOk, None, is_some, true≢false, sym, ap, ◌∙◌, subst}
 use Rattle.std.specs.FinMap as map
 use Rattle.ak_address.specs.Table.{value_with}
 use Rattle.ak_address.proofs.TableLemmas.{place_in_range, has_no_place}
@@ -36,5 +36,13 @@ returns-in_ok-subjects-in-Err-clause-ok c =
     let none : map.get rows who ≡ None = has_no_place rows who c.in-Err.place c.in-Err.ensures in
     let as_row = ap (λ o. map.insert rows who (value_with later_row o row)) (sym none) ∙ ap (λ t. with_row t who row) c.self.view_is in
     subst (λ t. OnOk c.insert_at.result (c.insert_at.new.self ≡ t)) as_row
-    (subst (λ s. OnOk c.insert_at.result (c.insert_at.new.self ≡ map.insert rows who (record { number = c.args.number; subjects = s }))) c.in_ok-subjects-in-Err.ensures
+    (subst (λ s. OnOk c.insert_at.result (c.insert_at.new.self ≡ map.insert rows who (record { number = c.args.number; subjects = s }))) (c.in_ok-subjects-in-Err.ensures {u = tt}).ok
     (subst (λ w. OnOk c.insert_at.result (c.insert_at.new.self ≡ map.insert rows w (record { number = c.args.number; subjects = c.in_ok-subjects-in-Err.subjects }))) c.in_ok-who-in-Err.ensures c.insert_at.ensures.ok))
+
+pub returns-in_err-who-in-Err-clause-memory : goal.returns-in_err-who-in-Err-clause-memory
+returns-in_err-who-in-Err-clause-memory c there none =
+    absurd (true≢false (sym there ∙ ap (λ rows. is_some (map.get rows c.args.observer.now)) (sym c.self.view_is) ∙ ap is_some (has_no_place c.self.inside.table c.args.observer.now c.in-Err.place c.in-Err.ensures)))
+
+pub returns-in_ok-subjects-in-Err-clause-memory : goal.returns-in_ok-subjects-in-Err-clause-memory
+returns-in_ok-subjects-in-Err-clause-memory c there none =
+    absurd (true≢false (sym there ∙ ap (λ rows. is_some (map.get rows c.args.observer.now)) (sym c.self.view_is) ∙ ap is_some (has_no_place c.self.inside.table c.args.observer.now c.in-Err.place c.in-Err.ensures)))
