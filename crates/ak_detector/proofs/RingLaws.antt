@@ -17,7 +17,7 @@ use Rattle.ak_address.specs.Changed.{keys_of}
 use Rattle.ak_address.specs.Counters.{Counters, counter}
 use Rattle.ak_address.proofs.OrderLemmas.{unique_total, unique_exact}
 use Rattle.ak_address.proofs.Pairs.{Stands, known, rises, not_None, IsAboveBefore, IsBelowFrom, above_before, goes_between}
-use Rattle.ak_address.proofs.TableLaws.{same_table}
+use Rattle.ak_address.proofs.TableLaws.{same_table, none_of_length}
 use Rattle.ak_address.proofs.UniquesLaws.{same_uniques}
 use Rattle.ak_address.proofs.ChangedLaws.{has-keys_of}
 use Rattle.ak_address.proofs.CountersLaws.{among, has-set_of, set_of-in_order}
@@ -25,7 +25,7 @@ use Rattle.ak_member.specs.declared.standing.Standing.{Standing}
 use Rattle.ak_member.specs.declared.standing.Standing.TheVariants.{Member, Buried}
 use Rattle.ak_member.specs.Standing.{Standings, is_member, member_pairs}
 use Rattle.ak_member.proofs.MemberLemmas.{KeepsPairs, kept_pair, kept_at_end, drop_from, keeps_members}
-use Rattle.ak_member.proofs.Folds.{keeps_mapped}
+use Rattle.ak_member.proofs.Folds.{keeps_mapped, kept_none, set_of_none}
 use Rattle.ak_detector.specs.Detector.{most_watched, watch_ring, is_silent, watching}
 use Rattle.ak_detector.specs.Sides.{Agrees, is_on_side, names_of, run, side_pairs}
 use Rattle.ak_detector.proofs.DetectorLaws.{get-watching}
@@ -263,3 +263,30 @@ module _ (me : UniqueModel) (s : Standings) where
       by_case (Some n) t = refl
       by_case None true = refl
       by_case None false = refl
+
+-- ---- where nobody is
+-- where a run has no member, a pair of it is none
+pub run_none : (from to i : ℕ) (pairs : List (UniqueModel × Standing)) (o : Option UniqueModel) → from ≤ i → i < to → option_to_list o ≡ names_of (option_to_list (slice_get pairs i)) → option_to_list o ≢ [] → names_of (run from to pairs) ≢ []
+run_none from to i pairs o least lt is some none =
+    let index : from + (i - from) ≡ i = omega arith in
+    let here = kept_none names_of keeps_names (run from to pairs) (i - from) none in
+    let there = ap (λ e. names_of (option_to_list e)) (got_of_drop from (i - from) (take to pairs) ∙ ap (slice_get (take to pairs)) index) in
+    some (there_in to i pairs o lt is ∙ sym there ∙ here)
+
+-- where the ring is nobody, no member is on either side
+pub ring_none : (me : UniqueModel) (s : Standings) → watch_ring me s ≡ no_one → (side_pairs true me (finmap.entries s) ≡ []) × (side_pairs false me (finmap.entries s) ≡ [])
+ring_none me s none =
+    let after = side_pairs true me (finmap.entries s) in
+    let before = side_pairs false me (finmap.entries s) in
+    let nobody : take most_watched (after ++ before) ≡ [] = set_of_none (take most_watched (after ++ before)) none in (
+      none_of_length after (omega (arith, ap length nobody, length-take most_watched (after ++ before), length-append after before)),
+      none_of_length before (omega (arith, ap length nobody, length-take most_watched (after ++ before), length-append after before)),
+    )
+
+-- somebody is in a set that others join, or among these
+pub some_of_both : (p : UniqueModel → Bool) (set others both : UniqueSet) → both ≡ fold with_one set (filter p (in_order others)) → both ≢ no_one → (set ≢ no_one) ⊎ (others ≢ no_one)
+some_of_both p set others both is some =
+    elim (in_order others) as (λ l. in_order others ≡ l → both ≡ fold with_one set (filter p l) → (set ≢ no_one) ⊎ (others ≢ no_one)) [
+      | [] ↦ λ _ is. inl (λ none. some (is ∙ none))
+      | who ∷ rest ↦ λ there _. inr (λ none. absurd (omega (arith, ap length there, length-in_order others, ap how_many none, finmap.len-empty unique_cmp (Unit {0}))))
+    ] refl is

@@ -1,9 +1,9 @@
-ghost use Rattle.std.specs.Prelude.{◌≡◌, ◌<◌, ◌≤◌, ◌-◌, ◌^◌, ℕ, IfOk, OnOk, OnErr, IsTrue, slice_get, option_copied, option_map, option_to_list};
+ghost use Rattle.std.specs.Prelude.{◌≡◌, ◌≢◌, ◌⊎◌, ◌<◌, ◌≤◌, ◌-◌, ◌^◌, ℕ, IfOk, OnOk, OnErr, IsTrue, slice_get, option_copied, option_map, option_to_list};
 ghost use Rattle.std.specs.List.{fold, filter};
 ghost use Rattle.std.specs.FinMap as map;
 ghost use Rattle.ak_address.specs.Changed.{keys_of};
 ghost use Rattle.ak_address.specs.Counters.{counter, with_each};
-ghost use Rattle.ak_address.specs.Uniques.{has, with_one, in_order};
+ghost use Rattle.ak_address.specs.Uniques.{has, no_one, with_one, in_order};
 ghost use Rattle.ak_member.specs.Standing.{is_member};
 ghost use Rattle.ak_detector.specs.Detector.{silent, watching, watch_ring, heard, ticked};
 ghost use Rattle.ak_detector.specs.Sides.{above_pairs};
@@ -33,6 +33,7 @@ impl Model for Detector {
 
     ghost view = { λ d. d.counters };
 
+    // The set is kept beside the counters so that the ring is compared with it, and nobody need make it anew.
     ghost invariant = { λ d. d.watched ≡ keys_of d.counters };
 }
 
@@ -48,7 +49,7 @@ impl Detector {
 
     /// The detector that watches the node's ring, and on whoever is silent by this deadline and still a member: one that is
     /// silent is reported until it is heard or removed (this project's choice). A counter is kept, a new one is 0. Only memory
-    /// can fail.
+    /// can fail, and only where there is another member, or somebody silent.
     pub fn watching(
         &self,
         alloc: Global,
@@ -56,7 +57,8 @@ impl Detector {
         members: &Members,
         deadline: u32,
     ) -> Result<Detector, AllocError>
-        ensures { IfOk result (λ detector. detector ≡ watching me.now members.now deadline self.now) }
+        ensures ok { IfOk result (λ detector. detector ≡ watching me.now members.now deadline self.now) }
+        ensures memory { OnErr result ((watch_ring me.now members.now ≢ no_one) ⊎ (silent deadline self.now ≢ no_one)) }
     {
         let mut watched = watch_ring(alloc, me, members)?;
         let silent = silent_in(alloc, &self.counters, deadline)?;
@@ -74,7 +76,8 @@ impl Detector {
         is_ring(me, members, &self.watched)
     }
 
-    /// Watches so from now on. After an error the detector is as it was; only memory can fail.
+    /// Watches so from now on. After an error the detector is as it was; only memory can fail, and only where there is another
+    /// member, or somebody silent.
     pub fn watch(
         &mut self,
         alloc: Global,
@@ -84,6 +87,7 @@ impl Detector {
     ) -> Result<(), AllocError>
         ensures ok { OnOk result (self.new ≡ watching me.now members.now deadline self.old) }
         ensures err { OnErr result (self.new ≡ self.old) }
+        ensures memory { OnErr result ((watch_ring me.now members.now ≢ no_one) ⊎ (silent deadline self.old ≢ no_one)) }
     {
         if self.watches_already(me, members) {
             return Ok(());
@@ -108,17 +112,20 @@ impl Detector {
         self.counters.raise_all(deadline + 1);
     }
 
-    /// Those whose counter is above the deadline: they were not heard for so long. Only memory can fail.
+    /// Those whose counter is above the deadline: they were not heard for so long. Only memory can fail, and only where there
+    /// is one.
     pub fn silent(&self, alloc: Global, deadline: u32) -> Result<Uniques, AllocError>
-        ensures { IfOk result (λ them. them ≡ silent deadline self.now) }
+        ensures ok { IfOk result (λ them. them ≡ silent deadline self.now) }
+        ensures memory { OnErr result (silent deadline self.now ≢ no_one) }
     {
         silent_in(alloc, &self.counters, deadline)
     }
 
-    /// Those that will be silent after one more tick. Only memory can fail.
+    /// Those that will be silent after one more tick. Only memory can fail, and only where there is one.
     pub fn silent_next(&self, alloc: Global, deadline: u32) -> Result<Uniques, AllocError>
         requires { 1 ≤ deadline }
-        ensures { IfOk result (λ them. them ≡ silent deadline (ticked deadline self.now)) }
+        ensures ok { IfOk result (λ them. them ≡ silent deadline (ticked deadline self.now)) }
+        ensures memory { OnErr result (silent deadline (ticked deadline self.now) ≢ no_one) }
     {
         let them = silent_in(alloc, &self.counters, deadline - 1)?;
         Ok(them)
@@ -141,7 +148,8 @@ impl Detector {
 }
 
 fn silent_in(alloc: Global, counters: &Table<u32>, deadline: u32) -> Result<Uniques, AllocError>
-    ensures { IfOk result (λ them. them ≡ silent deadline counters.now) }
+    ensures ok { IfOk result (λ them. them ≡ silent deadline counters.now) }
+    ensures memory { OnErr result (silent deadline counters.now ≢ no_one) }
 {
     let mut them = Uniques::empty(alloc);
     'pairs: for pair in 0..counters.len() {
@@ -182,7 +190,8 @@ fn add_members(
     whos: &Uniques,
     them: &mut Uniques,
 ) -> Result<(), AllocError>
-    ensures { OnOk result (them.new ≡ fold with_one them.old (filter (is_member members.now) (in_order whos.now))) }
+    ensures ok { OnOk result (them.new ≡ fold with_one them.old (filter (is_member members.now) (in_order whos.now))) }
+    ensures memory { OnErr result (whos.now ≢ no_one) }
 {
     'whos: for index in 0..whos.len() {
         them.insert_if_some(alloc, member_at(members, whos, index))?;
@@ -211,7 +220,8 @@ fn counters_for(
     before: &Table<u32>,
     watched: &Uniques,
 ) -> Result<Table<u32>, AllocError>
-    ensures { IfOk result (λ counters. counters ≡ with_each before.now (in_order watched.now) map.empty) }
+    ensures ok { IfOk result (λ counters. counters ≡ with_each before.now (in_order watched.now) map.empty) }
+    ensures memory { OnErr result (watched.now ≢ no_one) }
 {
     let mut counters = Table::empty(alloc);
     'watched: for index in 0..watched.len() {

@@ -1,7 +1,7 @@
-ghost use Rattle.std.specs.Prelude.{◌≡◌, ◌-◌, ◌≤◌, true, false, IfOk, IsTrue, MatchOption, length, min, take, drop, slice_get, option_copied, option_to_list};
+ghost use Rattle.std.specs.Prelude.{◌≡◌, ◌≢◌, ◌-◌, ◌≤◌, [], true, false, IfOk, OnErr, IsTrue, MatchOption, length, min, take, drop, slice_get, option_copied, option_to_list};
 ghost use Rattle.std.specs.List.{fold};
 ghost use Rattle.std.specs.FinMap as map;
-ghost use Rattle.ak_address.specs.Uniques.{with_one, in_order};
+ghost use Rattle.ak_address.specs.Uniques.{no_one, with_one, in_order};
 ghost use Rattle.ak_detector.specs.Detector.{watch_ring};
 ghost use Rattle.ak_detector.specs.Sides.{Agrees, names_of, run, side_pairs};
 
@@ -9,14 +9,16 @@ use ak_address::{Unique, Uniques};
 use ak_member::{Members, Standing};
 use std::alloc::{AllocError, Global};
 
-// A node watches this many members.
+// A node watches this many members: each is watched by as many, so that it is noticed where some of these are gone too, and what a
+// node sends does not grow with the cluster.
 const MOST_WATCHED: usize = 5;
 
 /// Whom a node watches: the next five members after it in the order of processes, in which the first comes after the
 /// last, or all others where there are fewer; the node need not be a member (Akka's Cluster Specification, "Failure
-/// Detector"; that there are five is this project's choice). Only memory can fail.
+/// Detector"; that there are five is this project's choice). Only memory can fail, and only where there is another member.
 pub fn watch_ring(alloc: Global, me: &Unique, members: &Members) -> Result<Uniques, AllocError>
-    ensures { IfOk result (λ ring. ring ≡ watch_ring me.now members.now) }
+    ensures ok { IfOk result (λ ring. ring ≡ watch_ring me.now members.now) }
+    ensures memory { OnErr result (watch_ring me.now members.now ≢ no_one) }
 {
     let mut ring = Uniques::empty(alloc);
     let end = members.uniques();
@@ -75,7 +77,8 @@ fn add_run(
     most: usize,
     ring: &mut Uniques,
 ) -> Result<usize, AllocError>
-    ensures { IfOk result (λ n. (n ≡ most - length (names_of (run from to (map.entries members.now)))) × (ring.new ≡ fold with_one ring.old (take most (names_of (run from to (map.entries members.now)))))) }
+    ensures ok { IfOk result (λ n. (n ≡ most - length (names_of (run from to (map.entries members.now)))) × (ring.new ≡ fold with_one ring.old (take most (names_of (run from to (map.entries members.now)))))) }
+    ensures memory { OnErr result (names_of (run from to (map.entries members.now)) ≢ []) }
 {
     let mut left = most;
     'pairs: for pair in from..to {
@@ -94,7 +97,8 @@ fn add_next(
     left: usize,
     ring: &mut Uniques,
 ) -> Result<usize, AllocError>
-    ensures { IfOk result (λ n. (n ≡ left - length (option_to_list (option_copied who.entry))) × (ring.new ≡ fold with_one ring.old (take left (option_to_list (option_copied who.entry))))) }
+    ensures ok { IfOk result (λ n. (n ≡ left - length (option_to_list (option_copied who.entry))) × (ring.new ≡ fold with_one ring.old (take left (option_to_list (option_copied who.entry))))) }
+    ensures memory { OnErr result (option_to_list (option_copied who.entry) ≢ []) }
 {
     match who {
         Some(who) => {

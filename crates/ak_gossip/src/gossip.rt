@@ -62,6 +62,7 @@ impl Model for Gossip {
 
     ghost view = { λ g. g.known };
 
+    // So that each part of it has an index among its processes, and a row is of an entry that is counted.
     ghost invariant = { λ g. IsGossip g.known };
 }
 
@@ -318,7 +319,8 @@ impl Gossip {
     }
 }
 
-// A gossip may hold this many processes, members and tombstones together.
+// A gossip may hold this many processes, members and tombstones together: so that one fits into a datagram, and a process has an
+// index of one byte there.
 pub(crate) const MOST_UNIQUES: usize = 128;
 
 // The version with one entry more of the author, and the number of that entry.

@@ -1,5 +1,9 @@
 -- The walk over the entries of a history comes to what the version shows of it.
-use Rattle.std.proofs.Common.{◌≡◌, ℕ, ◌<◌, if◌then◌else◌, List, [], ◌∷◌, Option, None, Some, refl, ap, ◌∙◌}
+use Rattle.std.proofs.Common.{◌≡◌, ℕ, zero, suc, ◌<◌, Bool, true, false, ◌||◌, if◌then◌else◌, List, [], ◌∷◌, reverse, slice_get, Option, None, Some, refl, ap, ◌∙◌}
+use Rattle.std.specs.List.{list_any}
+use Rattle.std.proofs.lemmas.Option.{none-some, same_Some}
+use Rattle.std.proofs.lemmas.List.Folds.{list_any-append}
+use mathlib.Core.List.{reverse-cons}
 use Rattle.std.proofs.lemmas.Bool.{lt-ltb}
 use Rattle.std.specs.FinMap as map
 use Rattle.ak_address.specs.Unique.{UniqueModel}
@@ -30,3 +34,20 @@ walk_shows [] v numbered = refl
 walk_shows (e ∷ history) v numbered =
     ap (with_covered v e) (walk_shows history v numbered.1)
     ∙ ap (λ u. if is_covered v e then u else view history v) (entry_set e (view history v) (rows_below e history v numbered))
+
+-- where an entry passes a test, one of them does, whichever is the first
+pub any_reversed : {X : Type 0} (p : X → Bool) (xs : List X) (i : ℕ) (x : X) → slice_get xs i ≡ Some x → p x ≡ true → list_any p (reverse xs) ≡ true
+any_reversed p [] i x is passes = absurd (none-some x is)
+any_reversed p (y ∷ ys) zero x is passes =
+    ap (list_any p) (reverse-cons y ys)
+    ∙ list_any-append p (reverse ys) (y ∷ [])
+    ∙ ap (λ b. list_any p (reverse ys) || (b || false)) (ap p (same_Some y x is) ∙ passes)
+    ∙ or_true (list_any p (reverse ys))
+  where
+    or_true : (b : Bool) → (b || true) ≡ true
+    or_true true = refl
+    or_true false = refl
+any_reversed p (y ∷ ys) (suc i) x is passes =
+    ap (list_any p) (reverse-cons y ys)
+    ∙ list_any-append p (reverse ys) (y ∷ [])
+    ∙ ap (λ b. b || list_any p (y ∷ [])) (any_reversed p ys i x is passes)

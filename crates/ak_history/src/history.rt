@@ -1,7 +1,8 @@
-ghost use Rattle.std.specs.Prelude.{◌≡◌, ◌+◌, ◌≤◌, [], ◌∷◌, reverse, length, slice_get, IfOk, OnOk, OnErr};
+ghost use Rattle.std.specs.Prelude.{◌≡◌, ◌+◌, ◌≤◌, [], ◌∷◌, reverse, length, slice_get, IfOk, OnOk, OnErr, IsTrue};
+ghost use Rattle.std.specs.List.{list_any};
 ghost use Rattle.std.specs.Option.{option_copied};
 ghost use Rattle.ak_member.specs.View.{observed};
-ghost use Rattle.ak_history.specs.History.{IsNumbered, entries_of, view};
+ghost use Rattle.ak_history.specs.History.{IsNumbered, entries_of, is_covered, view};
 ghost use Rattle.ak_history.specs.Walk.{with_observed, with_entry, with_covered, with_all_covered};
 
 use crate::entry::Entry;
@@ -33,6 +34,7 @@ impl Model for History {
 
     ghost view = { λ h. reverse h.list.items };
 
+    // So an entry is named by its author and its number, and a version need count no more than how many.
     ghost invariant = { λ h. IsNumbered (reverse h.list.items) };
 }
 
@@ -82,9 +84,11 @@ impl History {
         self.list.get(index)
     }
 
-    /// What a version shows: what the entries did that it covers, in their order. Only memory can fail.
+    /// What a version shows: what the entries did that it covers, in their order. Only memory can fail, and only where it covers
+    /// one.
     pub fn view(&self, alloc: Global, version: &Version) -> Result<View, AllocError>
-        ensures { IfOk result (λ shown. shown ≡ view self.now version.now) }
+        ensures ok { IfOk result (λ shown. shown ≡ view self.now version.now) }
+        ensures memory { OnErr result (IsTrue (list_any (is_covered version.now) self.now)) }
     {
         shown_by(alloc, &self.list, version)
     }
@@ -134,7 +138,8 @@ fn after_covered(
     entry: &Entry,
     version: &Version,
 ) -> Result<View, AllocError>
-    ensures { IfOk result (λ after. after ≡ with_covered version.now entry.now shown) }
+    ensures ok { IfOk result (λ after. after ≡ with_covered version.now entry.now shown) }
+    ensures memory { OnErr result (IsTrue (is_covered version.now entry.now)) }
 {
     if entry.number <= version.count(&entry.author) {
         return after_entry(alloc, shown, entry);
@@ -144,7 +149,8 @@ fn after_covered(
 
 // What the version shows of these entries.
 fn shown_by(alloc: Global, entries: &[Entry], version: &Version) -> Result<View, AllocError>
-    ensures { IfOk result (λ shown. shown ≡ with_all_covered version.now (reverse entries.now)) }
+    ensures ok { IfOk result (λ shown. shown ≡ with_all_covered version.now (reverse entries.now)) }
+    ensures memory { OnErr result (IsTrue (list_any (is_covered version.now) (reverse entries.now))) }
 {
     let members = Members::empty(alloc);
     let rows = Rows::empty(alloc);

@@ -1,7 +1,8 @@
 -- The walks of the calls along the members, and that the leader is the first that may lead.
-use Rattle.std.proofs.Common.{◌≡◌, ℕ, ◌+◌, ◌≤◌, max, Bool, true, false, not, cond, ◌⊎◌, inl, inr, T, List, [], ◌∷◌, ◌++◌, length, drop, slice_get, Option, Some, None, option_map, option_to_list, Contains, refl, sym, ap, ◌∙◌, subst, append_assoc, append-nil, arith, true≢false}
+use Rattle.std.proofs.Common.{◌≡◌, ◌≢◌, ℕ, ◌+◌, ◌≤◌, max, Bool, true, false, not, cond, ◌⊎◌, inl, inr, T, List, [], ◌∷◌, ◌++◌, length, drop, slice_get, Option, Some, None, option_map, option_to_list, Contains, refl, sym, ap, ◌∙◌, subst, append_assoc, append-nil, arith, true≢false}
 use Rattle.std.proofs.lemmas.Bool.{and_parts, and_from}
 use Rattle.std.proofs.lemmas.List.Folds.{find-append}
+use Rattle.std.proofs.lemmas.List.{length-append}
 use Rattle.std.proofs.lemmas.Option.{none-some, same_Some}
 use Rattle.std.specs.declared.cmp.Ordering.TheVariants.{Less}
 use Rattle.std.specs.List.{find}
@@ -9,6 +10,7 @@ use Rattle.std.specs.Option.{option_or}
 use Rattle.std.specs.FinMap as map
 use Rattle.ak_address.specs.Unique.{UniqueModel, unique_cmp}
 use Rattle.ak_address.specs.Uniques.{UniqueSet, has}
+use Rattle.ak_address.proofs.TableLaws.{none_of_length}
 use Rattle.ak_address.proofs.OrderLemmas.{unique_total}
 use Rattle.ak_address.proofs.Pairs.{first, second, below_at}
 use Rattle.ak_member.specs.declared.effect.Effect.{Effect}
@@ -196,3 +198,20 @@ founded_more so_far effects all who copy number next rest same more is before =
 pub founded_end : (s : Standings) (i number : ℕ) (so_far : List Effect) → length (map.entries s) ≤ i → so_far ++ numbered number (joining_among (drop i (map.entries s))) ≡ numbered 0 (joining_among (map.entries s)) → so_far ≡ all_founded 0 (members_of s)
 founded_end s i number so_far past before =
     sym (append-nil so_far) ∙ ap (λ l. so_far ++ numbered number l) (sym (kept_at_end joining_among keeps_joining (map.entries s) i past)) ∙ before ∙ founded_numbered 0 (members_of s)
+
+-- ---- where an effect is made, there is one
+pub some_made : (before here rest all : List Effect) → (before ++ here) ++ rest ≡ all → here ≢ [] → all ≢ []
+some_made before here rest all is some none =
+    some (none_of_length here (omega (arith, ap length (is ∙ none), length-append (before ++ here) rest, length-append before here)))
+
+pub some_led : (lost confirmed : UniqueSet) (es : List (UniqueModel × Standing)) (i number : ℕ) (so_far all : List Effect)
+    → so_far ++ all_led lost confirmed number (member_pairs (drop i es)) ≡ all → all_led lost confirmed number (member_pairs (option_to_list (slice_get es i))) ≢ [] → all ≢ []
+some_led lost confirmed es i number so_far all before some = some_made so_far _ _ all (led_next lost confirmed es i number so_far _ all refl before) some
+
+pub some_founded : (s : Standings) (i number : ℕ) (who : UniqueModel) (so_far : List Effect) → who ∷ [] ≡ joining_among (option_to_list (slice_get (map.entries s) i))
+    → so_far ++ numbered number (joining_among (drop i (map.entries s))) ≡ numbered 0 (joining_among (map.entries s)) → all_founded 0 (members_of s) ≢ []
+some_founded s i number who so_far is before none =
+    let es = map.entries s in
+    let one = Rise who Up (number + 1) ∷ numbered (number + 1) (joining_among (drop (i + 1) es)) in
+    let whole : so_far ++ one ≡ [] = founded_next es i number (Some who) so_far _ is before ∙ founded_numbered 0 (members_of s) ∙ none in
+    absurd (omega (arith, ap length whole, length-append so_far one))

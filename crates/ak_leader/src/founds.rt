@@ -1,4 +1,4 @@
-ghost use Rattle.std.specs.Prelude.{◌≡◌, IfOk, slice_get, option_copied, option_to_list};
+ghost use Rattle.std.specs.Prelude.{◌≡◌, ◌≢◌, [], IfOk, OnErr, slice_get, option_copied, option_to_list};
 ghost use Rattle.std.specs.FinMap as map;
 ghost use Rattle.ak_member.specs.Standing.{member_pairs};
 ghost use Rattle.ak_leader.specs.Leader.{founding_effects};
@@ -9,9 +9,10 @@ use ak_member::{Effect, Effects, Members, Standing, Status};
 use std::alloc::{AllocError, Global};
 
 /// What founds a cluster: each Joining member, in the order of processes, comes Up with the numbers 1, 2, 3 and so on
-/// (this project's choice; in Akka the first seed node joins itself). Only memory can fail.
+/// (this project's choice; in Akka the first seed node joins itself). Only memory can fail, and only where a member is Joining.
 pub fn founding(alloc: Global, members: &Members) -> Result<Effects, AllocError>
-    ensures { IfOk result (λ effects. effects ≡ founding_effects members.now) }
+    ensures ok { IfOk result (λ effects. effects ≡ founding_effects members.now) }
+    ensures memory { OnErr result (founding_effects members.now ≢ []) }
 {
     let mut effects = Effects::empty(alloc);
     let mut number = 0;

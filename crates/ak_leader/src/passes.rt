@@ -1,4 +1,4 @@
-ghost use Rattle.std.specs.Prelude.{◌≡◌, ◌+◌, [], ◌∷◌, ◌++◌, true, false, if◌then◌else◌, IfOk, OnOk, slice_get, option_to_list};
+ghost use Rattle.std.specs.Prelude.{◌≡◌, ◌≢◌, ◌||◌, IsTrue, ◌+◌, [], ◌∷◌, ◌++◌, true, false, if◌then◌else◌, IfOk, OnOk, OnErr, slice_get, option_to_list};
 ghost use Rattle.std.specs.FinMap as map;
 ghost use Rattle.ak_member.specs.Standing.{member_pairs, members_of};
 ghost use Rattle.ak_member.specs.declared.effect.Effect.TheVariants.{Rise, Removed};
@@ -17,14 +17,15 @@ use std::alloc::{AllocError, Global};
 /// with the next number above all up numbers of the view, from 1 to `BOUND` (past that, it stays as it is); a Leaving one
 /// exits; an Exiting or Down one that is among those confirmed to have stopped is removed as confirmed; any other Down one
 /// that is unreachable is removed unconfirmed (Akka's Cluster Specification, "Leader"; the confirmation is this project's
-/// choice). Only memory can fail.
+/// choice). Only memory can fail, and only where there is an effect.
 pub fn actions(
     alloc: Global,
     members: &Members,
     rows: &Rows,
     confirmed: &Uniques,
 ) -> Result<Effects, AllocError>
-    ensures { IfOk result (λ effects. effects ≡ leaders_effects (record { standings = members.now; rows = rows.now }) confirmed.now) }
+    ensures ok { IfOk result (λ effects. effects ≡ leaders_effects (record { standings = members.now; rows = rows.now }) confirmed.now) }
+    ensures memory { OnErr result (leaders_effects (record { standings = members.now; rows = rows.now }) confirmed.now ≢ []) }
 {
     let mut effects = Effects::empty(alloc);
     let mut number = greatest_number(members);
@@ -67,7 +68,8 @@ fn effect_at(
     pair: usize,
     number: u64,
 ) -> Result<Option<Effect>, AllocError>
-    ensures { IfOk result (λ effect. option_to_list effect ≡ all_led (unreachable_members (record { standings = members.now; rows = rows.now })) confirmed.now number (member_pairs (option_to_list (slice_get (map.entries members.now) pair)))) }
+    ensures ok { IfOk result (λ effect. option_to_list effect ≡ all_led (unreachable_members (record { standings = members.now; rows = rows.now })) confirmed.now number (member_pairs (option_to_list (slice_get (map.entries members.now) pair)))) }
+    ensures memory { OnErr result (all_led (unreachable_members (record { standings = members.now; rows = rows.now })) confirmed.now number (member_pairs (option_to_list (slice_get (map.entries members.now) pair))) ≢ []) }
 {
     match members.pair(pair) {
         Some((who, Standing::Member(Status::Joining, _))) => rise(alloc, who, number),
@@ -89,7 +91,8 @@ fn effect_at(
 
 // A Joining member comes Up with the next number, if that is within the bound.
 fn rise(alloc: Global, who: &Unique, number: u64) -> Result<Option<Effect>, AllocError>
-    ensures { IfOk result (λ effect. option_to_list effect ≡ if has_next number then Rise who.now Up (number + 1) ∷ [] else []) }
+    ensures ok { IfOk result (λ effect. option_to_list effect ≡ if has_next number then Rise who.now Up (number + 1) ∷ [] else []) }
+    ensures memory { OnErr result (IsTrue (has_next number)) }
 {
     if number < BOUND {
         return Ok(Some(Effect::Rise(who.copy(alloc)?, Status::Up, number + 1)));
@@ -104,7 +107,8 @@ fn removal(
     confirmed: bool,
     lost: bool,
 ) -> Result<Option<Effect>, AllocError>
-    ensures { IfOk result (λ effect. option_to_list effect ≡ if confirmed then Removed who.now true ∷ [] else (if lost then Removed who.now false ∷ [] else [])) }
+    ensures ok { IfOk result (λ effect. option_to_list effect ≡ if confirmed then Removed who.now true ∷ [] else (if lost then Removed who.now false ∷ [] else [])) }
+    ensures memory { OnErr result (IsTrue (confirmed || lost)) }
 {
     if confirmed || lost {
         return Ok(Some(Effect::Removed(who.copy(alloc)?, confirmed)));
@@ -143,7 +147,8 @@ fn number_after(number: u64, status: Status) -> u64
 
 // Appends the effect, if there is one.
 fn add(effects: &mut Effects, effect: Option<Effect>) -> Result<(), AllocError>
-    ensures { OnOk result (effects.new ≡ effects.old ++ option_to_list effect) }
+    ensures ok { OnOk result (effects.new ≡ effects.old ++ option_to_list effect) }
+    ensures memory { OnErr result (option_to_list effect ≢ []) }
 {
     match effect {
         Some(effect) => effects.push(effect),

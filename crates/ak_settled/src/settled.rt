@@ -1,8 +1,8 @@
-ghost use Rattle.std.specs.Prelude.{◌≡◌, ◌≤◌, IfOk, OnOk, OnErr, length, slice_get, option_copied, option_map, option_to_list, is_some};
+ghost use Rattle.std.specs.Prelude.{◌≡◌, ◌≢◌, ◌≤◌, IfOk, OnOk, OnErr, length, slice_get, option_copied, option_map, option_to_list, is_some};
 ghost use Rattle.std.specs.Prelude as list;
 ghost use Rattle.std.specs.List.{fold};
 ghost use Rattle.std.specs.FinMap as map;
-ghost use Rattle.ak_address.specs.Uniques.{set_of};
+ghost use Rattle.ak_address.specs.Uniques.{no_one, set_of};
 ghost use Rattle.ak_address.specs.Changed.{changed};
 ghost use Rattle.ak_address.specs.Counters.{counter, with_each};
 ghost use Rattle.ak_clock.specs.Version.{Covers};
@@ -37,6 +37,7 @@ impl Model for Settled {
 
     ghost view = { λ s. settled_of s.exists s.version s.members s.counters };
 
+    // Where no view is noted nothing stands in its tables, so that what is kept is one value for each settled view.
     ghost invariant = { λ s. IsKept s.exists s.version s.members s.counters };
 }
 
@@ -133,9 +134,10 @@ impl Settled {
     }
 
     /// Whom the node waits for: the members of the settled view that are not Joining, and its tombstones that are not
-    /// finished. Only memory can fail.
+    /// finished. Only memory can fail, and only where there is one.
     pub fn needed(&self, alloc: Global, margin: u32) -> Result<Uniques, AllocError>
-        ensures { IfOk result (λ them. them ≡ needed margin self.now.view) }
+        ensures ok { IfOk result (λ them. them ≡ needed margin self.now.view) }
+        ensures memory { OnErr result (needed margin self.now.view ≢ no_one) }
     {
         needed_in(alloc, &self.members, &self.counters, margin)
     }
@@ -259,7 +261,8 @@ fn needed_in(
     counters: &Table<Ticks>,
     margin: u32,
 ) -> Result<Uniques, AllocError>
-    ensures { IfOk result (λ them. them ≡ set_of (needed_pairs margin (counts_of counters.now) (map.entries members.now))) }
+    ensures ok { IfOk result (λ them. them ≡ set_of (needed_pairs margin (counts_of counters.now) (map.entries members.now))) }
+    ensures memory { OnErr result (set_of (needed_pairs margin (counts_of counters.now) (map.entries members.now)) ≢ no_one) }
 {
     let mut them = Uniques::empty(alloc);
     'pairs: for pair in 0..members.uniques() {

@@ -1,7 +1,8 @@
 use Rattle.std.proofs.Common.{Some, None, ◌+◌, ◌++◌, drop, ◌∙◌, arith}
 use Rattle.std.specs.FinMap as map
+use Rattle.ak_address.proofs.Failing.{on_err}
 use Rattle.ak_leader.specs.Walk.{numbered}
-use Rattle.ak_leader.proofs.LeaderLaws.{joining_among, founded_next, founded_more, founded_end}
+use Rattle.ak_leader.proofs.LeaderLaws.{some_founded, joining_among, founded_next, founded_more, founded_end}
 use Rattle.ak_leader.proofs.founds.founding.Goals as goal
 use Rattle.ak_leader.proofs.founds.founding.Goals.{in-Some+in_ok-copy+in_ok-push, in_default}
 
@@ -23,5 +24,11 @@ pairs-preserved c =
       }
     ]
 
-pub returns : goal.returns
-returns c = founded_end c.args.members.now c.pairs.pair c.pairs.number c.pairs.effects (let past = map.len-entries c.args.members.now in omega arith) c.pairs.invariant.so_far
+pub returns-clause-ok : goal.returns-clause-ok
+returns-clause-ok c = founded_end c.args.members.now c.pairs.pair c.pairs.number c.pairs.effects (let past = map.len-entries c.args.members.now in omega arith) c.pairs.invariant.so_far
+
+pub returns-in_err-copy-clause-memory : goal.returns-in_err-copy-clause-memory
+returns-in_err-copy-clause-memory c = on_err _ (some_founded c.args.members.now c.pairs.pair c.pairs.number c.in-Some.who.now c.pairs.effects c.in-Some.ensures c.pairs.invariant.so_far)
+
+pub returns-in_err-push-clause-memory : goal.returns-in_err-push-clause-memory
+returns-in_err-push-clause-memory c = on_err _ (some_founded c.args.members.now c.pairs.pair c.pairs.number c.in-Some.who.now c.pairs.effects c.in-Some.ensures c.pairs.invariant.so_far)
