@@ -1,3 +1,4 @@
+pub mod EffectLemmas
 pub mod AlikeLaws
 pub mod Causes
 pub mod MayMake

@@ -1,12 +1,13 @@
 -- Words of the contracts of a membership's calls.
 use Rattle.std.specs.declared.alloc.AllocError.{AllocError}
-use Rattle.std.specs.Prelude.{◌≡◌, Bool, true, false, not, is_some, Result, Ok, Err, ⊤, IsTrue}
+use Rattle.std.specs.Prelude.{◌≡◌, ◌≢◌, ◌⊎◌, Bool, true, false, not, is_some, Result, Ok, Err, ⊤, IsTrue}
 use Rattle.std.specs.FinMap as map
 use Rattle.std.specs.Coded.{Coded, coded_ℕ}
 use Rattle.ak_address.specs.Changed.{keys_of}
 use Rattle.ak_address.specs.Unique.{UniqueModel, coded_unique}
+use Rattle.ak_address.specs.Uniques.{no_one}
 use Rattle.ak_clock.specs.Version.{Counts, Covers}
-use Rattle.ak_detector.specs.Detector.{watch_ring}
+use Rattle.ak_detector.specs.Detector.{watch_ring, silent}
 use Rattle.ak_gossip.specs.declared.gossip.Received.{Received}
 use Rattle.ak_gossip.specs.declared.gossip.Received.TheVariants as received
 use Rattle.ak_gossip.specs.declared.gossip.GossipFault.{GossipFault}
@@ -20,7 +21,7 @@ use Rattle.ak_membership.specs.declared.change.MemberFault.{MemberFault}
 use Rattle.ak_membership.specs.declared.change.MemberFault.TheVariants.{NotUp, UnknownMember, NotMember, Unlisted, ForeignCount, TooManyUniques, NoMemory}
 use Rattle.ak_membership.specs.declared.state.MembershipState.{MembershipState}
 use Rattle.ak_membership.specs.Membership.{Outcome, started, knowing, is_gone, may_count}
-use Rattle.ak_membership.specs.Closing.{is_noted}
+use Rattle.ak_membership.specs.Closing.{is_noted, is_viewed, notes}
 
 -- the version that was last shown is stored as its counts
 abbrev pub coded_counts : Coded Counts
@@ -127,6 +128,14 @@ IsAccepted outcome = (o : Outcome) × (outcome ≡ Ok o)
 pub record Closes (close : MembershipState × Closing) (after : MembershipState) (due : Closing) : Type 0 where
   pub state_after : after ≡ close.0
   pub is_due : due ≡ close.1
+
+-- somebody is to watch: another member, or one that is watched and silent
+abbrev pub HasWatched : MembershipState → Type 0
+HasWatched m = (watch_ring m.me m.gossip.view.standings ≢ no_one) ⊎ (silent m.settings.deadline m.detector ≢ no_one)
+
+-- a closing may take memory: for a version to show, for a settled view to note, or for whom to watch
+abbrev pub MayTake : Bool → MembershipState → Type 0
+MayTake stopping m = IsTrue (is_viewed m) ⊎ IsTrue (notes stopping m) ⊎ HasWatched m
 
 -- after the call it is the same process with the same settings, and knows nothing
 pub record Forgets (old new : MembershipState) : Type 0 where

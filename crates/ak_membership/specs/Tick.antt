@@ -1,7 +1,7 @@
 -- What a tick makes of what a node knows: whom it finds silent (Akka's Cluster Specification, "Failure Detector"), what it
 -- decides about a partition ("Split Brain Resolver"), the founding, and what the leader does in a settled view ("Leader"). That
 -- at most one of them is written at a tick, and that only settled views have a leader that acts, are this project's choice.
-use Rattle.std.specs.Prelude.{ℕ, ◌+◌, ◌*◌, ◌%◌, ◌==◌, min, Bool, false, ◌&&◌, ◌||◌, not, nat_le, nat_lt, List, [], ◌∷◌, length, map, Option, Some, None, if◌then◌else◌}
+use Rattle.std.specs.Prelude.{ℕ, ◌+◌, ◌*◌, ◌%◌, ◌==◌, min, Bool, true, false, ◌&&◌, ◌||◌, not, nat_le, nat_lt, List, [], ◌∷◌, length, map, Option, Some, None, if◌then◌else◌}
 use Rattle.std.specs.List.{list_any}
 use Rattle.std.specs.Ordering.{is_eq}
 use Rattle.std.specs.FinMap as finmap
@@ -111,9 +111,18 @@ updates m =
     else (if leads m then update_any (leaders_effects m.gossip.view m.confirmed) m
     else unchanged m)))
 
--- a number is left for an update, and one of the rules applies (a leader may have nothing to do)
+-- there is an effect
+abbrev pub has_effect : List Effect → Bool
+has_effect [] = false
+has_effect (effect ∷ effects) = true
+
+-- the node leads, and has something to do
+abbrev pub acts : MembershipState → Bool
+acts m = leads m && has_effect (leaders_effects m.gossip.view m.confirmed)
+
+-- a number is left for an update, and one of the rules makes one
 abbrev pub is_due : MembershipState → Bool
-is_due m = may_count m && (observes m || decides m || founds m || leads m)
+is_due m = may_count m && (observes m || decides m || founds m || acts m)
 
 -- the tick is counted; the tombstones of the settled view, and the watched members that are not heard, wait for a tick more
 abbrev pub counted : MembershipState → MembershipState

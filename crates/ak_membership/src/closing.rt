@@ -1,12 +1,12 @@
 //! What is due after an event.
 
-ghost use Rattle.std.specs.Prelude.{◌≡◌, IfOk, OnErr, OnOk, MatchOption, false, if◌then◌else◌};
+ghost use Rattle.std.specs.Prelude.{◌≡◌, IfOk, OnErr, OnOk, IsTrue, MatchOption, false, if◌then◌else◌};
 ghost use Rattle.ak_address.specs.Changed.{keys_of};
 ghost use Rattle.ak_clock.specs.Version.{Covers};
 ghost use Rattle.ak_detector.specs.Detector.{watching, watch_ring};
 ghost use Rattle.ak_settled.specs.Settled.{version_of, after_note};
 ghost use Rattle.ak_membership.specs.Closing as closing;
-ghost use Rattle.ak_membership.specs.MembershipContracts.{Closes, IsAtRest, RestsIf};
+ghost use Rattle.ak_membership.specs.MembershipContracts.{Closes, HasWatched, MayTake, IsAtRest, RestsIf};
 
 use crate::change::Closing;
 use crate::state::MembershipState;
@@ -42,6 +42,7 @@ impl MembershipState {
         requires { Covers self.old.gossip.version (version_of self.old.settled.view) }
         ensures ok { OnOk result (self.new ≡ record self.old { settled = if settled then after_note self.old.gossip.version self.old.gossip.view.standings self.old.settled else self.old.settled }) }
         ensures err { OnErr result (self.new ≡ self.old) }
+        ensures memory { OnErr result (IsTrue settled) }
     {
         if settled {
             return self
@@ -53,7 +54,8 @@ impl MembershipState {
 
     // The detector that watches by what is known now, where it is another.
     fn watching(&self, alloc: Global) -> Result<Option<Detector>, AllocError>
-        ensures { IfOk result (λ detector. MatchOption detector ((watching self.now.me self.now.gossip.view.standings self.now.settings.deadline self.now.detector ≡ self.now.detector) × (keys_of self.now.detector ≡ watch_ring self.now.me self.now.gossip.view.standings)) (λ other. other ≡ watching self.now.me self.now.gossip.view.standings self.now.settings.deadline self.now.detector)) }
+        ensures memory { OnErr result (HasWatched self.now) }
+        ensures ok { IfOk result (λ detector. MatchOption detector ((watching self.now.me self.now.gossip.view.standings self.now.settings.deadline self.now.detector ≡ self.now.detector) × (keys_of self.now.detector ≡ watch_ring self.now.me self.now.gossip.view.standings)) (λ other. other ≡ watching self.now.me self.now.gossip.view.standings self.now.settings.deadline self.now.detector)) }
     {
         let members = self.gossip.members();
         if self.detector.watches_already(&self.me, members) {
@@ -67,7 +69,8 @@ impl MembershipState {
     // The version that is shown from now on, where it is another.
     fn newly_shown(&self, alloc: Global, viewed: bool) -> Result<Option<Version>, AllocError>
         requires { viewed ≡ false → self.now.gossip.version ≡ self.now.shown }
-        ensures { IfOk result (λ shown. MatchOption shown (self.now.gossip.version ≡ self.now.shown) (λ version. version ≡ self.now.gossip.version)) }
+        ensures ok { IfOk result (λ shown. MatchOption shown (self.now.gossip.version ≡ self.now.shown) (λ version. version ≡ self.now.gossip.version)) }
+        ensures memory { OnErr result (IsTrue viewed) }
     {
         if !viewed {
             return Ok(None);
@@ -109,6 +112,7 @@ impl MembershipState {
         ensures ok { IfOk result (λ r. Closes (closing.close stopping self.old) self.new r.0) }
         ensures rest { IfOk result (λ r. RestsIf r.1 self.new) }
         ensures err { OnErr result (self.new ≡ self.old) }
+        ensures memory { OnErr result (MayTake stopping self.old) }
     {
         let viewed = is_other(&self.shown, self.gossip.version());
         let stopped = stopping || self.is_gone();

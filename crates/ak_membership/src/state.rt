@@ -1,4 +1,4 @@
-ghost use Rattle.std.specs.Prelude.{◌≡◌, ◌<◌, ◌^◌, nat_le, [], ◌∷◌, IfOk, OnOk, OnErr, IsTrue, true, false, None, option_copied, if◌then◌else◌};
+ghost use Rattle.std.specs.Prelude.{◌≡◌, ◌≢◌, ◌<◌, ◌^◌, nat_le, [], ◌∷◌, IfOk, OnOk, OnErr, IsTrue, true, false, None, option_copied, if◌then◌else◌};
 ghost use Rattle.std.specs.FinMap as map;
 ghost use Rattle.ak_address.specs.Uniques.{has};
 ghost use Rattle.ak_gossip.specs.Gossip.{MayUpdate, is_known};
@@ -29,7 +29,8 @@ use ak_settings::{Settings, Strategy};
 use ak_settled::Settled;
 use std::alloc::{AllocError, Global};
 
-/// A view that holds this many uniques admits no further process.
+/// A view that holds this many uniques admits no further process: so two views that grew by joins apart hold no more together than
+/// a gossip may, and can be merged.
 const MOST_AT_JOIN: usize = 64;
 
 /// What a process keeps of its cluster, as plain data.
@@ -191,6 +192,7 @@ impl MembershipState {
         requires { IsTrue (rules.may_count self.old) → MayUpdate self.old.me effects self.old.gossip }
         ensures ok { IfOk result (λ change. Makes (rules.update_any effects self.old) self.new change) }
         ensures err { OnErr result (self.new ≡ self.old) }
+        ensures memory { OnErr result (IsTrue (ticks.has_effect effects)) }
     {
         if effects.len() == 0 {
             return Ok(unchanged(alloc));
@@ -491,6 +493,7 @@ impl MembershipState {
         requires leads { true ≡ ticks.leads self.old }
         ensures ok { IfOk result (λ change. Makes (rules.update_any (leads.leaders_effects self.old.gossip.view self.old.confirmed) self.old) self.new change) }
         ensures err { OnErr result (self.new ≡ self.old) }
+        ensures memory { OnErr result (IsTrue (ticks.has_effect (leads.leaders_effects self.old.gossip.view self.old.confirmed))) }
     {
         self.gossip.invariant();
         let effects = self.leaders_effects(alloc)?;
@@ -498,7 +501,8 @@ impl MembershipState {
     }
 
     fn leaders_effects(&self, alloc: Global) -> Result<Effects, AllocError>
-        ensures { IfOk result (λ effects. effects ≡ leads.leaders_effects self.now.gossip.view self.now.confirmed) }
+        ensures ok { IfOk result (λ effects. effects ≡ leads.leaders_effects self.now.gossip.view self.now.confirmed) }
+        ensures memory { OnErr result (leads.leaders_effects self.now.gossip.view self.now.confirmed ≢ []) }
     {
         actions(
             alloc,

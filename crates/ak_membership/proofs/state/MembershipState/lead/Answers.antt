@@ -1,5 +1,11 @@
+use Rattle.ak_address.proofs.Failing.{on_err}
+use Rattle.ak_membership.proofs.EffectLemmas.{effect_there}
 use Rattle.ak_membership.proofs.RuleLemmas.{may_lead}
 use Rattle.ak_membership.proofs.state.MembershipState.lead.Goals as goal
 
 pub update_any-requires : goal.update_any-requires
-update_any-requires c = may_lead c.args.self.now c.invariant.ensures c.in_ok-effects.effects c.requires.member c.requires.leads c.in_ok-effects.ensures
+update_any-requires c = may_lead c.args.self.now c.invariant.ensures c.in_ok-effects.effects c.requires.member c.requires.leads (c.in_ok-effects.ensures {u = tt}).ok
+
+-- where it fails, there is an effect
+pub returns-in_err-effects-clause-memory : goal.returns-in_err-effects-clause-memory
+returns-in_err-effects-clause-memory c = on_err _ (effect_there _ (c.in_err-effects.ensures {u = tt}).memory)
