@@ -1,5 +1,5 @@
 -- What a coordinator does with its table (Akka's Cluster Sharding, "How it works" and "Shard rebalancing").
-use Rattle.std.specs.Prelude.{◌≡◌, ℕ, ◌-◌, ◌<◌, drop, Bool, ◌&&◌, List, [], ◌∷◌, length, map, slice_index_or, slice_set, Option, None, if◌then◌else◌}
+use Rattle.std.specs.Prelude.{◌≡◌, Contains, IsTrue, ℕ, ◌-◌, ◌<◌, drop, Bool, ◌&&◌, List, [], ◌∷◌, length, map, slice_index_or, slice_set, Option, None, if◌then◌else◌}
 use Rattle.std.specs.FinMap as finmap
 use Rattle.std.specs.List.{filter}
 use Rattle.std.specs.Ordering.{is_eq}
@@ -28,6 +28,10 @@ learnt_all asking from (report ∷ reports) table = learnt_all asking from repor
 -- The first of the reports were learnt, and those from one of them on were not: with these all are.
 abbrev pub IsPartlyLearnt : Bool → UniqueModel → List Report → ShardTable → ShardTable → Type 0
 IsPartlyLearnt asking from reports old new = (first : ℕ) × (first < length reports) × (learnt_all asking from (drop first reports) new ≡ learnt_all asking from reports old)
+
+-- some shard is reported as hosted
+abbrev pub SaysHosted : List Report → Type 0
+SaysHosted reports = (report : Report) × Contains reports report × IsTrue report.hosted
 
 -- one shard less at the node, and not below 0
 abbrev pub less_one : UniqueModel → Load → Load

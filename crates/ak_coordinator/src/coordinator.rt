@@ -3,7 +3,7 @@ ghost use Rattle.ak_shard_id.specs.declared.report.Report.{Report};
 ghost use Rattle.ak_settled.specs.Settled.{standings_of};
 ghost use Rattle.ak_coordinator.specs.Entry.{unplaced, homing, NamesHome, after_get_home, after_started, is_last_ack, after_ack, freed, awaits_stop, allotted, after_allotment};
 ghost use Rattle.ak_coordinator.specs.Tick.{after_tick, orders_from, IsPartlyTicked};
-ghost use Rattle.ak_coordinator.specs.Coordinator.{entry_of, with_entry, learnt_all, IsPartlyLearnt, stopped_placed, after_stopped, loads_of};
+ghost use Rattle.ak_coordinator.specs.Coordinator.{entry_of, with_entry, learnt_all, IsPartlyLearnt, SaysHosted, stopped_placed, after_stopped, loads_of};
 
 use crate::entry::{Entry, Homing, Placed};
 use crate::loads::{lightened, loads_in};
@@ -34,6 +34,7 @@ impl Model for Coordinator {
 
     ghost view = { λ c. c.entries.items };
 
+    // As many shards as settings allow: so loads fit their numbers.
     ghost invariant = { λ c. IsTable c.entries.items };
 }
 
@@ -65,8 +66,8 @@ impl Coordinator {
 
     /// Takes in what a node reports: the greater number stays; a node that hosts a shard is its home, with that number, and
     /// has started, where the shard has no home, and also, while the coordinator still asks, where its number is greater than
-    /// the home's, or equal and the node is the later process. Only memory can fail, and then the first reports were taken in,
-    /// and none from one of them on.
+    /// the home's, or equal and the node is the later process. Only memory can fail, and only where a shard is reported as hosted:
+    /// then the first reports were taken in, and none from one of them on.
     pub fn learn(
         &mut self,
         alloc: Global,
@@ -77,6 +78,7 @@ impl Coordinator {
         requires { (report : Report) → Contains reports.now report → report.shard < length self.old }
         ensures ok { OnOk result (self.new ≡ learnt_all asking from.now reports.now self.old) }
         ensures lost { OnErr result (IsPartlyLearnt asking from.now reports.now self.old self.new) }
+        ensures memory { OnErr result (SaysHosted reports.now) }
     {
         learn_each(alloc, &mut self.entries, from, reports, asking)
     }
@@ -202,6 +204,7 @@ fn learn_each(
     requires { (report : Report) → Contains reports.now report → report.shard < length entries.old }
     ensures ok { OnOk result (entries.new ≡ learnt_all asking from.now reports.now entries.old) }
     ensures lost { OnErr result (IsPartlyLearnt asking from.now reports.now entries.old entries.new) }
+    ensures memory { OnErr result (SaysHosted reports.now) }
 {
     'reports: for report in reports {
         entries[report.shard as usize].learn(alloc, from, report, asking)?;

@@ -72,6 +72,7 @@ impl Model for Entry {
 
     ghost view = { λ e. record { last = e.last; home = e.home; started = e.started; stage = e.stage; waits = e.waits } };
 
+    // No home has a number above the last one, so that the next placing has a new one; and only a home can hand a shard off.
     ghost invariant = { λ e. IsEntry (record { last = e.last; home = e.home; started = e.started; stage = e.stage; waits = e.waits }) };
 }
 
@@ -140,6 +141,7 @@ impl Entry {
     ) -> Result<(), AllocError>
         ensures ok { OnOk result (self.new ≡ learnt asking from.now report.now self.old) }
         ensures err { OnErr result (self.new ≡ self.old) }
+        ensures memory { OnErr result (IsTrue report.now.hosted) }
     {
         let number = report.number;
         if report.hosted && self.is_claimed(from, number, asking) {
@@ -171,6 +173,7 @@ impl Entry {
         ensures after { IfOk result (λ placed. self.new ≡ after_allotment placed self.old) }
         ensures err { OnErr result (IsTrue (is_some (allotted loads.now self.old)) × (self.new ≡ self.old)) }
     {
+        // Past the bound no number could be sent.
         if self.last >= BOUND {
             return Ok(None);
         }

@@ -28,6 +28,7 @@ impl Model for Entities {
 
     ghost view = { λ e. map.from_sorted (pairs_of e.active.entries) };
 
+    // Each entity stands once, in the order of names: so it has one log, and is found by it.
     ghost invariant = { λ e. IsTrue (map.is_sorted entity_cmp (pairs_of e.active.entries)) };
 }
 

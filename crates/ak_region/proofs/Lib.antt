@@ -6,5 +6,6 @@ pub mod WantedLemmas
 pub mod MarkLemmas
 pub mod AsMoves
 pub mod StoredLemmas
+pub mod EmptyLemmas
 pub mod Forgetting
 pub mod HousedLemmas

@@ -1,5 +1,5 @@
 -- The shards for which messages wait: one message more.
-use Rattle.std.proofs.Common.{◌≡◌, ℕ, Bool, true, false, cond, not, ◌||◌, ◌==◌, ◌+◌, ◌<◌, List, [], ◌∷◌, ◌++◌, map, length, take, set, get_or, get_or-set_same, get_or-set_other, if◌then◌else◌, append-nil, refl, sym, ap, ◌∙◌, arith, true≢false}
+use Rattle.std.proofs.Common.{◌≡◌, ◌≢◌, ℕ, Bool, true, false, cond, not, ◌||◌, ◌==◌, ◌+◌, ◌<◌, List, [], ◌∷◌, ◌++◌, map, length, take, drop, drop-cons, add-one, set, get_or, get_or-set_same, get_or-set_other, if◌then◌else◌, append-nil, refl, sym, ap, ◌∙◌, arith, true≢false}
 use Rattle.std.specs.List.{filter}
 use Rattle.std.proofs.lemmas.Bool.{eqb-true, eq-eqb}
 use Rattle.std.proofs.lemmas.List.{map-append}
@@ -11,6 +11,7 @@ use Rattle.ak_region.specs.RegionModel.{Message}
 use Rattle.ak_region.specs.Region.{firsts}
 use Rattle.ak_region.specs.Turns.{wanted_among}
 use Rattle.ak_shard_id.proofs.Walks.{take_more, filter_append}
+use Rattle.ak_region.proofs.EmptyLemmas.{cons_is}
 use Rattle.ak_region.proofs.FirstsLemmas.{has_number, firsts_have, firsts_more}
 
 -- a shard receives, by the slots
@@ -94,3 +95,27 @@ noted_found slots messages i d passed found shard lt at within is so_far =
         ∙ ap (λ xs. cond (has_number (unserved slots (take i messages)) shard) xs (xs ++ shard ∷ [])) so_far
         ∙ sym (firsts_more (unserved slots (take i messages)) shard)
         ∙ ap (λ b. firsts (unserved slots (take i messages) ++ cond (not b) (shard ∷ []) [])) (sym unserved_here)
+
+-- ---- a walk that looks for the first message that wants its shard
+-- a message for a shard that receives wants nothing
+pub served_wants_nothing : (slots : List ShardSlot) (messages : List Message) (i : ℕ) (d : Message) → i < length messages → receives_at slots (shard_of (get_or messages i d).entity (length slots)) ≡ true
+    → wanted_among slots (drop (i + 1) messages) ≡ wanted_among slots (drop i messages)
+served_wants_nothing slots messages i d lt is =
+    let rest = unserved slots (drop (i + 1) messages) in
+    let shard = shard_of (get_or messages i d).entity (length slots) in
+    ap (λ b. firsts (cond (not b) (shard ∷ rest) rest)) (sym is)
+    ∙ ap (λ l. wanted_among slots (get_or messages i d ∷ l)) (ap (λ n. drop n messages) (add-one i))
+    ∙ ap (wanted_among slots) (sym (drop-cons messages i d lt))
+
+-- any other wants its shard
+pub unserved_wants : (slots : List ShardSlot) (messages : List Message) (i : ℕ) (d : Message) → i < length messages → receives_at slots (shard_of (get_or messages i d).entity (length slots)) ≡ false
+    → wanted_among slots (drop i messages) ≢ []
+unserved_wants slots messages i d lt is none =
+    let rest = unserved slots (drop (i + 1) messages) in
+    let shard = shard_of (get_or messages i d).entity (length slots) in
+    cons_is shard (filter (λ m. not (m == shard)) (firsts rest)) (
+    ap (λ b. firsts (cond (not b) (shard ∷ rest) rest)) (sym is)
+    ∙ ap (λ l. wanted_among slots (get_or messages i d ∷ l)) (ap (λ n. drop n messages) (add-one i))
+    ∙ ap (wanted_among slots) (sym (drop-cons messages i d lt))
+    ∙ none
+    )

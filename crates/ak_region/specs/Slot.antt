@@ -29,9 +29,18 @@ other_home me slot = if slot.held then None else other_than me slot.home
 abbrev pub can_flush : UniqueModel → ShardSlot → Bool
 can_flush me slot = receives slot || is_some (other_home me slot)
 
+-- the first process, where there is one, is the second
+abbrev pub is_some_unique : Option UniqueModel → UniqueModel → Bool
+is_some_unique None who = false
+is_some_unique (Some home) who = is_eq (unique_cmp home who)
+
 -- the coordinator told the home: the hold ends
 abbrev pub at_home : UniqueModel → ShardSlot → ShardSlot
 at_home home slot = record slot { held = false; home = Some home }
+
+-- the home is known to be there, and the shard is not held: that the coordinator tells it changes nothing
+abbrev pub is_known_at : UniqueModel → ShardSlot → Bool
+is_known_at home slot = not slot.held && is_some_unique slot.home home
 
 -- What comes of the order to host the shard with a number: it is hosted so already; or it is not hosted, and the number is
 -- above its mark; else the order is an old one.

@@ -1,4 +1,4 @@
-ghost use Rattle.std.specs.Prelude.{◌≡◌, ◌≤◌, ◌<◌, ◌++◌, ◌∷◌, [], nat_le, not, true, false, if◌then◌else◌, slice_index_or, slice_set, length, map, IfOk, OnOk, OnErr};
+ghost use Rattle.std.specs.Prelude.{◌≡◌, ◌≢◌, ◌≤◌, ◌<◌, ◌++◌, ◌∷◌, [], nat_le, not, true, false, if◌then◌else◌, slice_index_or, slice_set, length, map, IfOk, OnOk, OnErr};
 ghost use Rattle.std.specs.List.{filter};
 ghost use Rattle.ak_shard_id.specs.Shard.{shard_of};
 ghost use Rattle.ak_region.specs.Shards.{ShardSlot};
@@ -10,6 +10,7 @@ ghost use Rattle.ak_region.specs.Turns.{after_wait, turn_left, turn_gone, wanted
 
 use crate::region::{Offered, Waiting};
 use crate::slot::Slot;
+use crate::told::receives_at;
 use ak_address::Text;
 use ak_shard_id::shard_of;
 use circular_buffer::HeapCircularBuffer;
@@ -64,6 +65,7 @@ fn turn(
     requires within { length buffer.old.items ≤ buffer.old.capacity }
     ensures left { OnOk result (buffer.new.items ≡ turn_left shards shard buffer.old.items) }
     ensures gone { OnOk result (gone.new.items ≡ gone.old.items ++ turn_gone shards shard buffer.old.items) }
+    ensures memory { OnErr result (turn_gone shards shard buffer.old.items ≢ []) }
     ensures shorter { length buffer.new.items ≤ length buffer.old.items }
     ensures capacity { buffer.new.capacity ≡ buffer.old.capacity }
 {
@@ -88,6 +90,7 @@ pub(crate) fn take_those_for(
     requires few { shards ≤ 1000 }
     ensures gone { IfOk result (λ gone. gone.items ≡ those_for shards shard buffer.old.items) }
     ensures left { OnOk result (buffer.new.items ≡ others_than_for shards shard buffer.old.items) }
+    ensures memory { OnErr result (those_for shards shard buffer.old.items ≢ []) }
     ensures shorter { length buffer.new.items ≤ length buffer.old.items }
 {
     let mut gone = Vec::new(alloc);
@@ -127,6 +130,25 @@ fn receiving(alloc: Global, told: &[Slot], shards: u32) -> Result<Vec<bool>, All
     Ok(passed)
 }
 
+// Whether a message waits for a shard that does not receive. Mostly the first one does.
+fn any_wanted(told: &[Slot], shards: u32, buffer: &HeapCircularBuffer<Waiting>) -> bool
+    requires some { 1 ≤ shards }
+    requires few { shards ≤ 1000 }
+    requires told { length told.now ≤ shards }
+    ensures none { result ≡ false → wanted_among (all_slots shards told.now) buffer.now.items ≡ [] }
+    ensures some { result ≡ true → wanted_among (all_slots shards told.now) buffer.now.items ≢ [] }
+{
+    'messages: for index in 0..buffer.len() {
+        if let Some(waiting) = buffer.get(index) {
+            let shard = shard_of(waiting.entity.bytes(), shards);
+            if !receives_at(told, shard) {
+                return true;
+            }
+        }
+    }
+    false
+}
+
 // The shards for which a message waits and which do not receive.
 pub(crate) fn wanted_in(
     alloc: Global,
@@ -137,8 +159,12 @@ pub(crate) fn wanted_in(
     requires some { 1 ≤ shards }
     requires few { shards ≤ 1000 }
     requires told { length told.now ≤ shards }
-    ensures { IfOk result (λ wanted. wanted.items ≡ wanted_among (all_slots shards told.now) buffer.now.items) }
+    ensures found { IfOk result (λ wanted. wanted.items ≡ wanted_among (all_slots shards told.now) buffer.now.items) }
+    ensures memory { OnErr result (wanted_among (all_slots shards told.now) buffer.now.items ≢ []) }
 {
+    if !any_wanted(told, shards, buffer) {
+        return Ok(Vec::new(alloc));
+    }
     let mut passed = receiving(alloc, told, shards)?;
     let mut wanted = Vec::new(alloc);
     'messages: for index in 0..buffer.len() {

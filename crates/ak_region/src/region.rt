@@ -1,13 +1,13 @@
-ghost use Rattle.std.specs.Prelude.{◌≡◌, ◌≤◌, ◌<◌, [], length, IfOk, OnOk, OnErr, IfSome, IsTrue};
+ghost use Rattle.std.specs.Prelude.{◌≡◌, ◌≢◌, ◌≤◌, ◌<◌, [], false, length, IfOk, OnOk, OnErr, IfSome, IsTrue};
 ghost use Rattle.ak_region.specs.Shards.{ShardSlot};
 ghost use Rattle.ak_region.specs.RegionModel.{RegionModel, Message, IsRegion};
-ghost use Rattle.ak_region.specs.Slot.{at_home, host_answer, after_host, begun, gives_up, handed_off, can_flush};
+ghost use Rattle.ak_region.specs.Slot.{is_known_at, at_home, host_answer, after_host, begun, gives_up, handed_off, can_flush};
 ghost use Rattle.ak_region.specs.Region.{new_region, slot_of, with_slot, entity_shard, route, TakesRoom, after_offer, flushed, after_flush, wanted, after_forget, hosts_any, reports};
 
 use crate::buffer::{take_those_for, wait, wanted_in};
 use crate::homes::{add_home, are_members, keep_members};
 use crate::slot::{Hosting, Slot};
-use crate::told::{can_flush_at, home_at, hosted_at, hosting_at, reach, receives_at};
+use crate::told::{can_flush_at, home_at, hosted_at, hosting_at, is_known_at, reach, receives_at};
 use crate::walks::{any_hosted, forget_strangers, reports_of};
 use ak_address::{Text, Unique};
 use ak_member::Members;
@@ -71,6 +71,8 @@ impl Model for Region {
 
     ghost view = { λ r. record { slots = all_slots r.shards r.told.items; messages = r.buffer.items; most = r.most } };
 
+    // There is room for the slots of all shards, so that what is told of a shard takes none; and each home of a slot is listed, so
+    // that a stranger among them is not overlooked.
     ghost invariant = { λ r. IsStored r.shards (vec_capacity r.told) r.most r.homes.items r.told.items r.buffer.items };
 }
 
@@ -158,13 +160,18 @@ impl Region {
         wait(&mut self.buffer, self.most, entity, payload)
     }
 
-    /// The home of the shard is known, and a hold ends. After an error nothing has changed; only memory can fail.
+    /// The home of the shard is known, and a hold ends. Where it was known already, and the shard is not held, nothing changes and no
+    /// memory is taken. After an error nothing has changed; only memory can fail.
     #[tactic(auto, using(crate::proofs::StoredLemmas::at_all, crate::proofs::StoredLemmas::all_length))]
     pub fn on_home(&mut self, alloc: Global, shard: u32, owner: &Unique) -> Result<(), AllocError>
         requires { shard < length self.old.slots }
         ensures ok { OnOk result (self.new ≡ with_slot self.old shard (at_home owner.now (slot_of self.old shard))) }
         ensures err { OnErr result (self.new ≡ self.old) }
+        ensures memory { OnErr result (is_known_at owner.now (slot_of self.old shard) ≡ false) }
     {
+        if is_known_at(&self.told, shard, owner) {
+            return Ok(());
+        }
         let home = owner.copy(alloc)?;
         add_home(&mut self.homes, alloc, owner)?;
         reach(&mut self.told, shard);
@@ -225,8 +232,8 @@ impl Region {
     }
 
     /// The messages that wait for the shard leave the buffer, in their order, where it is not held and is hosted here or has
-    /// its home at another node; the others keep their order. Elsewhere none leaves, and no memory is taken. Only memory can
-    /// fail, and then nothing waits any more: what waited is lost, and who calls is told so.
+    /// its home at another node; the others keep their order. Elsewhere none leaves, and where none leaves no memory is taken. Only
+    /// memory can fail, and then nothing waits any more: what waited is lost, and who calls is told so.
     #[tactic(auto, using(crate::proofs::StoredLemmas::at_all, crate::proofs::StoredLemmas::all_length))]
     pub fn flush(
         &mut self,
@@ -238,6 +245,7 @@ impl Region {
         ensures left { IfOk result (λ gone. gone.items ≡ flushed me.now shard self.old) }
         ensures stayed { OnOk result (self.new ≡ after_flush me.now shard self.old) }
         ensures lost { OnErr result (IsTrue (can_flush me.now (slot_of self.old shard)) × (self.new ≡ record self.old { messages = [] })) }
+        ensures memory { OnErr result (flushed me.now shard self.old ≢ []) }
         ensures shards { length self.new.slots ≡ length self.old.slots }
     {
         if !can_flush_at(&self.told, me, shard) {
@@ -251,9 +259,10 @@ impl Region {
     }
 
     /// The shards whose home is asked for: those for which a message waits, each once, in the order of the first message, but
-    /// for those that are hosted here and not held. Only memory can fail.
+    /// for those that are hosted here and not held. Only memory can fail, and only where there is such a shard.
     pub fn wanted(&self, alloc: Global) -> Result<Vec<u32>, AllocError>
-        ensures { IfOk result (λ shards. shards.items ≡ wanted self.now) }
+        ensures found { IfOk result (λ shards. shards.items ≡ wanted self.now) }
+        ensures memory { OnErr result (wanted self.now ≢ []) }
     {
         wanted_in(alloc, &self.told, self.shards, &self.buffer)
     }
@@ -289,10 +298,11 @@ impl Region {
     }
 
     /// What a new coordinator is told: each shard whose mark is not 0, in ascending order, with its mark, and whether the
-    /// node hosts it. Only memory can fail.
+    /// node hosts it. Only memory can fail, and only where there is such a shard.
     #[tactic(auto, using(crate::proofs::StoredLemmas::all_reported))]
     pub fn reports(&self, alloc: Global) -> Result<Vec<Report>, AllocError>
-        ensures { IfOk result (λ found. found.items ≡ reports self.now) }
+        ensures found { IfOk result (λ found. found.items ≡ reports self.now) }
+        ensures memory { OnErr result (reports self.now ≢ []) }
     {
         reports_of(alloc, &self.told)
     }

@@ -1,7 +1,7 @@
 ghost use Rattle.std.specs.Prelude.{◌≡◌, option_copied};
 ghost use Rattle.ak_address.specs.Unique.{UniqueModel};
 ghost use Rattle.ak_member.specs.Standing.{Standings};
-ghost use Rattle.ak_region.specs.Slot.{untold, receives, other_home, can_flush, at_home, host_answer, after_host, begun, gives_up, handed_off, without_stranger};
+ghost use Rattle.ak_region.specs.Slot.{untold, receives, other_home, can_flush, is_some_unique, is_known_at, at_home, host_answer, after_host, begun, gives_up, handed_off, without_stranger};
 
 use ak_address::Unique;
 use ak_member::Members;
@@ -37,6 +37,7 @@ impl Model for Slot {
 
     ghost view = { λ s. record { hosted = s.hosted; mark = s.mark; held = s.held; home = s.home } };
 
+    // A shard is hosted with its mark, so that no order up to that number hosts it again; numbers begin at 1.
     ghost invariant = { λ s. IsSlot (record { hosted = s.hosted; mark = s.mark; held = s.held; home = s.home }) };
 }
 
@@ -80,6 +81,13 @@ impl Slot {
         ensures { result ≡ can_flush me.now self.now }
     {
         self.receives() || self.other_home(me).is_some()
+    }
+
+    // Whether the home is known to be there, and the shard is not held.
+    pub(crate) fn is_known_at(&self, home: &Unique) -> bool
+        ensures { result ≡ is_known_at home.now self.now }
+    {
+        !self.held && is_process(self.home.as_ref(), home)
     }
 
     // The home is known, and the hold ends.
@@ -153,5 +161,15 @@ impl Slot {
         if is_stranger {
             self.home = None;
         }
+    }
+}
+
+// The first process, where there is one, is the second.
+fn is_process(first: Option<&Unique>, second: &Unique) -> bool
+    ensures { result ≡ is_some_unique (option_copied first.entry) second.now }
+{
+    match first {
+        Some(first) => first.is(second),
+        None => false,
     }
 }

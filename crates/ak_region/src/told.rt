@@ -1,5 +1,5 @@
 ghost use Rattle.std.specs.Prelude.{◌≡◌, ◌<◌, ◌+◌, ◌-◌, ◌++◌, length, replicate, slice_index_or, vec_capacity, option_copied, IfSome};
-ghost use Rattle.ak_region.specs.Slot.{untold, receives, other_home, can_flush, host_answer};
+ghost use Rattle.ak_region.specs.Slot.{untold, receives, other_home, can_flush, is_known_at, host_answer};
 
 use crate::slot::{Hosting, Slot};
 use ak_address::Unique;
@@ -44,6 +44,16 @@ pub(crate) fn hosted_at(told: &[Slot], shard: u32) -> Option<u64>
     match told.get(shard as usize) {
         Some(slot) => slot.hosted,
         None => None,
+    }
+}
+
+// Whether the shard's home is known to be there, and the shard is not held.
+pub(crate) fn is_known_at(told: &[Slot], shard: u32, home: &Unique) -> bool
+    ensures { result ≡ is_known_at home.now (slice_index_or told.now shard untold) }
+{
+    match told.get(shard as usize) {
+        Some(slot) => slot.is_known_at(home),
+        None => false,
     }
 }
 

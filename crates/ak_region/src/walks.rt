@@ -1,4 +1,4 @@
-ghost use Rattle.std.specs.Prelude.{◌≡◌, ◌≤◌, IfOk, OnOk, is_some, ◌++◌};
+ghost use Rattle.std.specs.Prelude.{◌≡◌, ◌≢◌, ◌≤◌, [], IfOk, OnOk, OnErr, is_some, ◌++◌};
 ghost use Rattle.std.specs.Prelude as list;
 ghost use Rattle.std.specs.List.{list_any};
 ghost use Rattle.ak_region.specs.Shards.{ShardSlot};
@@ -26,7 +26,8 @@ pub(crate) fn any_hosted(slots: &[Slot]) -> bool
 
 // Appends the report of a shard, where there is one.
 fn push_report(reports: &mut Vec<Report>, shard: u32, slot: &Slot) -> Result<(), AllocError>
-    ensures { OnOk result (reports.new.items ≡ reports.old.items ++ report_of shard slot.now) }
+    ensures pushed { OnOk result (reports.new.items ≡ reports.old.items ++ report_of shard slot.now) }
+    ensures memory { OnErr result (report_of shard slot.now ≢ []) }
 {
     if slot.mark == 0 {
         return Ok(());
@@ -41,7 +42,8 @@ fn push_report(reports: &mut Vec<Report>, shard: u32, slot: &Slot) -> Result<(),
 
 pub(crate) fn reports_of(alloc: Global, slots: &[Slot]) -> Result<Vec<Report>, AllocError>
     requires { list.length slots.now ≤ 1000 }
-    ensures { IfOk result (λ reports. reports.items ≡ reports_from 0 slots.now) }
+    ensures found { IfOk result (λ reports. reports.items ≡ reports_from 0 slots.now) }
+    ensures memory { OnErr result (reports_from 0 slots.now ≢ []) }
 {
     let mut reports = Vec::new(alloc);
     'slots: for shard in 0..slots.len() {

@@ -1,5 +1,5 @@
 -- What a node does as the coordinator, while it is active (Akka's Cluster Sharding, "How it works" and "Shard rebalancing").
-use Rattle.std.specs.Prelude.{ℕ, Bool, true, false, List, [], ◌∷◌, Option, None, Some, length, map, replicate, ◌&&◌, nat_lt, if◌then◌else◌}
+use Rattle.std.specs.Prelude.{ℕ, IsTrue, IsSome, Bool, true, false, List, [], ◌∷◌, Option, None, Some, length, map, replicate, ◌&&◌, nat_lt, if◌then◌else◌}
 use Rattle.std.specs.List.{list_all}
 use Rattle.ak_address.specs.Unique.{UniqueModel}
 use Rattle.ak_allocation.specs.declared.load.Load.{Load}
@@ -44,6 +44,10 @@ on_table rule (Some table) s = (record s { table = Some (rule table).0 }, (rule 
 -- a rule on the table for one of its shards, where the node is active with the ballot; else the message is ignored
 abbrev pub if_active : Around → BallotModel → ℕ → (ShardTable → ShardTable × List Action) → ShardingModel → Outcome
 if_active around b shard rule s = if has_shard shard s && is_active_with around b then on_table rule s.table s else nothing s
+
+-- such a rule applies
+abbrev pub Coordinates : Around → BallotModel → ℕ → ShardingModel → Type 0
+Coordinates around b shard s = IsTrue (has_shard shard s && is_active_with around b) × IsSome s.table
 
 -- the loads: the Up members of the settled view that have granted
 abbrev pub loads : Around → ShardTable → List Load

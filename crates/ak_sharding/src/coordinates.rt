@@ -1,4 +1,4 @@
-ghost use Rattle.std.specs.Prelude.{◌≡◌, ◌++◌, ◌∷◌, [], ◌<◌, ◌&&◌, length, map, option_copied, OnOk, OnErr, Some};
+ghost use Rattle.std.specs.Prelude.{◌≡◌, ◌++◌, ◌∷◌, [], ◌<◌, ◌&&◌, length, map, option_copied, OnOk, OnErr, IsTrue, IsSome, Some};
 ghost use Rattle.ak_coordinator.specs.Entry.{homing, after_get_home, is_last_ack, after_ack};
 ghost use Rattle.ak_coordinator.specs.Coordinator.{entry_of, with_entry, stopped_placed, after_stopped};
 ghost use Rattle.ak_coordinator.specs.Tick.{orders_from};
@@ -35,6 +35,7 @@ impl Sharding {
         ensures state { OnOk result (self.new ≡ (rules.on_get_home around.now from.now ballot.now shard self.old).0) }
         ensures actions { OnOk result (actions.new ≡ actions.old ++ (rules.on_get_home around.now from.now ballot.now shard self.old).1) }
         ensures lost { OnErr result (self.new ≡ rules.ends_table self.old) }
+        ensures memory { OnErr result (rules.Coordinates around.now ballot.now shard self.old) }
     {
         if !self.coordinates_shard(around, ballot, shard) {
             return Ok(());
@@ -80,6 +81,7 @@ impl Sharding {
         ensures state { OnOk result (self.new ≡ (rules.on_ack around.now from.now ballot.now shard number self.old).0) }
         ensures actions { OnOk result (actions.new ≡ actions.old ++ (rules.on_ack around.now from.now ballot.now shard number self.old).1) }
         ensures lost { OnErr result (self.new ≡ rules.ends_table self.old) }
+        ensures memory { OnErr result (rules.Coordinates around.now ballot.now shard self.old) }
     {
         if !self.coordinates_shard(around, ballot, shard) {
             return Ok(());
@@ -108,6 +110,7 @@ impl Sharding {
         ensures state { OnOk result (self.new ≡ (rules.on_shard_stopped around.now from.now ballot.now shard number self.old).0) }
         ensures actions { OnOk result (actions.new ≡ actions.old ++ (rules.on_shard_stopped around.now from.now ballot.now shard number self.old).1) }
         ensures lost { OnErr result (self.new ≡ rules.ends_table self.old) }
+        ensures memory { OnErr result (rules.Coordinates around.now ballot.now shard self.old) }
     {
         if !self.coordinates_shard(around, ballot, shard) {
             return Ok(());
@@ -123,8 +126,8 @@ impl Sharding {
     }
 
     /// In a tick of a node that is active: shards whose home is finished are free, at most one begins to move, and what the
-    /// table asks for is ordered (Akka's Cluster Sharding, "Shard rebalancing"). Adds what it does; only memory can fail, and then
-    /// there is no table any more, and the rest is as it was.
+    /// table asks for is ordered (Akka's Cluster Sharding, "Shard rebalancing"). Adds what it does; only memory can fail, and only
+    /// of a node that is active and has a table, and then there is no table any more, and the rest is as it was.
     pub fn coordinate(
         &mut self,
         alloc: Global,
@@ -134,6 +137,7 @@ impl Sharding {
         ensures state { OnOk result (self.new ≡ (rules.coordinates around.now self.old).0) }
         ensures actions { OnOk result (actions.new ≡ actions.old ++ (rules.coordinates around.now self.old).1) }
         ensures lost { OnErr result (self.new ≡ rules.ends_table self.old) }
+        ensures memory { OnErr result (IsTrue (rules.is_active around.now.singleton.phase) × IsSome self.old.table) }
     {
         if !around.is_active() {
             return Ok(());
@@ -154,6 +158,7 @@ impl Sharding {
         ensures state { OnOk result (self.new ≡ (rules.coordinates_with around.now (Some live.now) self.old).0) }
         ensures actions { OnOk result (actions.new ≡ actions.old ++ (rules.coordinates_with around.now (Some live.now) self.old).1) }
         ensures lost { OnErr result (self.new ≡ rules.ends_table self.old) }
+        ensures memory { OnErr result (IsSome self.old.table) }
     {
         let Some(mut table) = self.coordinator.take() else {
             return Ok(());

@@ -1,4 +1,5 @@
-ghost use Rattle.std.specs.Prelude.{◌≡◌, ◌++◌, ◌∷◌, [], ◌<◌, length, map, OnOk, Some};
+ghost use Rattle.std.specs.Prelude.{◌≡◌, ◌≢◌, ◌++◌, ◌∷◌, [], ◌<◌, length, map, OnOk, OnErr, IsTrue, IsSome, Some};
+ghost use Rattle.ak_region.specs.Region as regions;
 ghost use Rattle.ak_wire.specs.declared.envelope.Message.TheVariants.{GetHome, ShardStarted};
 ghost use Rattle.ak_sharding.specs.Sharding.{to_process, flushes};
 ghost use Rattle.ak_sharding.specs.Hosts as rules;
@@ -25,6 +26,7 @@ impl Sharding {
     ) -> Result<(), AllocError>
         ensures state { OnOk result (self.new ≡ (rules.on_home around.now ballot.now shard owner.now self.old).0) }
         ensures actions { OnOk result (actions.new ≡ actions.old ++ (rules.on_home around.now ballot.now shard owner.now self.old).1) }
+        ensures memory { OnErr result (IsTrue (rules.applies around.now ballot.now shard self.old)) }
     {
         if !self.has_shard(shard) || !around.is_bound(ballot) {
             return Ok(());
@@ -33,7 +35,8 @@ impl Sharding {
         self.flushes(alloc, around.me, shard, actions)
     }
 
-    // The order to host a shard: a newly hosted one is told, what waits for it goes, and then the coordinator is answered.
+    // The order to host a shard: a newly hosted one is told, what waits for it goes, and then the coordinator is answered. It is told
+    // first, since an entity is active from its start on, and starts only in a shard that is hosted.
     pub(crate) fn on_host_shard(
         &mut self,
         alloc: Global,
@@ -46,6 +49,7 @@ impl Sharding {
     ) -> Result<(), AllocError>
         ensures state { OnOk result (self.new ≡ (rules.on_host_shard around.now from.now ballot.now shard number self.old).0) }
         ensures actions { OnOk result (actions.new ≡ actions.old ++ (rules.on_host_shard around.now from.now ballot.now shard number self.old).1) }
+        ensures memory { OnErr result (IsTrue (rules.applies around.now ballot.now shard self.old)) }
     {
         if !self.has_shard(shard) || !around.is_bound(ballot) {
             return Ok(());
@@ -91,6 +95,7 @@ impl Sharding {
     ) -> Result<(), AllocError>
         ensures state { OnOk result (self.new ≡ (rules.on_begin_hand_off around.now from.now ballot.now shard number self.old).0) }
         ensures actions { OnOk result (actions.new ≡ actions.old ++ (rules.on_begin_hand_off around.now from.now ballot.now shard number self.old).1) }
+        ensures memory { OnErr result (IsTrue (rules.applies around.now ballot.now shard self.old)) }
     {
         if !self.has_shard(shard) || !around.is_bound(ballot) {
             return Ok(());
@@ -100,7 +105,7 @@ impl Sharding {
     }
 
     // The order to hand a shard off: where it was hosted with at most the number, its entities end; then the coordinator is
-    // answered.
+    // answered, which may give the shard to another node: so they have ended before.
     pub(crate) fn on_hand_off(
         &mut self,
         alloc: Global,
@@ -113,6 +118,7 @@ impl Sharding {
     ) -> Result<(), AllocError>
         ensures state { OnOk result (self.new ≡ (rules.on_hand_off around.now from.now ballot.now shard number self.old).0) }
         ensures actions { OnOk result (actions.new ≡ actions.old ++ (rules.on_hand_off around.now from.now ballot.now shard number self.old).1) }
+        ensures memory { OnErr result (IsTrue (rules.applies around.now ballot.now shard self.old)) }
     {
         if !self.has_shard(shard) || !around.is_bound(ballot) {
             return Ok(());
@@ -140,14 +146,16 @@ impl Sharding {
     }
 
     /// In a tick of a node that promised a ballot: of its process the home of each shard is asked for which a message waits and
-    /// which is not both hosted and free of a hold, in the order of the first messages. Adds what it does; only memory can fail.
+    /// which is not both hosted and free of a hold, in the order of the first messages. Adds what it does; only memory can fail,
+    /// and only where there is such a shard.
     pub fn ask_homes(
         &self,
         alloc: Global,
         around: &Around,
         actions: &mut Actions,
     ) -> Result<(), AllocError>
-        ensures { OnOk result (actions.new ≡ actions.old ++ (rules.asks_homes around.now self.now).1) }
+        ensures actions { OnOk result (actions.new ≡ actions.old ++ (rules.asks_homes around.now self.now).1) }
+        ensures memory { OnErr result (IsSome around.now.singleton.promise.last × regions.wanted self.now.region ≢ []) }
     {
         match around.singleton.promise().last() {
             Some(last) => self.ask_of(alloc, around, last, actions),
@@ -162,7 +170,8 @@ impl Sharding {
         last: &Ballot,
         actions: &mut Actions,
     ) -> Result<(), AllocError>
-        ensures { OnOk result (actions.new ≡ actions.old ++ rules.asks_homes_of (Some last.now) around.now self.now) }
+        ensures actions { OnOk result (actions.new ≡ actions.old ++ rules.asks_homes_of (Some last.now) around.now self.now) }
+        ensures memory { OnErr result (regions.wanted self.now.region ≢ []) }
     {
         let wanted = self.region.wanted(alloc)?;
         ask_each(alloc, around.me, last, &wanted, actions)
@@ -184,7 +193,8 @@ fn ask_each(
     wanted: &[u32],
     actions: &mut Actions,
 ) -> Result<(), AllocError>
-    ensures { OnOk result (actions.new ≡ actions.old ++ map (λ shard. to_process me.now last.now.unique (GetHome last.now shard)) wanted.now) }
+    ensures actions { OnOk result (actions.new ≡ actions.old ++ map (λ shard. to_process me.now last.now.unique (GetHome last.now shard)) wanted.now) }
+    ensures memory { OnErr result (wanted.now ≢ []) }
 {
     'wanted: for shard in wanted {
         ask_home(alloc, me, &last.unique, last, *shard, actions)?;

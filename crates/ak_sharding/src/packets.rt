@@ -1,4 +1,4 @@
-ghost use Rattle.std.specs.Prelude.{◌≡◌, ◌++◌, OnOk};
+ghost use Rattle.std.specs.Prelude.{◌≡◌, ◌++◌, OnOk, OnErr};
 ghost use Rattle.ak_sharding.specs.Packets as rules;
 
 use crate::sharding::Sharding;
@@ -11,8 +11,8 @@ impl Sharding {
     /// A message of the shards from a process: to a region, whose coordinator has the ballot that the node promised last, it is a
     /// home, an order to host, to hold or to hand off; to the coordinator, with the ballot with which it is active, that a home
     /// is asked for, or that a node hosts, holds or has handed off; or it is a payload for an entity (Akka's Cluster Sharding,
-    /// "How it works"). A message about a shard that the node has not, and any other, changes nothing. Adds what it does; only
-    /// memory can fail.
+    /// "How it works"). A message about a shard that the node has not, with another ballot, and any other, changes nothing and takes
+    /// no memory. Adds what it does; only memory can fail.
     pub fn on_message(
         &mut self,
         alloc: Global,
@@ -23,6 +23,7 @@ impl Sharding {
     ) -> Result<(), AllocError>
         ensures state { OnOk result (self.new ≡ (rules.on_shard_message around.now from.now message.now self.old).0) }
         ensures actions { OnOk result (actions.new ≡ actions.old ++ (rules.on_shard_message around.now from.now message.now self.old).1) }
+        ensures memory { OnErr result (rules.TakesRoom around.now message.now self.old) }
     {
         match message {
             Message::GetHome(ballot, shard) => self.on_get_home(

@@ -1,4 +1,4 @@
-ghost use Rattle.std.specs.Prelude.{◌≡◌, ◌<◌, length, IfOk, option_copied, option_map, IsTrue};
+ghost use Rattle.std.specs.Prelude.{◌≡◌, ◌≢◌, ◌<◌, [], length, IfOk, OnErr, option_copied, option_map, IsTrue};
 ghost use Rattle.std.specs.FinMap as finmap;
 ghost use Rattle.ak_region.specs.Region as regions;
 ghost use Rattle.ak_sharding.specs.Sharding.{new_sharding, forgotten};
@@ -34,6 +34,7 @@ impl Model for Sharding {
 
     ghost view = { λ s. record { region = s.region; entities = s.entities; table = s.coordinator } };
 
+    // The table is one of the region's shards, so that a shard that is one of the node's has its entry.
     ghost invariant = { λ s. HasTable (record { region = s.region; entities = s.entities; table = s.coordinator }) };
 }
 
@@ -97,9 +98,10 @@ impl Sharding {
     }
 
     /// What a new coordinator is told of the shards: for each that the node was told a number of, the greatest one, and whether
-    /// the node hosts it, in the order of shards. Only memory can fail.
+    /// the node hosts it, in the order of shards. Only memory can fail, and only where there is such a shard.
     pub fn reports(&self, alloc: Global) -> Result<Vec<Report>, AllocError>
-        ensures { IfOk result (λ found. found.items ≡ regions.reports self.now.region) }
+        ensures found { IfOk result (λ found. found.items ≡ regions.reports self.now.region) }
+        ensures memory { OnErr result (regions.reports self.now.region ≢ []) }
     {
         self.region.reports(alloc)
     }

@@ -1,4 +1,5 @@
-ghost use Rattle.std.specs.Prelude.{◌≡◌, length, IfOk, OnOk, OnErr, IsTrue};
+ghost use Rattle.std.specs.Prelude.{◌≡◌, length, IfOk, OnOk, OnErr, IsTrue, IsSome};
+ghost use Rattle.ak_coordinator.specs.Coordinator.{SaysHosted};
 ghost use Rattle.ak_sharding.specs.Coordinates as rules;
 
 use crate::sharding::Sharding;
@@ -38,7 +39,7 @@ impl Sharding {
     }
 
     /// What a tick does for the singleton is done with the table: an asking begins with one that is made of the node's own reports,
-    /// and where an asking ends there is none. Only memory can fail, and then nothing has changed.
+    /// and where an asking ends there is none. Only memory can fail, and only where an asking begins, and then nothing has changed.
     pub fn follow_tick(
         &mut self,
         alloc: Global,
@@ -47,6 +48,7 @@ impl Sharding {
     ) -> Result<(), AllocError>
         ensures ok { OnOk result (self.new ≡ rules.tabled_by rule me.now self.old) }
         ensures err { OnErr result (self.new ≡ self.old) }
+        ensures memory { OnErr result (rule ≡ TickRule.Opens) }
     {
         match rule {
             TickRule::Rests => Ok(()),
@@ -60,11 +62,12 @@ impl Sharding {
         }
     }
 
-    /// Where the ballot of an asking was outdone, the table is made anew of the node's own reports. Only memory can fail, and then
-    /// nothing has changed.
+    /// Where the ballot of an asking was outdone, the table is made anew of the node's own reports; else nothing changes, and no
+    /// memory is taken. Only memory can fail, and then nothing has changed.
     pub fn begin_if(&mut self, alloc: Global, outdone: bool, me: &Unique) -> Result<(), AllocError>
         ensures ok { OnOk result (self.new ≡ rules.begins_if outdone me.now self.old) }
         ensures err { OnErr result (self.new ≡ self.old) }
+        ensures memory { OnErr result (IsTrue outdone) }
     {
         if outdone {
             return self.begin_table(alloc, me);
@@ -73,7 +76,7 @@ impl Sharding {
     }
 
     /// Where a grant is the first of its process, its reports are learnt, as they are while the node asks or is active. Only
-    /// memory can fail, and then there is no table any more.
+    /// memory can fail, and only where a table learns that some shard is hosted, and then there is no table any more.
     #[tactic(auto, using(crate::proofs::TableLengths::learnt_length))]
     pub fn learn_if(
         &mut self,
@@ -86,6 +89,7 @@ impl Sharding {
         requires { IsTrue (rules.are_of_shards (length self.old.region.slots) told.now) }
         ensures ok { OnOk result (self.new ≡ rules.learns_if first around.now from.now told.now self.old) }
         ensures lost { OnErr result (self.new ≡ rules.ends_table self.old) }
+        ensures memory { OnErr result (IsTrue first × IsSome self.old.table × SaysHosted told.now) }
     {
         if !first {
             return Ok(());

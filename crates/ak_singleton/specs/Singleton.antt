@@ -1,6 +1,6 @@
 -- Who runs the singleton (Akka's "Cluster Singleton": the oldest member does; that it first asks all others for a promise by ballots is
 -- this project's choice). What a node keeps of it, and what each event makes of that.
-use Rattle.std.specs.Prelude.{ℕ, ◌+◌, nat_lt, Bool, true, false, not, ◌&&◌, ◌||◌, Option, None, Some, is_some, if◌then◌else◌}
+use Rattle.std.specs.Prelude.{◌≢◌, ⊤, ℕ, ◌+◌, nat_lt, Bool, true, false, not, ◌&&◌, ◌||◌, Option, None, Some, is_some, if◌then◌else◌}
 use Rattle.std.specs.FinMap as map
 use Rattle.std.specs.List.{list_all}
 use Rattle.std.specs.Ordering.{is_eq, is_gt}
@@ -124,6 +124,14 @@ steps_of Opens me settled margin s = record { ask = needed_but margin settled (o
 steps_of HandsOver me settled margin s = record { ask = no_one; release = no_one; hand_over_to = s.promise.last }
 steps_of Closes me settled margin s = record { ask = no_one; release = needed_but margin settled (only me); hand_over_to = None }
 steps_of Asks me settled margin s = record { ask = needed_but margin settled s.granted; release = no_one; hand_over_to = None }
+
+-- memory may be wanted for it: for whatever it does, and of whoever asks, where somebody is left to be asked
+abbrev pub TakesRoom : TickRule → SettledView → ℕ → SingletonModel → Type 0
+TakesRoom Rests settled margin s = ⊥
+TakesRoom Opens settled margin s = ⊤
+TakesRoom HandsOver settled margin s = ⊤
+TakesRoom Closes settled margin s = ⊤
+TakesRoom Asks settled margin s = needed_but margin settled s.granted ≢ no_one
 
 -- ---- answers
 -- the first grant of the live ballot from this process

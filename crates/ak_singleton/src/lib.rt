@@ -2,6 +2,7 @@
 #![tactic(auto)]
 
 mod laws;
+mod needed;
 mod phase;
 mod sets;
 mod singleton;

@@ -1,10 +1,11 @@
-ghost use Rattle.std.specs.Prelude.{◌≡◌, ◌≢◌, ◌<◌, ◌≤◌, IfOk, IsOk, IfSome, OnOk, OnErr, None, Some, option_copied};
+ghost use Rattle.std.specs.Prelude.{◌≡◌, ◌≢◌, ◌<◌, ◌≤◌, IfOk, IsOk, IfSome, IsSome, IsTrue, OnOk, OnErr, None, Some, option_copied};
 ghost use Rattle.ak_address.specs.Uniques.{no_one};
 ghost use Rattle.ak_promise.specs.Promise.{Answers, answer_to, asked, bound, is_last, is_some_ballot, released_by};
-ghost use Rattle.ak_singleton.specs.Singleton.{unasked, only, is_some_process, is_candidate, is_holder_finished, needed_but, next_term, own_ballot, opened, closed, renewed, takes_part, may_open_after, may_open, rule_of, tick_rule, after_rule, steps_of, is_first_grant, after_granted, is_asking, is_outdone, after_old, active_term, ended, may_activate, after_activation};
+ghost use Rattle.ak_singleton.specs.Singleton.{unasked, only, is_some_process, is_candidate, is_holder_finished, needed_but, next_term, own_ballot, opened, closed, renewed, takes_part, may_open_after, may_open, rule_of, tick_rule, after_rule, steps_of, TakesRoom, is_first_grant, after_granted, is_asking, is_outdone, after_old, active_term, ended, may_activate, after_activation};
 
+use crate::needed::{has_all_needed, needed_but};
 use crate::phase::{Phase, Steps, TickRule};
-use crate::sets::{has_all, only, those_but};
+use crate::sets::only;
 use ak_address::{Unique, Uniques};
 use ak_clock::{BOUND, Version};
 use ak_member::Status;
@@ -34,6 +35,7 @@ impl Model for Singleton {
 
     ghost view = { λ s. record { promise = s.promise; phase = s.phase; live = s.live; granted = s.granted; floor = s.floor } };
 
+    // Grants and activity are those of a ballot: there is one exactly while the node asks or is active.
     ghost invariant = { λ s. HasLive s.phase s.live };
 }
 
@@ -86,7 +88,8 @@ impl Singleton {
     /// ballot and itself as the first that granted, where the last promise is released, its own, or of a finished process,
     /// or where there is none; else it wants the last ballot handed over. An asker that is not the candidate releases the last
     /// ballot with what is settled, tells those that it needs, and is younger again. Whoever asks or is active then asks
-    /// each that it needs and that has not granted. Only memory can fail.
+    /// each that it needs and that has not granted. Only memory can fail, and only of a tick that does something:
+    /// not of one that rests, nor where nobody is left to be asked.
     pub fn on_tick(
         &mut self,
         alloc: Global,
@@ -98,6 +101,7 @@ impl Singleton {
         ensures steps { IfOk result (λ steps. steps ≡ steps_of (tick_rule me.now settled.now.view status margin self.old) me.now settled.now.view margin self.old) }
         ensures after { IfOk result (λ steps. self.new ≡ after_rule (tick_rule me.now settled.now.view status margin self.old) me.now settled.now.view self.old) }
         ensures err { OnErr result (self.new ≡ self.old) }
+        ensures memory { OnErr result (TakesRoom (tick_rule me.now settled.now.view status margin self.old) settled.now.view margin self.old) }
     {
         match self.tick_rule(me, settled, status, margin) {
             TickRule::Rests => Ok(no_steps(alloc)),
@@ -192,7 +196,8 @@ impl Singleton {
 
     // Asks those that have not granted.
     fn ask_others(&self, alloc: Global, settled: &Settled, margin: u32) -> Result<Steps, AllocError>
-        ensures { IfOk result (λ steps. steps ≡ record { ask = needed_but margin settled.now.view self.now.granted; release = no_one; hand_over_to = None }) }
+        ensures steps { IfOk result (λ steps. steps ≡ record { ask = needed_but margin settled.now.view self.now.granted; release = no_one; hand_over_to = None }) }
+        ensures memory { OnErr result (needed_but margin settled.now.view self.now.granted ≢ no_one) }
     {
         let ask = needed_but(alloc, settled, margin, &self.granted)?;
         let release = Uniques::empty(alloc);
@@ -207,6 +212,7 @@ impl Singleton {
     fn let_go(&mut self, alloc: Global, settled: &Settled) -> Result<(), AllocError>
         ensures ok { OnOk result (self.new ≡ closed Phase.Ended settled.now.view self.old) }
         ensures err { OnErr result (self.new ≡ self.old) }
+        ensures memory { OnErr result (IsSome self.old.promise.last) }
     {
         self.promise.release_last(alloc, settled.version())?;
         self.phase = Phase::Ended;
@@ -228,8 +234,8 @@ impl Singleton {
     }
 
     /// A process granted a ballot with a floor. Where it is the live one, and the first grant of it from that process, the
-    /// process has granted, the floor covers its floor too, and the answer is true; else nothing changes. After an error it is
-    /// as it was.
+    /// process has granted, the floor covers its floor too, and the answer is true; else nothing changes, and no memory is taken.
+    /// After an error it is as it was.
     pub fn on_granted(
         &mut self,
         alloc: Global,
@@ -239,6 +245,7 @@ impl Singleton {
     ) -> Result<bool, AllocError>
         ensures ok { IfOk result (λ first. (first ≡ is_first_grant from.now ballot.now self.old) × (self.new ≡ after_granted first from.now floor.now self.old)) }
         ensures err { OnErr result (self.new ≡ self.old) }
+        ensures memory { OnErr result (IsTrue (is_first_grant from.now ballot.now self.old)) }
     {
         if is_ballot(self.live.as_ref(), ballot) && !self.granted.contains(from) {
             let mut merged = self.floor.copy(alloc)?;
@@ -252,8 +259,8 @@ impl Singleton {
 
     /// A process answers to a ballot that it promised the second one before. Where the node asks with the first, the second is
     /// above it, and its term is not the greatest, the node asks anew with the next term: its next ballot is promised to
-    /// itself, it alone has granted, the floor stays, and the answer is true. Else nothing changes. After an error it is as
-    /// it was.
+    /// itself, it alone has granted, the floor stays, and the answer is true. Else nothing changes, and no memory is taken. After
+    /// an error it is as it was.
     pub fn on_old(
         &mut self,
         alloc: Global,
@@ -262,6 +269,7 @@ impl Singleton {
     ) -> Result<bool, AllocError>
         ensures ok { IfOk result (λ renewed. (renewed ≡ is_outdone ballot.now last.now self.old) × (self.new ≡ after_old renewed ballot.now last.now self.old)) }
         ensures err { OnErr result (self.new ≡ self.old) }
+        ensures memory { OnErr result (IsTrue (is_outdone ballot.now last.now self.old)) }
     {
         if self.is_outdone(ballot, last) {
             self.renew(alloc, &ballot.unique, last.term + 1)?;
@@ -310,10 +318,12 @@ impl Singleton {
     }
 
     /// The node is on its way out: its phase is over for good. Where it asked or was active the last ballot is released with what
-    /// is settled. The answer is the term of its ballot, exactly where it was active. After an error it is as it was.
+    /// is settled; where it did not, or promised nothing, no memory is taken. The answer is the term of its ballot, exactly where
+    /// it was active. After an error it is as it was.
     pub fn end(&mut self, alloc: Global, settled: &Settled) -> Result<Option<u64>, AllocError>
         ensures ok { IfOk result (λ term. (term ≡ active_term self.old.phase self.old.live) × (self.new ≡ ended settled.now.view self.old)) }
         ensures err { OnErr result (self.new ≡ self.old) }
+        ensures memory { OnErr result (IsSome self.old.live × IsSome self.old.promise.last) }
     {
         let term = active_term(self.phase, self.live.as_ref());
         match self.phase {
@@ -326,20 +336,22 @@ impl Singleton {
     }
 
     /// Becomes active where it asks, is the candidate, each that it needs has granted, and what it has settled covers the floor;
-    /// else nothing changes. The answer is whether it did. After an error it is as it was.
+    /// else nothing changes. The answer is whether it did. Takes no memory, and never fails.
     pub fn try_activate(
         &mut self,
-        alloc: Global,
+        _alloc: Global,
         me: &Unique,
         settled: &Settled,
         margin: u32,
     ) -> Result<bool, AllocError>
         ensures ok { IfOk result (λ activated. (activated ≡ may_activate me.now settled.now.view margin self.old) × (self.new ≡ after_activation activated self.old)) }
         ensures err { OnErr result (self.new ≡ self.old) }
+        ensures memory { IsOk result }
     {
         if is_asking(self.phase) && is_process(settled.candidate(), me) {
-            let needed = settled.needed(alloc, margin)?;
-            if has_all(&self.granted, &needed) && settled.version().covers(&self.floor) {
+            if has_all_needed(settled, margin, &self.granted)
+                && settled.version().covers(&self.floor)
+            {
                 self.phase = Phase::Active;
                 return Ok(true);
             }
@@ -432,7 +444,7 @@ fn is_holder_finished(last: Option<&Ballot>, settled: &Settled, margin: u32) -> 
     }
 }
 
-// Whether the node may begin to ask.
+// Whether the node may begin to ask. A ballot of the greatest term has none after it, so it has to be handed over.
 fn may_open(promise: &Promise, me: &Unique, settled: &Settled, margin: u32) -> bool
     ensures { result ≡ may_open margin settled.now.view me.now promise.now }
 {
@@ -477,19 +489,6 @@ fn copy_of(alloc: Global, ballot: Option<&Ballot>) -> Result<Option<Ballot>, All
         }
         None => Ok(None),
     }
-}
-
-// Whom the node needs, but for the others.
-fn needed_but(
-    alloc: Global,
-    settled: &Settled,
-    margin: u32,
-    others: &Uniques,
-) -> Result<Uniques, AllocError>
-    ensures { IfOk result (λ them. them ≡ needed_but margin settled.now.view others.now) }
-{
-    let needed = settled.needed(alloc, margin)?;
-    those_but(alloc, &needed, others)
 }
 
 fn active_term(phase: Phase, live: Option<&Ballot>) -> Option<u64>

@@ -1,6 +1,8 @@
 use Rattle.std.proofs.Common.{[], ◌++◌, ap, ◌∙◌, arith}
+use Rattle.std.proofs.lemmas.Result.{err_from_is_err_and}
 use Rattle.ak_region.specs.RegionModel.{Message}
 use Rattle.ak_region.specs.Turns.{turn_gone}
+use Rattle.ak_region.proofs.EmptyLemmas.{those_gone}
 use Rattle.ak_region.proofs.WalkLemmas.{next_gone, next_left}
 use Rattle.ak_region.proofs.buffer.take_those_for.Goals as goal
 
@@ -17,3 +19,9 @@ turns-preserved c =
       shorter = omega (arith, i.shorter, c.in_ok-turn.ensures.shorter);
       within = rw c.in_ok-turn.ensures.capacity (omega (arith, i.within, c.in_ok-turn.ensures.shorter));
     }
+
+pub returns-in_err-turn-clause-memory : goal.returns-in_err-turn-clause-memory
+returns-in_err-turn-clause-memory c =
+    let d : Message = record { entity = []; payload = 0 } in
+    let p = err_from_is_err_and c.from_residual.result c.from_residual.ensures.1 in
+    rw p.1 (those_gone c.args.shards c.args.shard c.turns._turn c.args.buffer.now.items c.turns.buffer.items d (omega arith) c.turns.invariant.left c.in_err-turn.ensures.memory)
