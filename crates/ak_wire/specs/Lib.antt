@@ -1,4 +1,6 @@
+pub mod Carried
 pub mod Datagram
+pub mod Hashed
 pub mod Laws
 pub mod ReadingDatagram
 pub mod Stored

@@ -3,14 +3,18 @@
 
 mod action;
 mod bodies;
+mod carried;
 mod checking;
 mod cover;
 mod envelope;
+mod hashing;
 mod laws;
 mod measuring;
 mod packet;
 mod reading;
 mod reports;
+mod same;
+mod same_envelope;
 mod shared;
 mod writing;
 

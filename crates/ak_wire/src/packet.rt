@@ -1,10 +1,17 @@
-ghost use Rattle.std.specs.Prelude.{◌≡◌, IfOk};
-ghost use Rattle.ak_wire.specs.Datagram.{IsValid, Spells};
+ghost use Rattle.std.specs.Prelude.{◌≡◌, IfOk, nat_eq};
+ghost use Rattle.std.specs.Cmp.{on_per, on_equiv, partial_equiv_from_equiv};
+ghost use Rattle.std.specs.Cmp.Lexicographic.{pointwise, bytes_decides, nat_list_eq_equiv};
+ghost use Rattle.ak_wire.specs.Datagram.{datagram, IsValid, Spells};
+ghost use Rattle.ak_wire.specs.Hashed.{hashed_bytes};
+ghost use Rattle.std.proofs.Common.{ap};
 
 use crate::envelope::Envelope;
+use crate::hashing::hash_envelope;
+use crate::same::Same;
 use crate::shared::SharedEnvelope;
 use crate::writing::encode;
 use std::alloc::{AllocError, Global};
+use std::hash::{Hash, Hasher};
 use std::marker::Model;
 
 /// A packet that was sent: an envelope that has a spelling as bytes (an invariant of the type). Contracts see the envelope.
@@ -57,5 +64,32 @@ impl Packet {
         ensures { IfOk result (λ bytes. Spells bytes.items self.now) }
     {
         encode(alloc, self.envelope.get())
+    }
+}
+
+/// Two packets are equal exactly where their bytes are. They are compared without their bytes, field by field.
+impl PartialEq for Packet {
+    ghost eq = { λ x y. pointwise nat_eq (datagram x) (datagram y) };
+
+    ghost laws = { on_per datagram (partial_equiv_from_equiv nat_list_eq_equiv) };
+
+    fn eq(&self, other: &Packet) -> bool {
+        self.envelope.get().is_same(other.envelope.get())
+    }
+}
+
+impl Eq for Packet {
+    ghost laws = { on_equiv datagram nat_list_eq_equiv };
+}
+
+/// A hash is fed with who sends it to whom, with its kind and with numbers of what it carries (this project's choice), which
+/// its bytes show.
+impl Hash for Packet {
+    ghost hash_input = { λ p. hashed_bytes (datagram p) };
+
+    ghost respects_eq = { λ x y same. ap hashed_bytes ((bytes_decides (datagram x) (datagram y)).0 same) };
+
+    fn hash<H: Hasher>(&self, state: &mut H) {
+        hash_envelope(self.envelope.get(), state);
     }
 }
