@@ -1,5 +1,5 @@
 -- Under a static quorum of more than half of the listed addresses a double comes at the step at which the margin is broken, or later.
-use Rattle.std.proofs.Common.{◌≡◌, ◌⊎◌, inl, inr, ℕ, ◌+◌, ◌<◌, ◌≤◌, List, [], ◌∷◌, ◌++◌, length, take, None, Some, slice_get, sym, subst, arith, append-nil, append_assoc, length-append}
+use Rattle.std.proofs.Common.{◌≡◌, ◌⊎◌, inl, inr, ℕ, ◌+◌, ◌<◌, ◌≤◌, List, [], ◌∷◌, ◌++◌, length, take, sym, subst, arith, append-nil, append_assoc, length-append}
 use Rattle.std.proofs.lemmas.Option.{slice_get_within}
 use Rattle.ak_address.specs.Unique.{UniqueModel}
 use Rattle.ak_settings.specs.Settings.{SettingsModel}
@@ -12,7 +12,7 @@ use Rattle.ak_world.specs.SettledLine.{IsOverHalf}
 use Rattle.ak_world.specs.Uids.{HaveUids}
 use Rattle.ak_world.specs.World.{run}
 use Rattle.ak_world.proofs.DoubleLoops.{in_first, first_in}
-use Rattle.ak_world.proofs.DoubleMarks.{doubled_sooner, no_later, not_less}
+use Rattle.ak_world.proofs.DoubleMarks.{doubled_sooner, not_less}
 use Rattle.ak_world.proofs.DoubleRuns.{kept_first, no_double-of_run}
 use Rattle.ak_world.proofs.InRunLemmas.{take_rest}
 use Rattle.ak_world.proofs.MarginRuns.{untold_later}

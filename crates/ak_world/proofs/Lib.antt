@@ -41,6 +41,7 @@ pub mod SettledRuns
 pub mod ShownLine
 pub mod SomeDouble
 pub mod StepLemmas
+pub mod StoredLemmas
 pub mod StepStages
 pub mod TellsRuns
 pub mod Told

@@ -1,6 +1,6 @@
 -- What a node has noted as settled was settled at that very node, at the end of the step in which it noted it; and where the view
 -- of a running node is settled, that is what it has noted.
-use Rattle.std.proofs.Common.{◌≡◌, ℕ, Bool, true, false, List, [], ◌∷◌, ◌++◌, inl, inr, length, Option, Some, None, is_some, Result, Ok, Err, slice_get, IsTrue, append-nil, append_assoc, refl, sym, ap, ◌∙◌, subst, true≢false}
+use Rattle.std.proofs.Common.{◌≡◌, ℕ, Bool, List, [], ◌∷◌, ◌++◌, inl, inr, length, Some, None, is_some, Result, Ok, Err, slice_get, IsTrue, append-nil, append_assoc, refl, sym, ap, ◌∙◌, subst, true≢false}
 use Rattle.ak_clock.specs.Version.{Counts, Covers}
 use Rattle.ak_clock.proofs.VersionLaws.{covers_equal}
 use Rattle.ak_converge.specs.Convergence.{is_settled}

@@ -1,6 +1,6 @@
 -- What the settled view that a node has noted says along the line: its version is on it; its candidate has aged and was not
 -- removed; whoever has aged by it is needed or finished there; and it has not removed the node itself.
-use Rattle.std.proofs.Common.{◌≡◌, ℕ, true, false, ◌⊎◌, List, Option, Some, None, IsSome, slice_get, IsTrue, sym, subst, true≢false}
+use Rattle.std.proofs.Common.{◌≡◌, ℕ, false, ◌⊎◌, List, Option, Some, None, IsSome, slice_get, IsTrue, sym, true≢false}
 use Rattle.std.specs.FinMap as map
 use Rattle.ak_address.specs.Unique.{UniqueModel}
 use Rattle.ak_address.specs.Uniques.{has}

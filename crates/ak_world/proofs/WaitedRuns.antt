@@ -18,7 +18,7 @@ use Rattle.ak_wire.specs.declared.action.Action.TheVariants.{MarginEnd}
 use Rattle.ak_node.specs.declared.node.State.{State}
 use Rattle.ak_node.specs.declared.node.NodeEvent.{NodeEvent}
 use Rattle.ak_node.specs.declared.node.NodeEvent.TheVariants as event
-use Rattle.ak_node.specs.Node.{Outcome, known, me_of, settled_of, margin_of, is_member, and_then, started, rule, concludes, is_dead, running_step, step}
+use Rattle.ak_node.specs.Node.{Outcome, known, me_of, settled_of, margin_of, is_member, and_then, started, rule, concludes, is_dead, step}
 use Rattle.ak_node.proofs.NodeLemmas.{rule_settled}
 use Rattle.ak_node.proofs.StepChanges.{rule_changes, step_is}
 use Rattle.ak_node.proofs.StepEnds.{Waits, rule_waits, ending_told}

@@ -13,6 +13,7 @@ pub mod RunLine
 pub mod SettledLine
 pub mod Singletons
 pub mod StepText
+pub mod Stored
 pub mod Worked
 pub mod Uids
 pub mod World

@@ -36,7 +36,7 @@ states nodes = map (λ (n : NodeModel). n.state) nodes
 
 -- what the code keeps, as the state of a world
 abbrev pub state_of : Scene → WorldState
-state_of s = record { nodes = states s.nodes.items; packets = s.packets.items; history = s.history; founded = s.founded }
+state_of s = record { nodes = states s.nodes.items; packets = s.packets; history = s.history; founded = s.founded }
 
 -- the step that a call answered is what the event did
 pub record Shows (before : WorldState) (step : Step) (done : Done) : Type 0 where

@@ -5,6 +5,7 @@ mod double;
 mod kept;
 mod laws;
 mod margin;
+mod packets;
 mod print;
 mod seek;
 mod world;

@@ -25,10 +25,12 @@ ghost use Rattle.ak_world.specs.Double.{IsFirstDouble};
 ghost use Rattle.ak_world.specs.Homes.{HasOneHome};
 ghost use Rattle.ak_world.specs.WorldContracts.{AreSpelled, Applies, Scenes, IsNoMemory, IsReady, Acts, Keeps, states, state_of, doubled_of};
 ghost use Rattle.ak_world.specs.DoubleMark.{NextDouble};
+ghost use Rattle.ak_world.specs.Stored.{different};
 
 use crate::double::{Double, first_made};
 use crate::kept::KeptEvent;
 use crate::margin::{Margin, first_end};
+use crate::packets::Packets;
 use crate::seek::{is_in_use, node_of, receiver_of};
 use ak_address::{Address, Unique};
 use ak_field::EntityId;
@@ -36,7 +38,7 @@ use ak_history::History;
 use ak_node::{Node, NodeEvent};
 use ak_schedule::Event;
 use ak_settings::Settings;
-use ak_wire::{Action, Actions, Envelope, Packet};
+use ak_wire::{Action, Actions, Envelope};
 use std::alloc::{AllocError, AllocFailed, Global};
 use std::marker::Model;
 use std::rc::Rc;
@@ -95,7 +97,7 @@ pub(crate) struct Scene {
     nodes: Vec<Node>,
     // The processes of the nodes, by their start numbers: kept events share them. No contract speaks of them.
     names: Vec<Rc<Unique>>,
-    packets: Vec<Packet>,
+    packets: Packets,
     history: History,
     founded: bool,
 }
@@ -240,7 +242,7 @@ impl Scene {
         ensures scenes { Scenes (state_of self.old) (rules.happens self.old.settings (Event.Deliver number) (state_of self.old)) result (state_of self.new) }
     {
         let is_full = self.is_full();
-        let Some(packet) = packet_at(&self.packets, number) else {
+        let Some(packet) = self.packets.at(number) else {
             let sent = self.packets.len() as u64;
             return Err(Refused::Invalid(Reason::NoPacket { sent }));
         };
@@ -408,7 +410,7 @@ impl Scene {
 
     // The number of the next packet that is sent.
     fn next_packet(&self) -> u64
-        ensures { result ≡ length self.now.packets.items + 1 }
+        ensures { result ≡ length self.now.packets + 1 }
     {
         self.packets.len() as u64 + 1
     }
@@ -420,17 +422,6 @@ fn shared_name(alloc: Global, who: &Unique) -> Result<Rc<Unique>, AllocError> {
     Ok(Rc::new(alloc, name)?)
 }
 
-// The packet of a number from 1 on.
-fn packet_at(packets: &[Packet], number: u64) -> Option<&Packet>
-    ensures { option_copied result ≡ rules.numbered packets.now number }
-{
-    if number == 0 {
-        return None;
-    }
-    let index = usize::try_from(number - 1).ok()?;
-    packets.get(index)
-}
-
 // A start number: fewer processes are started than have a number.
 pub(crate) fn number_of(index: usize) -> Option<u32>
     requires { index < 64 }
@@ -440,16 +431,17 @@ pub(crate) fn number_of(index: usize) -> Option<u32>
 }
 
 // What the actions send is kept, each packet once.
-fn keep_packets(actions: &[Action], packets: &mut Vec<Packet>) -> Result<(), AllocError>
+fn keep_packets(actions: &[Action], packets: &mut Packets) -> Result<(), AllocError>
     requires { AreValid actions.now }
-    ensures kept { OnOk result (packets.new.items ≡ packets.old.items ++ sent actions.now) }
-    ensures numbered { OnOk result (length packets.new.items < 2 ^ 63) }
+    ensures kept { OnOk result (packets.new ≡ packets.old ++ sent actions.now) }
+    ensures numbered { OnOk result (length packets.new < 2 ^ 63) }
 {
     'actions: for action in actions {
         if let Action::Send(envelope) = action {
-            packets.push(Packet::of(envelope)?)?;
+            packets.push(envelope)?;
         }
     }
+    let _many = packets.len();
     Ok(())
 }
 
@@ -609,7 +601,7 @@ impl World {
             settings,
             nodes: Vec::new(alloc),
             names: Vec::new(alloc),
-            packets: Vec::new(alloc),
+            packets: Packets::none(alloc),
             history: History::empty(alloc),
             founded: false,
         };
@@ -751,11 +743,18 @@ impl World {
         self.scene.packets.len() as u64
     }
 
+    /// How many different datagrams were sent: those with the same bytes count once, and are stored once.
+    pub fn stored(&self) -> u64
+        ensures { result ≡ different self.now.state.packets }
+    {
+        self.scene.packets.stored()
+    }
+
     /// What the packet of a number from 1 on says, and None exactly where no packet has it.
     pub fn envelope(&self, number: u64) -> Option<&Envelope>
         ensures { option_copied result ≡ rules.packet_at self.now.state number }
     {
-        match packet_at(&self.scene.packets, number) {
+        match self.scene.packets.at(number) {
             Some(packet) => Some(packet.envelope()),
             None => None,
         }
@@ -766,7 +765,7 @@ impl World {
     pub fn packet(&self, alloc: Global, number: u64) -> Result<Option<Vec<u8>>, AllocError>
         ensures { IfOk result (λ bytes. AreSpelled (rules.packet_at self.now.state number) (option_map (λ v. v.items) bytes)) }
     {
-        match packet_at(&self.scene.packets, number) {
+        match self.scene.packets.at(number) {
             Some(packet) => Ok(Some(packet.bytes(alloc)?)),
             None => Ok(None),
         }

@@ -1,5 +1,5 @@
 //! Whole replays, event by event: what a node knows is the fold of the history, lives and margins end as
-//! they must, and the settled views stand in one line.
+//! they must, the settled views stand in one line, and a packet is stored once.
 #![tactic(auto)]
 
 #[cfg(test)]
@@ -14,5 +14,7 @@ mod line;
 mod margin;
 #[cfg(test)]
 mod seen;
+#[cfg(test)]
+mod stored;
 #[cfg(test)]
 mod story;

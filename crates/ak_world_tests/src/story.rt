@@ -1,7 +1,7 @@
 ghost use Rattle.std.specs.Prelude.{◌+◌, ◌<◌, ◌≤◌, length, OnOk};
 
 // The stories of all tests of worlds, and how one goes.
-use crate::{double, fold, life, line, margin, seen};
+use crate::{double, fold, life, line, margin, seen, stored};
 use ak_address::{Address, parse_address};
 use ak_schedule::{Event, LineFault, read_line};
 use ak_settings::{Settings, Strategy};
@@ -155,6 +155,7 @@ pub(crate) enum Story {
     Leaves,
     IsReplaced,
     IsDowned,
+    StoredOnce,
 }
 
 fn cluster_of(story: Story) -> Cluster {
@@ -164,6 +165,7 @@ fn cluster_of(story: Story) -> Cluster {
         Story::FounderLeaves => line::ALONE,
         Story::BothRise => line::BOTH,
         Story::Leaves | Story::IsReplaced | Story::IsDowned => life::CLUSTER,
+        Story::StoredOnce => stored::CLUSTER,
         _ => fold::CLUSTER,
     }
 }
@@ -186,6 +188,7 @@ fn goes_so(alloc: Global, world: &mut World, story: Story) -> Result<bool, Fail>
         Story::Leaves => life::leaves(alloc, world),
         Story::IsReplaced => life::is_replaced(alloc, world),
         Story::IsDowned => life::is_downed(alloc, world),
+        Story::StoredOnce => stored::is_stored_once(alloc, world),
     }
 }
 

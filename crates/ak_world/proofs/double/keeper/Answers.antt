@@ -1,6 +1,4 @@
-use Rattle.std.proofs.Common.{◌≡◌, ◌+◌, ◌<◌, ℕ, Option, sym, ◌∙◌, take, Some, slice_get, subst, length, arith}
-use Rattle.ak_node.specs.NodeContracts.{NodeModel}
-use Rattle.ak_node.specs.declared.node.State.{State}
+use Rattle.std.proofs.Common.{◌+◌, ℕ, Option, sym, ◌∙◌, take, subst, arith}
 use Rattle.ak_world.specs.DoubleMark.{FirstKeeper}
 use Rattle.ak_world.specs.WorldContracts.{states}
 use Rattle.ak_world.proofs.DoubleLoops.{keeper_next, passed_itself, passed_idle, passed_later, keeper_whole}

@@ -1,4 +1,4 @@
-use Rattle.std.proofs.Common.{◌≡◌, ◌<◌, Some, length, subst, arith}
+use Rattle.std.proofs.Common.{subst, arith}
 use Rattle.ak_world.specs.DoubleMark.{FirstKeeper}
 use Rattle.ak_world.specs.WorldContracts.{states}
 use Rattle.ak_world.proofs.DoubleLoops.{keeper_within, made_none}

@@ -6,24 +6,23 @@ use Rattle.ak_wire.specs.declared.envelope.Envelope.{Envelope}
 use Rattle.ak_wire.specs.Wire.{sent}
 use Rattle.ak_world.proofs.WorldLemmas.{sent-kept, sent-none, sent-there}
 use Rattle.ak_world.proofs.world.keep_packets.Goals as goal
-use Rattle.ak_world.proofs.world.keep_packets.Goals.{in-Send+in_ok-of+in_ok-push, in_default}
+use Rattle.ak_world.proofs.world.keep_packets.Goals.{in-Send+in_ok-push, in_default}
 
-pub of-requires : goal.of-requires
-of-requires c =
+pub push-requires : goal.push-requires
+push-requires c =
     let at = slice_get_read c.args.actions.now _ c.actions.action-index c.action-item.result refl c.actions-test.true c.action-item.is in
     c.requires c.in-Send.envelope (sent-there c.args.actions.now c.actions.action-index c.action-item.result c.in-Send.envelope at c.in-Send.is)
 
 pub actions-preserved : goal.actions-preserved
 actions-preserved c =
-    sent-kept c.args.packets.now.items c.actions.packets.items c.match-action.packets.items c.args.actions.now c.actions.action-index c.action-item.result c.actions-test.true c.action-item.is c.actions.invariant
+    sent-kept c.args.packets.now c.actions.packets c.match-action.packets c.args.actions.now c.actions.action-index c.action-item.result c.actions-test.true c.action-item.is c.actions.invariant
     (elim c.match-action.branch [
-      | in-Send+in_ok-of+in_ok-push w ↦
-          ap (λ v. v.items) w.packets-is
-          ∙ w.in_ok-push.ensures.items
-          ∙ ap (λ (e : Envelope). c.actions.packets.items ++ e ∷ []) w.in_ok-of.ensures
-          ∙ ap (λ (x : Action). c.actions.packets.items ++ sent (x ∷ [])) (sym w.in-Send.is)
+      | in-Send+in_ok-push w ↦
+          w.packets-is
+          ∙ w.in_ok-push.ensures.ok
+          ∙ ap (λ (x : Action). c.actions.packets ++ sent (x ∷ [])) (sym w.in-Send.is)
       | in_default w ↦
-          ap (λ v. v.items) w.packets-is
-          ∙ sym (append-nil c.actions.packets.items)
-          ∙ ap (λ (es : List Envelope). c.actions.packets.items ++ es) (sym (sent-none c.action-item.result w.in_default.not-Send))
+          w.packets-is
+          ∙ sym (append-nil c.actions.packets)
+          ∙ ap (λ (es : List Envelope). c.actions.packets ++ es) (sym (sent-none c.action-item.result w.in_default.not-Send))
     ])

@@ -3,4 +3,4 @@ use Rattle.ak_wire.specs.Wire.{sent}
 use Rattle.ak_world.proofs.world.keep_packets.Given as goal
 
 abbrev pub invariant-actions : goal.invariant-actions
-invariant-actions l = l.packets.items ≡ l.fn.packets.items ++ sent (take l.action-index l.actions)
+invariant-actions l = l.packets ≡ l.fn.packets ++ sent (take l.action-index l.actions)

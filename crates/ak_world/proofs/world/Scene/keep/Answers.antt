@@ -19,7 +19,7 @@ returns-clause-kept c = λ n at.
     let history = c.args.self.now.history in
     record {
       nodes = refl;
-      packets = c.in_ok-keep_packets.ensures.kept ∙ ap (λ (xs : List Action). c.args.self.now.packets.items ++ sent xs) c.as_slice.ensures;
+      packets = c.in_ok-keep_packets.ensures.kept ∙ ap (λ (xs : List Action). c.args.self.now.packets ++ sent xs) c.as_slice.ensures;
       history = c.in_ok-keep_entries.ensures
           ∙ ap (λ (xs : List Action). recorded c.me.result.now xs history) c.as_slice-2.ensures
           ∙ ap (λ (u : UniqueModel). recorded u c.args.actions history) (c.me.ensures ∙ ap me_of node);

@@ -1,0 +1,111 @@
+//! The packets of a world.
+
+ghost use Rattle.std.specs.Prelude.{◌≡◌, ◌<◌, ◌^◌, ◌++◌, ◌∷◌, [], length, OnOk, OnErr};
+ghost use Rattle.std.specs.Option.{option_copied};
+ghost use Rattle.ak_wire.specs.Datagram.{IsValid};
+ghost use Rattle.ak_world.specs.World.{numbered};
+ghost use Rattle.ak_world.specs.Stored.{different, place_at};
+
+use ak_wire::{Packet, SharedEnvelope};
+use indexmap::IndexSet;
+use std::alloc::{AllocError, Global};
+use std::marker::Model;
+
+/// The packets that were sent, in their order. Each different one is stored once, and each that was sent has the place of it, so
+/// that a heartbeat that is sent again and again takes a number and no more (this project's choice). The set hashes as std does
+/// where nothing is said: the same in each run, and no hasher of the kit asks less of a processor. Contracts see the packets.
+#[derive(Drop)]
+pub(crate) struct Packets {
+    stored: IndexSet<Packet>,
+    places: Vec<usize>,
+}
+
+impl Model for Packets {
+    ghost use Rattle.std.specs.Prelude.{List};
+    ghost use Rattle.std.specs.Coded.{codes};
+    ghost use Rattle.ak_address.specs.Unique.{coded_address, coded_unique};
+    ghost use Rattle.ak_gossip.specs.Gossip.{coded_gossip};
+    ghost use Rattle.ak_member.specs.View.{coded_uniques};
+    ghost use Rattle.ak_promise.specs.Ballot.{coded_ballot};
+    ghost use Rattle.ak_wire.specs.Stored.{coded_counts};
+    ghost use Rattle.ak_wire.specs.declared.envelope.Envelope.{Envelope};
+    ghost use Rattle.ak_world.specs.Stored.{at_places, AreStored};
+
+    ghost Value = { List Envelope };
+
+    ghost coded = { Prim.hlevel (codes, coded_address, coded_unique, coded_uniques, coded_gossip, coded_ballot, coded_counts) };
+
+    ghost view = { λ p. at_places p.stored.keys p.places.items };
+
+    ghost invariant = { λ p. AreStored p.stored.keys p.places.items };
+}
+
+impl Packets {
+    /// No packet. Takes no memory.
+    pub(crate) fn none(alloc: Global) -> Packets
+        ensures { result ≡ [] }
+    {
+        Packets {
+            stored: IndexSet::new(alloc),
+            places: Vec::new(alloc),
+        }
+    }
+
+    /// How many packets were sent.
+    pub(crate) fn len(&self) -> usize
+        ensures value { result ≡ length self.now }
+        ensures small { result < 2 ^ 63 }
+    {
+        self.places.len()
+    }
+
+    /// How many different packets are stored: those with the same bytes count once.
+    pub(crate) fn stored(&self) -> u64
+        ensures { result ≡ different self.now }
+    {
+        self.stored.len() as u64
+    }
+
+    /// The packet of a number from 1 on.
+    pub(crate) fn at(&self, number: u64) -> Option<&Packet>
+        ensures { option_copied result ≡ numbered self.now number }
+    {
+        match place_at(&self.places, number) {
+            Some(place) => self.stored.get_index(place),
+            None => None,
+        }
+    }
+
+    /// One more packet, which is shared. It is stored where none with the same bytes is; that is asked by its hash, so that nobody
+    /// looks at all packets. An error leaves the packets as they were; only memory can fail.
+    pub(crate) fn push(&mut self, envelope: &SharedEnvelope) -> Result<(), AllocError>
+        requires { IsValid envelope.now }
+        ensures ok { OnOk result (self.new ≡ self.old ++ envelope.now ∷ []) }
+        ensures err { OnErr result (self.new ≡ self.old) }
+    {
+        let packet = Packet::of(envelope)?;
+        self.places.reserve(1)?;
+        let (place, _) = self.stored.insert_full(packet)?;
+        self.places.push_reserved(place);
+        Ok(())
+    }
+
+    /// No packet any more.
+    pub(crate) fn clear(&mut self)
+        ensures { self.new ≡ [] }
+    {
+        self.stored.clear();
+        self.places.clear();
+    }
+}
+
+// The place of the packet of a number from 1 on.
+fn place_at(places: &[usize], number: u64) -> Option<usize>
+    ensures { result ≡ place_at places.now number }
+{
+    if number == 0 {
+        return None;
+    }
+    let index = usize::try_from(number - 1).ok()?;
+    places.get(index).copied()
+}
