@@ -1,5 +1,5 @@
 -- What was read of a file, where its bytes are known.
-use Rattle.std.proofs.Common.{◌≡◌, ◌<◌, ℕ, List, [], ◌++◌, length, Option, Some, None, IfSome, sym, ap, ◌∙◌, arith, length-append, append-nil}
+use Rattle.std.proofs.Common.{◌≡◌, ◌<◌, ℕ, List, ◌++◌, length, Option, Some, None, IfSome, sym, ap, ◌∙◌, arith, length-append, append-nil}
 use Rattle.std.specs.Io.KnownBytes.{Consumes, IsAtEnd}
 
 -- at the end all of it was read

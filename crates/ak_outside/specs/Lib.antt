@@ -9,3 +9,5 @@ pub mod Folder
 pub mod Link
 pub mod Clock
 pub mod MemoryLink
+pub mod Lines
+pub mod Endings

@@ -13,7 +13,7 @@ use Rattle.ak_outside.specs.declared.link.Heard.{Heard}
 use Rattle.ak_outside.specs.declared.link.Heard.TheVariants as heard
 use Rattle.ak_outside.specs.Outside.{counted}
 use Rattle.ak_outside.specs.Memory.{is_listed}
-use Rattle.ak_outside.specs.Link.{Sends, HearsNext}
+use Rattle.ak_outside.specs.Link.{Sends}
 
 -- the calls of one kind: the numbers of those that fail, and how many were made
 pub record CallsMade : Type 0 where

@@ -7,7 +7,9 @@
 mod arguments;
 mod calls;
 mod clock;
+mod ending;
 mod folder;
+mod lines;
 mod link;
 mod memory;
 mod memory_folder;
@@ -25,7 +27,9 @@ mod writer;
 
 pub use arguments::{Arguments, MemoryArguments, StdArguments};
 pub use clock::{Clock, MemoryClock};
+pub use ending::written;
 pub use folder::{Folder, Loaded, MemoryFile};
+pub use lines::{LineReader, Next};
 pub use link::{Bound, Heard, Link, Sent, Taken};
 pub use memory::{MemorySink, MemorySource};
 pub use memory_folder::MemoryFolder;

@@ -12,7 +12,8 @@ use Rattle.ak_outside.specs.declared.status.Status.TheVariants.{Write, Memory}
 use Rattle.ak_outside.proofs.Prefixes.{AppendsPrefix-after, AppendsPrefix-more}
 use Rattle.ak_sweep.specs.declared.line.Line.{Line}
 use Rattle.ak_sweeps.specs.RunContracts.{WritesLines}
-use Rattle.ak_sweeps.specs.SweepPromise.{Written, status_of, Ends, RunsOut, Sweeps, IsCompleted, memory_line}
+use Rattle.ak_outside.specs.Endings.{Written, memory_line}
+use Rattle.ak_sweeps.specs.SweepPromise.{status_of, Ends, RunsOut, Sweeps, IsCompleted}
 use Rattle.ak_sweeps.specs.SweepText.{AreLines, line_text, lines_text, totals_text, sweep_text}
 
 -- one whole text, and then the last one

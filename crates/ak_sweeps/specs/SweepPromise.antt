@@ -1,21 +1,13 @@
 -- What a sweep promises of what its sink has written, by the status that it answers.
 use Rattle.std.specs.Prelude.{◌≡◌, ◌⊎◌, ℕ, ◌≤◌, List, [], ◌∷◌, ◌++◌, Option, Some, slice_get, codes, if◌then◌else◌}
 use Rattle.std.specs.Io.KnownBytes.{Appends}
+use Rattle.ak_outside.specs.Endings.{Written, memory_line}
 use Rattle.ak_outside.specs.Outside.{Rose, AppendsPrefix}
 use Rattle.ak_outside.specs.declared.status.Status.{Status}
 use Rattle.ak_outside.specs.declared.status.Status.TheVariants.{Done, Double, Write, Memory}
 use Rattle.ak_sweep.specs.declared.line.Line.{Line}
 use Rattle.ak_sweeps.specs.GeneratedRun.{KeepsApart}
 use Rattle.ak_sweeps.specs.SweepText.{AreLines, lines_text, sweep_text, is_doubled}
-
-abbrev pub memory_line : List ℕ
-memory_line = codes "error 7 memory" ++ 10 ∷ []
-
--- By the sink's count of faults before and after: the whole text was written, the status is the given one and the count did
--- not rise; or the sink failed after a prefix of the text, and its count rose.
-abbrev pub Written : Status → List ℕ → Status → ℕ → ℕ → Option (List ℕ) → Option (List ℕ) → Type 0
-Written status text answer w0 w1 old new =
-    ((answer ≡ status) × (w1 ≡ w0) × Appends old new text) ⊎ ((answer ≡ Write) × Rose w0 w1 × AppendsPrefix old new text)
 
 -- the status of a sweep with these lines
 abbrev pub status_of : List Line → Status

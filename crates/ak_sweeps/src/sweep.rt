@@ -6,13 +6,14 @@ ghost use Rattle.ak_outside.specs.declared.status.Status.TheVariants.{Memory};
 ghost use Rattle.ak_sweep.specs.declared.line.Line.{Line};
 ghost use Rattle.ak_sweeps.specs.GeneratedRun.{IsLineOf, KeepsApart};
 ghost use Rattle.ak_sweeps.specs.RunContracts.{WritesLines};
-ghost use Rattle.ak_sweeps.specs.SweepPromise.{Written, Sweeps, IsCompleted, EachKeepsApart, status_of, memory_line};
+ghost use Rattle.ak_outside.specs.Endings.{Written, memory_line};
+ghost use Rattle.ak_sweeps.specs.SweepPromise.{Sweeps, IsCompleted, EachKeepsApart, status_of};
 ghost use Rattle.ak_sweeps.specs.SweepText.{AreLines};
 
 use crate::print::{is_doubled, print_line, print_totals};
 use crate::run::line_of;
 use ak_notes::Notes;
-use ak_outside::{Sink, Status, write_all};
+use ak_outside::{Sink, Status, write_all, written};
 use ak_sweep::{Line, OpenGate, sweep};
 use std::alloc::{AllocError, Global};
 use std::thread::Threads;
@@ -22,18 +23,6 @@ const BLOCK: u32 = 1000;
 
 // Text is written in pieces of about this many bytes.
 const PIECE: usize = 1 << 16;
-
-// Writes what was printed, and answers the status unless the sink fails.
-fn written<W: Sink>(output: &mut W, text: &[u8], status: Status) -> Status
-    ensures count { W.faults output.old ≤ W.faults output.new }
-    ensures written { Written status text.now result (W.faults output.old) (W.faults output.new) (W.written output.old) (W.written output.new) }
-{
-    if write_all(output, text) {
-        status
-    } else {
-        Status::Write
-    }
-}
 
 // Whole lines stand in the output, and then the line on memory.
 fn out_of_memory<W: Sink>(output: &mut W, text: &[u8]) -> Status

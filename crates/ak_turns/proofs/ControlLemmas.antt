@@ -11,7 +11,7 @@ use Rattle.ak_outside.specs.declared.status.Status.TheVariants as status
 use Rattle.ak_outside.specs.Link.{Sends, SendCause, Binds}
 use Rattle.ak_wire.specs.declared.envelope.Message.{Message}
 use Rattle.ak_wire.specs.Datagram.{is_for_anybody, IsReceiverUid}
-use Rattle.ak_turns.specs.Endings.{memory_line}
+use Rattle.ak_outside.specs.Endings.{memory_line}
 use Rattle.ak_turns.specs.Outside.{Output, Wire, MakesSends, CountsLosses}
 use Rattle.ak_turns.specs.Control.{WritesLine, AsksAndAnswers, Controls, ControlCause, answer_line, control_packet, message_of}
 

@@ -13,7 +13,8 @@ use Rattle.ak_outside.proofs.Prefixes.{AppendsPrefix-after, AppendsPrefix-more}
 use Rattle.ak_turns.specs.declared.end.End.{End}
 use Rattle.ak_turns.specs.declared.end.End.TheVariants.{Memory, Write, Link, Turns}
 use Rattle.ak_turns.specs.Control.{WritesLine}
-use Rattle.ak_turns.specs.Endings.{memory_line, link_line, turns_line}
+use Rattle.ak_outside.specs.Endings.{memory_line}
+use Rattle.ak_turns.specs.Endings.{link_line, turns_line}
 use Rattle.ak_turns.specs.Outside.{Output, Wire}
 use Rattle.ak_turns.specs.Steps.{Progress, Step, NoneLost, happenings, text_of, all_sends}
 use Rattle.ak_turns.specs.NodeRun.{Run, Runs, IsFirstSteps, IsWhole, EndsSo, HalfComes, SendsRun, LosesRun, HearsRun, start_of, progress_at, summary, last_lines}

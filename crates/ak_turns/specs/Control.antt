@@ -14,7 +14,8 @@ use Rattle.ak_outside.specs.Outside.{Rose}
 use Rattle.ak_wire.specs.declared.envelope.Envelope.{Envelope}
 use Rattle.ak_wire.specs.declared.envelope.Message.{Message}
 use Rattle.ak_wire.specs.declared.envelope.Message as message
-use Rattle.ak_turns.specs.Endings.{Written, memory_line, link_line}
+use Rattle.ak_outside.specs.Endings.{Written, memory_line}
+use Rattle.ak_turns.specs.Endings.{link_line}
 use Rattle.ak_turns.specs.Outside.{Output, Wire, MakesSends, CountsLosses}
 
 -- the process that asks

@@ -16,7 +16,8 @@ use Rattle.ak_turns.specs.declared.end.End.TheVariants as end
 use Rattle.ak_turns.specs.declared.node.Unloaded.{Unloaded}
 use Rattle.ak_turns.specs.declared.node.Unloaded.TheVariants as unloaded
 use Rattle.ak_turns.specs.Control.{WritesLine, SaysAlone}
-use Rattle.ak_turns.specs.Endings.{read_line, memory_line, link_line, turns_line}
+use Rattle.ak_outside.specs.Endings.{read_line, memory_line}
+use Rattle.ak_turns.specs.Endings.{link_line, turns_line}
 use Rattle.ak_turns.specs.NodeRun.{Runs, summary}
 use Rattle.ak_turns.specs.Outside.{Output, Wire}
 use Rattle.ak_turns.specs.Steps.{Progress}

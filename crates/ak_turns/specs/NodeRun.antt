@@ -10,7 +10,8 @@ use Rattle.ak_outside.specs.Outside.{Rose, AppendsPrefix}
 use Rattle.ak_wire.specs.Wire.{put}
 use Rattle.ak_turns.specs.declared.happening.Happening.{Happening}
 use Rattle.ak_turns.specs.declared.timer.Timer.{Timer}
-use Rattle.ak_turns.specs.Endings.{memory_line, link_line, turns_line}
+use Rattle.ak_outside.specs.Endings.{memory_line}
+use Rattle.ak_turns.specs.Endings.{link_line, turns_line}
 use Rattle.ak_turns.specs.Outside.{Output, Wire}
 use Rattle.ak_turns.specs.Steps.{Progress, Step, at_start, progress_after, text_of, all_sends, happenings, AreAnswered, NoneLost}
 use Rattle.ak_turns.specs.Turns.{Turn, Come, ComesBy, Taken, GoesOn, HearsAll, ReadsAll, heard_by, time_after, first_time, most_idle}

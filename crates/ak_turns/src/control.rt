@@ -4,11 +4,10 @@ ghost use Rattle.ak_wire.specs.Datagram.{IsBody, IsValid};
 ghost use Rattle.ak_turns.specs.Control.{control_packet, message_of, answer_line, Asks, AsksAndAnswers, Controls, ControlCause, WritesLine};
 ghost use Rattle.ak_turns.specs.Outside.{sink, wire};
 
-use crate::ending::written;
 use ak_address::{Address, Text, Unique};
 use ak_link::send_envelope;
 use ak_options::Request;
-use ak_outside::{Bound, Link, Sent, Sink, Status};
+use ak_outside::{Bound, Link, Sent, Sink, Status, written};
 use ak_wire::{Envelope, Message};
 use std::alloc::{AllocError, Global};
 

@@ -4,7 +4,6 @@
 
 mod control;
 mod end;
-mod ending;
 mod explain;
 mod happening;
 mod laws;

@@ -7,7 +7,6 @@ ghost use Rattle.ak_turns.specs.Outside.{sink, wire};
 ghost use Rattle.ak_turns.specs.TurnsContracts.{progress_of};
 
 use crate::end::End;
-use crate::ending::written;
 use crate::explain::explain;
 use crate::process::Process;
 use crate::turns::take_turns;
@@ -15,7 +14,7 @@ use ak_address::{Text, print_number, print_wide_number};
 use ak_config::{Config, ConfigFault, read_config};
 use ak_node::Node;
 use ak_notes::{Notes, warn_of_quorum};
-use ak_outside::{Bound, Clock, Folder, Link, Loaded, Sink, Status};
+use ak_outside::{Bound, Clock, Folder, Link, Loaded, Sink, Status, written};
 use ak_report::print_bytes;
 use std::alloc::{AllocError, Global};
 

@@ -1,7 +1,7 @@
 use Rattle.std.proofs.Common.{Err, refl}
 use Rattle.ak_outside.specs.declared.status.Status.TheVariants as status
 use Rattle.ak_turns.specs.declared.end.End.TheVariants as end
-use Rattle.ak_turns.specs.Endings.{memory_line}
+use Rattle.ak_outside.specs.Endings.{memory_line}
 use Rattle.ak_turns.specs.NodeRun.{start_of}
 use Rattle.ak_turns.specs.Outside.{sink}
 use Rattle.ak_turns.proofs.EndLemmas.{bound_ended, config_line}
