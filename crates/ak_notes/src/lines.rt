@@ -1,7 +1,7 @@
 // Why a line of a schedule is refused, where that is seen from the line alone.
 use crate::notes::Notes;
 use crate::sentence::{Piece, say};
-use ak_schedule::{MOST_BYTES, is_passed_over, next_line, next_word};
+use ak_schedule::{MOST_BYTES, next_word};
 use std::alloc::Global;
 
 // How a header or an event is called, how it is written, and what its values are.
@@ -107,40 +107,21 @@ static EVENTS: [Form; 9] = [
     },
 ];
 
-/// Says which header was wanted in this line of the schedule, or that the line is too long. Past the headers nothing is said.
-pub fn say_header<N: Notes>(alloc: Global, notes: &mut N, schedule: &[u8], line: u64) {
-    let (form, text) = header_at(schedule, line);
-    if text.len() > MOST_BYTES {
-        return say_too_long(alloc, notes, line);
+/// Says which header was wanted in this line, which has this number and comes after so many headers, or that the line is too long.
+/// Past the headers nothing is said.
+pub fn say_header<N: Notes>(alloc: Global, notes: &mut N, headers: u32, line: &[u8], number: u64) {
+    if line.len() > MOST_BYTES {
+        return say_too_long(alloc, notes, number);
     }
-    if let Some(form) = form {
+    if let Some(form) = HEADERS.get(headers as usize) {
         say_wanted(
             alloc,
             notes,
-            line,
+            number,
             b"the header ",
             form,
             b" was wanted, as in: ",
         );
-    }
-}
-
-// The header that is wanted in this line, and the line; it is empty past the last one.
-fn header_at(schedule: &[u8], line: u64) -> (Option<&'static Form>, &[u8]) {
-    let mut forms = HEADERS.iter();
-    let mut rest = schedule;
-    'lines: for _number in 1..line {
-        let Some((text, after_it)) = next_line(rest) else {
-            return (forms.next(), &[]);
-        };
-        if !is_passed_over(text) {
-            let _read = forms.next();
-        }
-        rest = after_it;
-    }
-    match next_line(rest) {
-        Some((text, _)) => (forms.next(), text),
-        None => (forms.next(), &[]),
     }
 }
 

@@ -1,4 +1,4 @@
--- A text cut at its first line end, and a line cut at the end of its first word.
+-- A text cut at a byte, and a line cut at the end of its first word.
 use Rattle.std.proofs.Common.{◌≡◌, ℕ, ◌+◌, ◌-◌, ◌<◌, Bool, true, false, cond, not, ◌==◌, List, [], ◌∷◌, ◌++◌, inl, inr, All, length, take, drop, refl, sym, ◌≢◌, zero, suc, one-add, ◌∙◌, ap, get_or, Some, None, arith, drop-cons, length-drop}
 use Rattle.std.specs.Prelude.{filter, position, map}
 use Rattle.std.specs.List.{slice_split, onto_first, position_or_len}
@@ -9,7 +9,7 @@ use Rattle.std.proofs.lemmas.List.Sums.{fails_before_first, passes_at_first, pre
 use Rattle.std.proofs.lemmas.List.Elements.{All-from_get_or}
 use Rattle.std.proofs.lemmas.Bool.{eqb-true}
 use Rattle.std.proofs.lemmas.Bool.Decides.{nat_tests}
-use Rattle.ak_schedule.specs.Line.{words, begins, without_cr, begun, IsFirstPart, IsFirstLine, IsFirstWord}
+use Rattle.ak_schedule.specs.Line.{words, begins, without_cr, begun, IsFirstPart, IsFirstWord}
 
 -- what `position` answers, as a number
 position_at : (p : ℕ → Bool) (xs : List ℕ) (i : ℕ) → Some i ≡ position p xs → (i ≡ position_or_len p xs) × (i < length xs)
@@ -123,39 +123,9 @@ word_to_the_end xs i h parts =
       whole = inr (sym whole, refl);
     }
 
--- one CR at the end
-pub cr_dropped : (xs : List ℕ) (n : ℕ) → length xs ≡ suc n → get_or xs n 0 ≡ 13 → take n xs ≡ without_cr xs
-cr_dropped [] n l h = absurd (omega arith)
-cr_dropped (x ∷ []) zero l h = rw h refl
-cr_dropped (x ∷ []) (suc n) l h = absurd (omega arith)
-cr_dropped (x ∷ y ∷ ys) zero l h = absurd (omega arith)
-cr_dropped (x ∷ y ∷ ys) (suc n) l h = ap (λ (t : List ℕ). x ∷ t) (cr_dropped (y ∷ ys) n (omega arith) h)
-
-pub nothing_dropped : (xs : List ℕ) (n : ℕ) → length xs ≡ suc n → get_or xs n 0 ≢ 13 → xs ≡ without_cr xs
-nothing_dropped [] n l h = refl
-nothing_dropped (x ∷ []) zero l h = rw (other x h) refl
-  where
-    other : (x : ℕ) → x ≢ 13 → (x == 13) ≡ false
-    other x h = grind (arith, nat_tests)
-nothing_dropped (x ∷ []) (suc n) l h = absurd (omega arith)
-nothing_dropped (x ∷ y ∷ ys) zero l h = absurd (omega arith)
-nothing_dropped (x ∷ y ∷ ys) (suc n) l h = ap (λ (t : List ℕ). x ∷ t) (nothing_dropped (y ∷ ys) n (omega arith) h)
-
 -- a line that an LF ends is one, also an empty one
 pub begun_more : (line : List ℕ) (parts : List (List ℕ)) → 0 < length parts → begun (line ∷ parts) ≡ line ∷ begun parts
 begun_more [] [] h = absurd (omega arith)
 begun_more (b ∷ bs) [] h = absurd (omega arith)
 begun_more [] (next ∷ parts) h = refl
 begun_more (b ∷ bs) (next ∷ parts) h = refl
-
-pub line_cut : (xs line rest : List ℕ) → IsFirstPart 10 xs line rest → IsFirstLine xs (without_cr line) rest
-line_cut xs line rest cut =
-    let parts = slice_split (λ b. b == 10) rest in
-    let more : 0 < length parts = omega (arith, length-slice_split (λ b. b == 10) rest) in
-    record {
-      first = ap (λ (ps : List (List ℕ)). map without_cr (begun ps)) cut.parts ∙ ap (map without_cr) (begun_more line parts more);
-      shorter = omega (arith, cut.shorter);
-      with_cr = line;
-      line_is = refl;
-      whole = inl cut.whole;
-    }

@@ -52,15 +52,6 @@ pub record IsFirstPart (byte : ℕ) (bytes prefix rest : List ℕ) : Type 0 wher
 abbrev pub IsPieceAndRest : ℕ → List ℕ → List ℕ → List ℕ → Type 0
 IsPieceAndRest byte bytes piece rest = (bytes ≡ piece ++ byte ∷ rest) ⊎ ((bytes ≡ piece) × (rest ≡ []))
 
--- the first line of a text, and the bytes after it
-pub record IsFirstLine (bytes line rest : List ℕ) : Type 0 where
-  pub first : lines bytes ≡ line ∷ lines rest
-  pub shorter : length rest < length bytes
-  -- the line with the CR that it may end with
-  pub with_cr : List ℕ
-  pub line_is : line ≡ without_cr with_cr
-  pub whole : IsPieceAndRest 10 bytes with_cr rest
-
 -- the first word of a line, and the bytes after it
 pub record IsFirstWord (line word rest : List ℕ) : Type 0 where
   pub first : words line ≡ word ∷ words rest

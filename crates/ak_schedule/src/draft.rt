@@ -87,6 +87,13 @@ impl Draft {
         Ok(self.read == HEADERS)
     }
 
+    /// How many headers were read, at most nine.
+    pub fn headers_read(&self) -> u32
+        ensures { result ≡ self.now.read }
+    {
+        self.read
+    }
+
     /// The settings, exactly where all nine headers are read. Else the draft is given back.
     pub fn finish(self) -> Result<Settings, Draft>
         ensures { MatchResult result

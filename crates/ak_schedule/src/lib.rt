@@ -20,6 +20,6 @@ pub use laws::{
     lines_end_at_line_feeds, passed_over_lines_spell_nothing, printed_events_are_read,
     words_stand_between_spaces,
 };
-pub use line::{MOST_BYTES, cut, is_passed_over, next_line, next_word};
+pub use line::{MOST_BYTES, is_passed_over, next_word};
 pub use print::print_event;
 pub use read::read_line;

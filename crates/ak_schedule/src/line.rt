@@ -1,27 +1,9 @@
 ghost use Rattle.std.specs.Prelude.{◌≡◌, ℕ, List, ◌↔◌, ◌==◌, not, position, MatchOption, IsTrue, [], ◌∷◌};
 ghost use Rattle.std.specs.List.{slice_split};
-ghost use Rattle.ak_schedule.specs.Line.{lines, words, without_cr, is_comment, IsFirstPart, IsFirstLine, IsFirstWord, IsPassedOver};
+ghost use Rattle.ak_schedule.specs.Line.{words, is_comment, IsFirstPart, IsFirstWord, IsPassedOver};
 
 /// The most bytes that a line may have, without its line end (this project's choice).
 pub const MOST_BYTES: usize = 4096;
-
-/// The first line of the text, without its line end and without one CR before that, and the bytes
-/// after it. A last line may end with the text. `None` exactly where the text has no line. Takes
-/// no memory.
-pub fn next_line(bytes: &[u8]) -> Option<(&[u8], &[u8])>
-    ensures { MatchOption result (lines bytes.now ≡ []) (λ parts. IsFirstLine bytes.now parts.0.now parts.1.now) }
-{
-    if bytes.is_empty() {
-        return None;
-    }
-    match cut(bytes, b'\n') {
-        Some((line, rest)) => {
-            let line = trimmed(line);
-            return Some((line, rest));
-        }
-        None => return Some((trimmed(bytes), &[])),
-    }
-}
 
 /// The first word of the line, and the bytes after it. Words stand between spaces alone; a tab is
 /// no blank. `None` exactly where the line has no word. Takes no memory.
@@ -61,8 +43,8 @@ fn begins_comment(line: &[u8]) -> bool
     }
 }
 
-/// What stands before the first such byte, and what stands after it. `None` exactly where there is none. Takes no memory.
-pub fn cut(bytes: &[u8], byte: u8) -> Option<(&[u8], &[u8])>
+// What stands before the first such byte, and what stands after it. None exactly where there is none.
+fn cut(bytes: &[u8], byte: u8) -> Option<(&[u8], &[u8])>
     ensures { MatchOption result
         (slice_split (λ b. b == byte) bytes.now ≡ bytes.now ∷ [])
         (λ parts. IsFirstPart byte bytes.now parts.0.now parts.1.now) }
@@ -84,20 +66,6 @@ fn first_letter(line: &[u8]) -> Option<usize>
     ensures { result ≡ position (λ b. not (b == 32)) line.now }
 {
     line.iter().position(|b| *b != b' ')
-}
-
-// Without one CR at its end.
-fn trimmed(line: &[u8]) -> &[u8]
-    ensures { result.now ≡ without_cr line.now }
-{
-    let len = line.len();
-    if len == 0 {
-        return line;
-    }
-    if line[len - 1] == b'\r' {
-        return &line[..len - 1];
-    }
-    line
 }
 
 /// The line's one word. None exactly where it has another number of words.
