@@ -1,5 +1,5 @@
 -- What words ask for: one command, in one way.
-use Rattle.std.proofs.Common.{◌≡◌, ℕ, ◌≤◌, List, [], Option, None, Some, Result, Ok, Err, refl, ap, subst, arith}
+use Rattle.std.proofs.Common.{◌≡◌, ℕ, ◌≤◌, List, [], Option, None, Some, Ok, Err, refl, ap, subst, arith}
 use Rattle.std.specs.declared.alloc.AllocError.{AllocError}
 use Rattle.ak_address.specs.Unique.{AddressModel}
 use Rattle.ak_options.specs.declared.command.Command.{Command}

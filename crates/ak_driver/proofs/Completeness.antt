@@ -6,7 +6,7 @@ use Rattle.ak_outside.specs.declared.status.Status.{Status}
 use Rattle.ak_outside.specs.declared.status.Status.TheVariants.{Done, Double, Usage, Configuration, Schedule, Read, Write, Memory, Link, Turns}
 use Rattle.ak_driver.specs.ReplayPromise.{Prints, Promises, IsCompleted}
 use Rattle.ak_driver.specs.ReplayText.{IsReplay}
-use Rattle.ak_driver.specs.StatusContracts.{ReplayCause, Written}
+use Rattle.ak_driver.specs.StatusContracts.{ReplayCause}
 use Rattle.ak_driver.proofs.OneReplay.{one_replay}
 
 -- of known bytes: the status and text are those of the one replay text
@@ -33,25 +33,19 @@ caused Link r0 r1 w0 w1 same cause = absurd cause
 caused Turns r0 r1 w0 w1 same cause = absurd cause
 
 completes : (bytes : List ℕ) (answer : Status) (r0 r1 w0 w1 : ℕ) (old new : Option (List ℕ)) → (Rose r0 r1 → ⊥) → (Rose w0 w1 → ⊥) → ReplayCause answer r0 r1 w0 w1
-    → Prints bytes answer old new → IsCompleted bytes answer old new
-completes bytes Done r0 r1 w0 w1 old new reads writes cause p = λ status text replay. inl (whole_text bytes p.0 0 old new p.1 p.2 status text replay)
-completes bytes Schedule r0 r1 w0 w1 old new reads writes cause p = λ status text replay. inl (whole_text bytes p.0 4 old new p.1 p.2 status text replay)
-completes bytes Memory r0 r1 w0 w1 old new reads writes cause p = λ status text replay. inr refl
-completes bytes Read r0 r1 w0 w1 old new reads writes cause p = absurd (reads cause.0)
-completes bytes Write r0 r1 w0 w1 old new reads writes cause p = absurd (writes cause)
-completes bytes Double r0 r1 w0 w1 old new reads writes cause p = λ status text replay. inl (whole_text bytes p.0 1 old new p.1 p.2 status text replay)
-completes bytes Usage r0 r1 w0 w1 old new reads writes cause p = absurd cause
-completes bytes Configuration r0 r1 w0 w1 old new reads writes cause p = absurd cause
-completes bytes Link r0 r1 w0 w1 old new reads writes cause p = absurd cause
-completes bytes Turns r0 r1 w0 w1 old new reads writes cause p = absurd cause
+    → (left : Option (List ℕ)) → Prints bytes left answer old new → IsCompleted bytes answer old new
+completes bytes Done r0 r1 w0 w1 old new reads writes cause left p = λ status text replay. inl (whole_text bytes p.0 0 old new p.1 p.2 status text replay)
+completes bytes Schedule r0 r1 w0 w1 old new reads writes cause left p = λ status text replay. inl (whole_text bytes p.0 4 old new p.1 p.2 status text replay)
+completes bytes Memory r0 r1 w0 w1 old new reads writes cause left p = λ status text replay. inr refl
+completes bytes Read r0 r1 w0 w1 old new reads writes cause left p = absurd (reads cause.0)
+completes bytes Write r0 r1 w0 w1 old new reads writes cause left p = absurd (writes cause)
+completes bytes Double r0 r1 w0 w1 old new reads writes cause left p = λ status text replay. inl (whole_text bytes p.0 1 old new p.1 p.2 status text replay)
+completes bytes Usage r0 r1 w0 w1 old new reads writes cause left p = absurd cause
+completes bytes Configuration r0 r1 w0 w1 old new reads writes cause left p = absurd cause
+completes bytes Link r0 r1 w0 w1 old new reads writes cause left p = absurd cause
+completes bytes Turns r0 r1 w0 w1 old new reads writes cause left p = absurd cause
 
-pub completed : (known : Option (List ℕ)) (answer : Status) (r0 r1 w0 w1 : ℕ) (old new : Option (List ℕ)) → ReplayCause answer r0 r1 w0 w1 → Promises known answer old new
+pub completed : (known : Option (List ℕ)) (answer : Status) (r0 r1 w0 w1 : ℕ) (old new : Option (List ℕ)) → ReplayCause answer r0 r1 w0 w1 → (left : Option (List ℕ)) → Promises known left answer old new
     → (bytes : List ℕ) → known ≡ Some bytes → (Rose r0 r1 → ⊥) → (Rose w0 w1 → ⊥) → IsCompleted bytes answer old new
-completed known answer r0 r1 w0 w1 old new cause p bytes is reads writes =
-    completes bytes answer r0 r1 w0 w1 old new reads writes cause (subst (λ (o : Option (List ℕ)). Promises o answer old new) is p)
-
--- there was no memory for the bytes themselves
-pub starved : (answer : Status) (w0 w1 : ℕ) (text : List ℕ) (old new : Option (List ℕ)) → Written Memory text answer w0 w1 old new
-    → (bytes : List ℕ) → (Rose w0 w1 → ⊥) → IsCompleted bytes answer old new
-starved answer w0 w1 text old new (inl done) bytes writes = λ status whole replay. inr done.0
-starved answer w0 w1 text old new (inr failed) bytes writes = absurd (writes failed.1)
+completed known answer r0 r1 w0 w1 old new cause left p bytes is reads writes =
+    completes bytes answer r0 r1 w0 w1 old new reads writes cause left (subst (λ (o : Option (List ℕ)). Promises o left answer old new) is p)

@@ -1,7 +1,7 @@
 -- A replay that ends with its margin kept, under a static quorum of more than half of the listed addresses, has no double.
-use Rattle.std.proofs.Common.{◌≡◌, ◌≢◌, ℕ, ◌+◌, ◌<◌, ◌≤◌, List, [], ◌∷◌, ◌++◌, Option, None, Some, Ok, length, slice_get, refl, sym, ap, subst, inl, inr, ◌∙◌, take, take_all, arith, append_assoc}
+use Rattle.std.proofs.Common.{◌≡◌, ◌≢◌, ℕ, ◌<◌, ◌≤◌, List, [], ◌∷◌, ◌++◌, Option, None, Some, length, refl, sym, ap, subst, inl, inr, ◌∙◌, take, take_all, arith, append_assoc}
 use Rattle.std.specs.Prelude.{codes, IfSome}
-use Rattle.std.specs.List.{Contains, concat}
+use Rattle.std.specs.List.{concat}
 use Rattle.std.specs.Fmt.{decimal}
 use Rattle.std.specs.Io.KnownBytes.{Appends}
 use Rattle.ak_address.specs.Unique.{UniqueModel}
@@ -125,28 +125,28 @@ says_kept bytes steps q double none r status text is =
     (same.0, (concat steps ++ last.0, same.1 ∙ ap (λ (t : List ℕ). concat steps ++ t) last.1 ∙ sym (append_assoc (concat steps) last.0 kept_lines)))
 
 -- ---- what is printed
-module _ (bytes : List ℕ) (steps : List (List ℕ)) (q : Progress) (double : Option Doubled) (none : double ≡ None) (r : ReplaysAs bytes steps (Finished q Kept double)) (old new : Option (List ℕ)) where
-  never_doubled : (answer : Status) → Prints bytes answer old new → answer ≢ status.Double
+module _ (bytes : List ℕ) (steps : List (List ℕ)) (q : Progress) (double : Option Doubled) (none : double ≡ None) (r : ReplaysAs bytes steps (Finished q Kept double)) (left old new : Option (List ℕ)) where
+  never_doubled : (answer : Status) → Prints bytes left answer old new → answer ≢ status.Double
   never_doubled answer p is =
-      let doubled = subst (λ (s : Status). Prints bytes s old new) is p in
+      let doubled = subst (λ (s : Status). Prints bytes left s old new) is p in
       let zero_is = (says_kept bytes steps q double none r 1 doubled.0 doubled.1).0 in
       omega (arith, zero_is)
 
-  says : (answer : Status) → Prints bytes answer old new → answer ≡ status.Done → (before : List ℕ) × Appends old new (before ++ kept_lines)
+  says : (answer : Status) → Prints bytes left answer old new → answer ≡ status.Done → (before : List ℕ) × Appends old new (before ++ kept_lines)
   says answer p is =
-      let done = subst (λ (s : Status). Prints bytes s old new) is p in
+      let done = subst (λ (s : Status). Prints bytes left s old new) is p in
       let last = (says_kept bytes steps q double none r 0 done.0 done.1).1 in
       (last.0, subst (λ (t : List ℕ). Appends old new t) last.1 done.2)
 
-pub keeps_apart : (bytes : List ℕ) (answer : Status) (old new : Option (List ℕ)) → Prints bytes answer old new → KeepsEntitiesApart bytes answer old new
-keeps_apart bytes answer old new p = λ steps end margin double quorum r over_half. record {
+pub keeps_apart : (bytes : List ℕ) (answer : Status) (left old new : Option (List ℕ)) → Prints bytes left answer old new → KeepsEntitiesApart bytes answer old new
+keeps_apart bytes answer left old new p = λ steps end margin double quorum r over_half. record {
   kept = λ is.
       let none = none_at_end bytes steps end margin double quorum r over_half is in
       let kept = subst (λ (m : Margin). ReplaysAs bytes steps (Finished end m double)) is r in
-      record { none = none; not_doubled = never_doubled bytes steps end double none kept old new answer p; says = says bytes steps end double none kept old new answer p };
+      record { none = none; not_doubled = never_doubled bytes steps end double none kept left old new answer p; says = says bytes steps end double none kept left old new answer p };
   broken = broken_at_end bytes steps end margin double quorum r over_half;
 }
 
-pub promised_apart : (known : Option (List ℕ)) (answer : Status) (old new : Option (List ℕ)) → Promises known answer old new → IfSome known (λ bytes. KeepsEntitiesApart bytes answer old new)
-promised_apart None answer old new p = tt
-promised_apart (Some bytes) answer old new p = keeps_apart bytes answer old new p
+pub promised_apart : (known left : Option (List ℕ)) (answer : Status) (old new : Option (List ℕ)) → Promises known left answer old new → IfSome known (λ bytes. KeepsEntitiesApart bytes answer old new)
+promised_apart None left answer old new p = tt
+promised_apart (Some bytes) left answer old new p = keeps_apart bytes answer left old new p

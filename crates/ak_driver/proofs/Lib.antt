@@ -1,9 +1,9 @@
 pub mod AskedCommands
 pub mod Completeness
-pub mod CutLemmas
+pub mod TextParts
 pub mod FinishLemmas
 pub mod HeadlineLemmas
-pub mod InputLemmas
+pub mod LongLines
 pub mod NamedCommands
 pub mod OneReplay
 pub mod PromiseLemmas
@@ -11,5 +11,6 @@ pub mod ReplayLemmas
 pub mod ReplayLoop
 pub mod RunLemmas
 pub mod SomeReplay
+pub mod Streamed
 pub mod WordsLemmas
 pub mod WorkedTexts

@@ -20,7 +20,7 @@ use Rattle.ak_driver.specs.declared.replay.Stage.{Stage}
 use Rattle.ak_driver.specs.declared.replay.Stage.TheVariants.{Heading, Running}
 use Rattle.ak_driver.specs.declared.replay.Stop.{Stop}
 use Rattle.ak_driver.specs.declared.replay.Stop.TheVariants.{Refused, NoMemory}
-use Rattle.ak_driver.specs.StatusContracts.{Written, memory_line}
+use Rattle.ak_outside.specs.Endings.{Written, memory_line}
 use Rattle.ak_driver.specs.ReplayText.{Progress, Ending, Finished, Stopped, Replays, ReplaysAs, IsReplay, IsFirstSteps, turn, ending_text, ending_status, at_start, refusal_text}
 use Rattle.ak_driver.specs.ReplayPromise.{Prints}
 use Rattle.ak_driver.specs.ReplayContracts.{progress, progress_of, Turns, TurnAnswers, FinishAnswers, finished_status, Ended}
@@ -116,82 +116,82 @@ along_whole bytes old now p rest out a ending r = (
 )
 
 -- the sink fails on the way
-pub along_fails : (bytes : List ℕ) (old now later : Option (List ℕ)) (p : Progress) (rest : List (List ℕ)) (out : List ℕ)
-    → Along bytes old now p rest out → AppendsPrefix now later out → Prints bytes Write old later
-along_fails bytes old now later p rest out a f = (
+pub along_fails : (bytes : List ℕ) (left old now later : Option (List ℕ)) (p : Progress) (rest : List (List ℕ)) (out : List ℕ)
+    → Along bytes old now p rest out → AppendsPrefix now later out → Prints bytes left Write old later
+along_fails bytes left old now later p rest out a f = (
   (a.text ++ out) ++ memory_line,
-  inl (inr (a.text ++ out, along_steps bytes old now p rest out a, refl)),
+  inr (inl (a.text ++ out, along_steps bytes old now p rest out a, refl)),
   AppendsPrefix-more old later (a.text ++ out) memory_line (AppendsPrefix-after old now later a.text out a.written f),
 )
 
-prints_doubled : (bytes : List ℕ) (old now later : Option (List ℕ)) (prefix text : List ℕ) (answer : Status) (w0 w1 : ℕ)
-    → IsReplay bytes 1 (prefix ++ text) → Appends old now prefix → Written Double text answer w0 w1 now later → Prints bytes answer old later
-prints_doubled bytes old now later prefix text answer w0 w1 i a (inl w) =
-    subst (λ (s : Status). Prints bytes s old later) (sym w.0) (prefix ++ text, i, Appends-trans old now later prefix text a w.2)
-prints_doubled bytes old now later prefix text answer w0 w1 i a (inr w) =
-    subst (λ (s : Status). Prints bytes s old later) (sym w.0) (prefix ++ text, inl (inl (1, i)), AppendsPrefix-after old now later prefix text a w.2)
+prints_doubled : (bytes : List ℕ) (left old now later : Option (List ℕ)) (prefix text : List ℕ) (answer : Status) (w0 w1 : ℕ)
+    → IsReplay bytes 1 (prefix ++ text) → Appends old now prefix → Written Double text answer w0 w1 now later → Prints bytes left answer old later
+prints_doubled bytes left old now later prefix text answer w0 w1 i a (inl w) =
+    subst (λ (s : Status). Prints bytes left s old later) (sym w.0) (prefix ++ text, i, Appends-trans old now later prefix text a w.2)
+prints_doubled bytes left old now later prefix text answer w0 w1 i a (inr w) =
+    subst (λ (s : Status). Prints bytes left s old later) (sym w.0) (prefix ++ text, inl (1, i), AppendsPrefix-after old now later prefix text a w.2)
 
-prints_done : (bytes : List ℕ) (old now later : Option (List ℕ)) (prefix text : List ℕ) (answer : Status) (w0 w1 : ℕ)
-    → IsReplay bytes 0 (prefix ++ text) → Appends old now prefix → Written Done text answer w0 w1 now later → Prints bytes answer old later
-prints_done bytes old now later prefix text answer w0 w1 i a (inl w) =
-    subst (λ (s : Status). Prints bytes s old later) (sym w.0) (prefix ++ text, i, Appends-trans old now later prefix text a w.2)
-prints_done bytes old now later prefix text answer w0 w1 i a (inr w) =
-    subst (λ (s : Status). Prints bytes s old later) (sym w.0) (prefix ++ text, inl (inl (0, i)), AppendsPrefix-after old now later prefix text a w.2)
+prints_done : (bytes : List ℕ) (left old now later : Option (List ℕ)) (prefix text : List ℕ) (answer : Status) (w0 w1 : ℕ)
+    → IsReplay bytes 0 (prefix ++ text) → Appends old now prefix → Written Done text answer w0 w1 now later → Prints bytes left answer old later
+prints_done bytes left old now later prefix text answer w0 w1 i a (inl w) =
+    subst (λ (s : Status). Prints bytes left s old later) (sym w.0) (prefix ++ text, i, Appends-trans old now later prefix text a w.2)
+prints_done bytes left old now later prefix text answer w0 w1 i a (inr w) =
+    subst (λ (s : Status). Prints bytes left s old later) (sym w.0) (prefix ++ text, inl (0, i), AppendsPrefix-after old now later prefix text a w.2)
 
 -- all lines were accepted, with this double or none
-prints_finished : (bytes : List ℕ) (old now later : Option (List ℕ)) (p : Progress) (margin : Margin) (double : Option Doubled) (doubled : Bool) (prefix text : List ℕ) (answer : Status) (w0 w1 : ℕ) → doubled ≡ is_some double
-    → IsReplay bytes (ending_status (Finished p margin double)) (prefix ++ text) → Appends old now prefix → Written (finished_status doubled) text answer w0 w1 now later → Prints bytes answer old later
-prints_finished bytes old now later p margin None doubled prefix text answer w0 w1 is i a w =
-    prints_done bytes old now later prefix text answer w0 w1 i a (subst (λ (b : Bool). Written (finished_status b) text answer w0 w1 now later) is w)
-prints_finished bytes old now later p margin (Some double) doubled prefix text answer w0 w1 is i a w =
-    prints_doubled bytes old now later prefix text answer w0 w1 i a (subst (λ (b : Bool). Written (finished_status b) text answer w0 w1 now later) is w)
+prints_finished : (bytes : List ℕ) (left old now later : Option (List ℕ)) (p : Progress) (margin : Margin) (double : Option Doubled) (doubled : Bool) (prefix text : List ℕ) (answer : Status) (w0 w1 : ℕ) → doubled ≡ is_some double
+    → IsReplay bytes (ending_status (Finished p margin double)) (prefix ++ text) → Appends old now prefix → Written (finished_status doubled) text answer w0 w1 now later → Prints bytes left answer old later
+prints_finished bytes left old now later p margin None doubled prefix text answer w0 w1 is i a w =
+    prints_done bytes left old now later prefix text answer w0 w1 i a (subst (λ (b : Bool). Written (finished_status b) text answer w0 w1 now later) is w)
+prints_finished bytes left old now later p margin (Some double) doubled prefix text answer w0 w1 is i a w =
+    prints_doubled bytes left old now later prefix text answer w0 w1 i a (subst (λ (b : Bool). Written (finished_status b) text answer w0 w1 now later) is w)
 
-prints_refusal : (bytes : List ℕ) (old now later : Option (List ℕ)) (prefix text : List ℕ) (answer : Status) (w0 w1 : ℕ)
-    → IsReplay bytes 4 (prefix ++ text) → Appends old now prefix → Written Schedule text answer w0 w1 now later → Prints bytes answer old later
-prints_refusal bytes old now later prefix text answer w0 w1 i a (inl w) =
-    subst (λ (s : Status). Prints bytes s old later) (sym w.0) (prefix ++ text, i, Appends-trans old now later prefix text a w.2)
-prints_refusal bytes old now later prefix text answer w0 w1 i a (inr w) =
-    subst (λ (s : Status). Prints bytes s old later) (sym w.0) (prefix ++ text, inl (inl (4, i)), AppendsPrefix-after old now later prefix text a w.2)
+prints_refusal : (bytes : List ℕ) (left old now later : Option (List ℕ)) (prefix text : List ℕ) (answer : Status) (w0 w1 : ℕ)
+    → IsReplay bytes 4 (prefix ++ text) → Appends old now prefix → Written Schedule text answer w0 w1 now later → Prints bytes left answer old later
+prints_refusal bytes left old now later prefix text answer w0 w1 i a (inl w) =
+    subst (λ (s : Status). Prints bytes left s old later) (sym w.0) (prefix ++ text, i, Appends-trans old now later prefix text a w.2)
+prints_refusal bytes left old now later prefix text answer w0 w1 i a (inr w) =
+    subst (λ (s : Status). Prints bytes left s old later) (sym w.0) (prefix ++ text, inl (4, i), AppendsPrefix-after old now later prefix text a w.2)
 
-prints_memory : (bytes : List ℕ) (old now later : Option (List ℕ)) (prefix text : List ℕ) (answer : Status) (w0 w1 : ℕ)
-    → IsFirstSteps bytes (prefix ++ text) → Appends old now prefix → Written Memory (text ++ memory_line) answer w0 w1 now later → Prints bytes answer old later
-prints_memory bytes old now later prefix text answer w0 w1 i a (inl w) =
-    subst (λ (s : Status). Prints bytes s old later) (sym w.0)
+prints_memory : (bytes : List ℕ) (left old now later : Option (List ℕ)) (prefix text : List ℕ) (answer : Status) (w0 w1 : ℕ)
+    → IsFirstSteps bytes (prefix ++ text) → Appends old now prefix → Written Memory (text ++ memory_line) answer w0 w1 now later → Prints bytes left answer old later
+prints_memory bytes left old now later prefix text answer w0 w1 i a (inl w) =
+    subst (λ (s : Status). Prints bytes left s old later) (sym w.0)
     (prefix ++ text, i, subst (λ (o : List ℕ). Appends old later o) (sym (append_assoc prefix text memory_line)) (Appends-trans old now later prefix (text ++ memory_line) a w.2))
-prints_memory bytes old now later prefix text answer w0 w1 i a (inr w) =
-    subst (λ (s : Status). Prints bytes s old later) (sym w.0) (
+prints_memory bytes left old now later prefix text answer w0 w1 i a (inr w) =
+    subst (λ (s : Status). Prints bytes left s old later) (sym w.0) (
       (prefix ++ text) ++ memory_line,
-      inl (inr (prefix ++ text, i, refl)),
+      inr (inl (prefix ++ text, i, refl)),
       subst (λ (o : List ℕ). AppendsPrefix old later o) (sym (append_assoc prefix text memory_line)) (AppendsPrefix-after old now later prefix (text ++ memory_line) a w.2),
     )
 
-along_memory : (bytes : List ℕ) (old now later : Option (List ℕ)) (p : Progress) (rest : List (List ℕ)) (out after : List ℕ) (answer : Status) (w0 w1 : ℕ)
-    → Along bytes old now p rest out → after ≡ out → Written Memory (after ++ memory_line) answer w0 w1 now later → Prints bytes answer old later
-along_memory bytes old now later p rest out after answer w0 w1 a same w =
-    prints_memory bytes old now later a.text out answer w0 w1 (along_steps bytes old now p rest out a) a.written
+along_memory : (bytes : List ℕ) (left old now later : Option (List ℕ)) (p : Progress) (rest : List (List ℕ)) (out after : List ℕ) (answer : Status) (w0 w1 : ℕ)
+    → Along bytes old now p rest out → after ≡ out → Written Memory (after ++ memory_line) answer w0 w1 now later → Prints bytes left answer old later
+along_memory bytes left old now later p rest out after answer w0 w1 a same w =
+    prints_memory bytes left old now later a.text out answer w0 w1 (along_steps bytes old now p rest out a) a.written
     (subst (λ (t : List ℕ). Written Memory (t ++ memory_line) answer w0 w1 now later) same w)
 
 -- a refusal, or running out of memory for its line
-along_refusal : (bytes : List ℕ) (old now later : Option (List ℕ)) (p : Progress) (rest : List (List ℕ)) (out after : List ℕ) (code : Code) (number : ℕ) (answer : Status) (w0 w1 : ℕ)
+pub along_refusal : (bytes : List ℕ) (left old now later : Option (List ℕ)) (p : Progress) (rest : List (List ℕ)) (out after : List ℕ) (code : Code) (number : ℕ) (answer : Status) (w0 w1 : ℕ)
     → Along bytes old now p rest out → Replays p rest [] (Stopped code number) → after ≡ out
-    → Written Schedule (after ++ refusal_text code number) answer w0 w1 now later ⊎ Written Memory (after ++ memory_line) answer w0 w1 now later → Prints bytes answer old later
-along_refusal bytes old now later p rest out after code number answer w0 w1 a r same (inl w) =
+    → Written Schedule (after ++ refusal_text code number) answer w0 w1 now later ⊎ Written Memory (after ++ memory_line) answer w0 w1 now later → Prints bytes left answer old later
+along_refusal bytes left old now later p rest out after code number answer w0 w1 a r same (inl w) =
     let whole = along_whole bytes old now p rest out a (Stopped code number) r in
-    prints_refusal bytes old now later a.text (out ++ refusal_text code number) answer w0 w1 (a.steps, Stopped code number, whole.0, refl, whole.1) a.written
+    prints_refusal bytes left old now later a.text (out ++ refusal_text code number) answer w0 w1 (a.steps, Stopped code number, whole.0, refl, whole.1) a.written
     (subst (λ (t : List ℕ). Written Schedule (t ++ refusal_text code number) answer w0 w1 now later) same w)
-along_refusal bytes old now later p rest out after code number answer w0 w1 a r same (inr w) =
-    along_memory bytes old now later p rest out after answer w0 w1 a same w
+along_refusal bytes left old now later p rest out after code number answer w0 w1 a r same (inr w) =
+    along_memory bytes left old now later p rest out after answer w0 w1 a same w
 
 -- a line stops the replay
-pub along_stop : (e : Stop) (bytes : List ℕ) (old now later : Option (List ℕ)) (p q : Progress) (line : List ℕ) (rest others : List (List ℕ)) (out after : List ℕ)
+pub along_stop : (e : Stop) (bytes : List ℕ) (left old now later : Option (List ℕ)) (p q : Progress) (line : List ℕ) (rest others : List (List ℕ)) (out after : List ℕ)
     (number : ℕ) (answer : Status) (w0 w1 : ℕ) → Along bytes old now p rest out → rest ≡ line ∷ others → TurnAnswers (Err e) line p q out after
-    → number ≡ p.line → Ended (Err e) number after answer w0 w1 now later → Prints bytes answer old later
-along_stop (Refused code) bytes old now later p q line rest others out after number answer w0 w1 a e t n w =
-    along_refusal bytes old now later p rest out after code number answer w0 w1 a
+    → number ≡ p.line → Ended (Err e) number after answer w0 w1 now later → Prints bytes left answer old later
+along_stop (Refused code) bytes left old now later p q line rest others out after number answer w0 w1 a e t n w =
+    along_refusal bytes left old now later p rest out after code number answer w0 w1 a
     (subst (λ (ls : List (List ℕ)). Replays p ls [] (Stopped code number)) (sym e) (inl (code, t.0, refl, ap (Stopped code) n)))
     t.1 w
-along_stop NoMemory bytes old now later p q line rest others out after number answer w0 w1 a e t n w =
-    along_memory bytes old now later p rest out after answer w0 w1 a t.1 w
+along_stop NoMemory bytes left old now later p q line rest others out after number answer w0 w1 a e t n w =
+    along_memory bytes left old now later p rest out after answer w0 w1 a t.1 w
 
 -- a replay's next line is counted at each stage
 pub progress_line : (s : Stage) (line : ℕ) → (progress s line).line ≡ line
@@ -199,20 +199,20 @@ progress_line (Heading draft) line = refl
 progress_line (Running world) line = refl
 
 -- the end of the lines
-pub along_finish : (r : Result Bool Stop) (bytes : List ℕ) (old now later : Option (List ℕ)) (p : Progress) (rest : List (List ℕ)) (out after : List ℕ)
+pub along_finish : (r : Result Bool Stop) (bytes : List ℕ) (left old now later : Option (List ℕ)) (p : Progress) (rest : List (List ℕ)) (out after : List ℕ)
     (number : ℕ) (answer : Status) (w0 w1 : ℕ) → Along bytes old now p rest out → rest ≡ [] → FinishAnswers r p out after
-    → number ≡ p.line → Ended r number after answer w0 w1 now later → Prints bytes answer old later
-along_finish (Ok doubled) bytes old now later p rest out after number answer w0 w1 a e f n w =
+    → number ≡ p.line → Ended r number after answer w0 w1 now later → Prints bytes left answer old later
+along_finish (Ok doubled) bytes left old now later p rest out after number answer w0 w1 a e f n w =
     let ending = Finished p f.1 f.2 in
     let whole = along_whole bytes old now p rest out a ending (subst (λ (ls : List (List ℕ)). Replays p ls [] ending) (sym e) (refl, inl (f.0, f.1, f.2, f.3, f.4, refl))) in
-    prints_finished bytes old now later p f.1 f.2 doubled a.text (out ++ ending_text ending) answer w0 w1 f.5 (a.steps, ending, whole.0, refl, whole.1) a.written
+    prints_finished bytes left old now later p f.1 f.2 doubled a.text (out ++ ending_text ending) answer w0 w1 f.5 (a.steps, ending, whole.0, refl, whole.1) a.written
     (subst (λ (t : List ℕ). Written (finished_status doubled) t answer w0 w1 now later) f.6 w)
-along_finish (Err (Refused Malformed)) bytes old now later p rest out after number answer w0 w1 a e f n w = absurd f
-along_finish (Err (Refused PastLimit)) bytes old now later p rest out after number answer w0 w1 a e f n w = absurd f
-along_finish (Err (Refused (Invalid why))) bytes old now later p rest out after number answer w0 w1 a e f n w = absurd f
-along_finish (Err (Refused BadHeader)) bytes old now later p rest out after number answer w0 w1 a e f n w =
-    along_refusal bytes old now later p rest out after BadHeader number answer w0 w1 a
+along_finish (Err (Refused Malformed)) bytes left old now later p rest out after number answer w0 w1 a e f n w = absurd f
+along_finish (Err (Refused PastLimit)) bytes left old now later p rest out after number answer w0 w1 a e f n w = absurd f
+along_finish (Err (Refused (Invalid why))) bytes left old now later p rest out after number answer w0 w1 a e f n w = absurd f
+along_finish (Err (Refused BadHeader)) bytes left old now later p rest out after number answer w0 w1 a e f n w =
+    along_refusal bytes left old now later p rest out after BadHeader number answer w0 w1 a
     (subst (λ (ls : List (List ℕ)). Replays p ls [] (Stopped BadHeader number)) (sym e) (refl, inr (f.0, ap (Stopped BadHeader) n)))
     f.1 w
-along_finish (Err NoMemory) bytes old now later p rest out after number answer w0 w1 a e f n w =
-    along_memory bytes old now later p rest out after answer w0 w1 a f.1 w
+along_finish (Err NoMemory) bytes left old now later p rest out after number answer w0 w1 a e f n w =
+    along_memory bytes left old now later p rest out after answer w0 w1 a f.1 w

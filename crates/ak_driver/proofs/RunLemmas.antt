@@ -11,7 +11,8 @@ use Rattle.ak_turns.specs.NodePromise.{NodeCause}
 use Rattle.ak_turns.specs.Outside.{Output, Wire}
 use Rattle.ak_sweeps.proofs.LineLaws.{keeps_apart}
 use Rattle.ak_sweeps.proofs.WriteLoop.{starved, completed}
-use Rattle.ak_driver.specs.StatusContracts.{AsksReplay, AsksSweep, AsksOther, Swept, RanNode, Asked, Written, RefusesWords, usage_line, memory_line}
+use Rattle.ak_outside.specs.Endings.{Written, memory_line}
+use Rattle.ak_driver.specs.StatusContracts.{AsksReplay, AsksSweep, AsksOther, Swept, RanNode, Asked, RefusesWords, usage_line}
 use Rattle.ak_driver.specs.WordsContracts.{words_of, NamesCommand}
 
 -- by what is so where they ask for a replay

@@ -1,5 +1,4 @@
 pub mod Headline
-pub mod InputContracts
 pub mod ReplayPromise
 pub mod ReplayText
 pub mod ReplayContracts

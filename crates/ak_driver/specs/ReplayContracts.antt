@@ -1,5 +1,5 @@
 -- Words of the contracts of a replay's calls.
-use Rattle.std.specs.Prelude.{◌≡◌, ℕ, ◌+◌, ◌<◌, ◌≤◌, ◌⊎◌, ◌↔◌, Option, is_some, List, [], ◌∷◌, ◌++◌, Bool, true, false, IsTrue, length, Result, Ok, Err}
+use Rattle.std.specs.Prelude.{◌≡◌, ◌≢◌, ℕ, ◌+◌, ◌<◌, ◌≤◌, ◌⊎◌, ◌↔◌, Option, is_some, List, [], ◌∷◌, ◌++◌, Bool, true, false, IsTrue, length, Result, Ok, Err}
 use Rattle.std.specs.List.{concat}
 use Rattle.ak_schedule.specs.Draft.{Drafted, ReadsHeader}
 use Rattle.ak_schedule.specs.Line.{IsPassedOver}
@@ -15,13 +15,16 @@ use Rattle.ak_driver.specs.declared.replay.Stage.TheVariants.{Heading, Running}
 use Rattle.ak_world.specs.World.{Done, empty_world, happens}
 use Rattle.ak_world.specs.WorldContracts.{WorldModel}
 use Rattle.ak_driver.specs.declared.replay.Replay.{Replay}
+use Rattle.std.specs.Io.KnownBytes.{Appends}
+use Rattle.ak_outside.specs.declared.lines.Next.{Next}
+use Rattle.ak_outside.specs.declared.lines.Next.TheVariants.{Failed}
 use Rattle.ak_outside.specs.declared.status.Status.{Status}
 use Rattle.ak_outside.specs.declared.status.Status as status
 use Rattle.ak_world.specs.declared.margin.Margin.{Margin}
 use Rattle.ak_world.specs.Margin.{IsMargin}
 use Rattle.ak_world.specs.Double.{Doubled, IsFirstDouble}
 use Rattle.ak_driver.specs.ReplayText.{Progress, Judgement, Judged, IsRefused, WantsEvent, HasRoom, Finished, turn, header_count, most_events, ending_text, refusal_text}
-use Rattle.ak_driver.specs.StatusContracts.{Written, memory_line}
+use Rattle.ak_outside.specs.Endings.{Written, memory_line}
 use Rattle.ak_world.specs.StepText.{step_text}
 
 -- why the world did not apply an event ends a replay so
@@ -131,3 +134,12 @@ Ended (Err (Refused code)) line text answer w0 w1 old new =
     Written status.TheVariants.Schedule (text ++ refusal_text code line) answer w0 w1 old new
     ⊎ Written status.TheVariants.Memory (text ++ memory_line) answer w0 w1 old new
 Ended (Err NoMemory) line text answer w0 w1 old new = Written status.TheVariants.Memory (text ++ memory_line) answer w0 w1 old new
+
+-- After the last line a replay ends so in the output, by what it has printed before and by the sink's counts of faults.
+abbrev pub EndsWith : Progress → List ℕ → Status → ℕ → ℕ → Option (List ℕ) → Option (List ℕ) → Type 0
+EndsWith p before answer w0 w1 old new =
+    (end : Result Bool Stop) × (after : List ℕ) × FinishAnswers end p before after × Ended end p.line after answer w0 w1 old new
+
+-- What was printed before the next line is as it was, where the source need not be asked, or it is written.
+abbrev pub Flushes : Next → List ℕ → List ℕ → Option (List ℕ) → Option (List ℕ) → Type 0
+Flushes next before after old new = ((new ≡ old) × (after ≡ before) × (next ≢ Failed)) ⊎ (Appends old new before × (after ≡ []))

@@ -1,8 +1,8 @@
 -- What a replay of a recorded schedule prints, and its status: by the grammar of a line and the rules of the world.
-use Rattle.std.specs.Prelude.{◌≡◌, ℕ, ◌+◌, ◌<◌, ◌≤◌, ◌⊎◌, List, [], ◌∷◌, ◌++◌, codes, length, take, Option, None, Some, Ok, Err}
-use Rattle.std.specs.List.{concat}
+use Rattle.std.specs.Prelude.{◌≡◌, ℕ, ◌+◌, ◌<◌, ◌≤◌, ◌⊎◌, List, [], ◌∷◌, ◌++◌, ◌==◌, codes, map, length, take, Option, None, Some, Ok, Err}
+use Rattle.std.specs.List.{concat, slice_split}
 use Rattle.std.specs.Fmt.{decimal}
-use Rattle.ak_schedule.specs.Line.{lines, IsPassedOver}
+use Rattle.ak_schedule.specs.Line.{lines, without_cr, IsPassedOver}
 use Rattle.ak_settings.specs.Settings.{SettingsModel}
 use Rattle.ak_schedule.specs.Schedule.{SpellsEvent}
 use Rattle.ak_schedule.specs.Draft.{first_draft, ReadsHeader}
@@ -152,3 +152,17 @@ IsReplay bytes status text =
 abbrev pub IsFirstSteps : List ℕ → List ℕ → Type 0
 IsFirstSteps bytes text =
     (steps : List (List ℕ)) × (ending : Ending) × ReplaysAs bytes steps ending × (count : ℕ) × (text ≡ concat (take count steps))
+
+-- these lines are accepted, one after another from p to q, with the texts of these steps
+abbrev pub Accepts : Progress → List (List ℕ) → List (List ℕ) → Progress → Type 0
+Accepts p [] steps q = (steps ≡ []) × (q ≡ p)
+Accepts p (line ∷ lines) steps q =
+    (judgement : Judgement) × Judged p line judgement
+    × (rest : List (List ℕ)) × Accepts (turn p judgement).0 lines rest q × (steps ≡ (turn p judgement).1 ++ rest)
+
+-- the texts of the steps of all lines that end with LF in these bytes, each of which is accepted; what stands after the last LF is no
+-- line yet
+abbrev pub IsTextOfEnded : List ℕ → List ℕ → Type 0
+IsTextOfEnded bytes text =
+    (ended : List (List ℕ)) × (last : List ℕ) × (slice_split (λ b. b == 10) bytes ≡ ended ++ last ∷ [])
+    × (steps : List (List ℕ)) × (q : Progress) × Accepts at_start (map without_cr ended) steps q × (text ≡ concat steps)

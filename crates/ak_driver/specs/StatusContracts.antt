@@ -1,18 +1,17 @@
 -- Words of how a run ends.
 use Rattle.std.specs.Prelude.{◌≡◌, ◌⊎◌, List, ℕ, [], ◌∷◌, ◌++◌, Option, codes}
-use Rattle.std.specs.Io.KnownBytes.{Appends}
 use Rattle.ak_address.specs.Unique.{AddressModel}
 use Rattle.ak_options.specs.CommandLine.{AsksFor}
 use Rattle.ak_options.specs.declared.command.Command.TheVariants.{Sweep, Node, Ctl}
 use Rattle.ak_options.specs.declared.command.Request.{Request}
 use Rattle.ak_outside.specs.declared.folder.MemoryFile.{MemoryFile}
 use Rattle.ak_driver.specs.WordsContracts.{NamesCommand}
-use Rattle.ak_outside.specs.Outside.{Rose, AppendsPrefix}
+use Rattle.ak_outside.specs.Outside.{Rose}
 use Rattle.ak_sweep.specs.declared.line.Line.{Line}
 use Rattle.ak_sweeps.specs.SweepPromise.{Sweeps, IsCompleted, EachKeepsApart}
 use Rattle.ak_sweeps.specs.SweepText.{AreLines}
 use Rattle.ak_turns.specs.Control.{WritesLine, Controls, ControlCause}
-pub use Rattle.ak_turns.specs.Endings.{Written, memory_line}
+use Rattle.ak_outside.specs.Endings.{Written, memory_line}
 use Rattle.ak_turns.specs.NodePromise.{RunsNode, NodeCause}
 use Rattle.ak_turns.specs.Outside.{Output, Wire}
 use Rattle.ak_outside.specs.declared.status.Status.{Status}

@@ -1,15 +1,15 @@
 // What people are told of a line that is refused.
-use crate::input::MOST_LINES;
-use crate::replay::{Code, Stop};
+use crate::replay::{Code, MOST_LINES, Stop};
 use ak_notes::{Notes, Piece, say, say_event, say_header, say_of_line, word_at};
 use ak_world::Reason;
 use std::alloc::Global;
 
-// Says why the replay of a schedule stops at this line, which has this number and text. Where memory ran out nothing is said.
+// Says why the replay of a schedule stops at this line, which has this number and text, after so many headers. Where memory ran out
+// nothing is said.
 pub(crate) fn explain<N: Notes>(
     alloc: Global,
     stop: &Stop,
-    schedule: &[u8],
+    headers: u32,
     number: u64,
     line: &[u8],
     notes: &mut N,
@@ -17,22 +17,9 @@ pub(crate) fn explain<N: Notes>(
     match stop {
         Stop::NoMemory => {}
         Stop::Refused(Code::Malformed) => say_event(alloc, notes, number, line),
-        Stop::Refused(Code::BadHeader) => say_header(alloc, notes, schedule, number),
+        Stop::Refused(Code::BadHeader) => say_header(alloc, notes, headers, line, number),
         Stop::Refused(Code::PastLimit) => explain_limit(alloc, number, notes),
         Stop::Refused(Code::Invalid(why)) => explain_reason(alloc, *why, number, line, notes),
-    }
-}
-
-// Says why a schedule is refused at its end, where it is: a header is wanted in the line that is missing, which has this number.
-pub(crate) fn explain_end<N: Notes>(
-    alloc: Global,
-    end: &Result<bool, Stop>,
-    schedule: &[u8],
-    number: u64,
-    notes: &mut N,
-) {
-    if let Err(stop) = end {
-        explain(alloc, stop, schedule, number, &[], notes);
     }
 }
 

@@ -2,7 +2,6 @@
 #![tactic(auto)]
 
 mod explain;
-mod input;
 mod laws;
 mod replay;
 mod words;
@@ -14,7 +13,7 @@ ghost use Rattle.ak_outside.specs.Outside.{Rose};
 ghost use Rattle.ak_driver.specs.Headline.{KeepsEntitiesApart};
 ghost use Rattle.ak_driver.specs.ReplayPromise.{Promises, EndsSource, IsCompleted};
 ghost use Rattle.ak_driver.specs.StatusContracts.{AsksReplay, AsksSweep, AsksNode, AsksControl, AsksOther, NoNode, NoControl, ReplayCause, Swept, RanNode, Asked, RefusesWords, usage_line};
-ghost use Rattle.ak_turns.specs.Endings.{Written};
+ghost use Rattle.ak_outside.specs.Endings.{Written};
 ghost use Rattle.ak_turns.specs.Outside.{sink, wire};
 ghost use Rattle.ak_address.specs.Unique.{AddressModel};
 ghost use Rattle.ak_options.specs.declared.command.Request.{Request};
@@ -24,12 +23,12 @@ use ak_address::Text;
 use ak_notes::{NoNotes, Notes, say_status};
 use ak_options::{Command, read_command};
 pub use ak_outside::Status;
-use ak_outside::{Arguments, Clock, Folder, Link, Sink, Source};
+use ak_outside::{Arguments, Clock, Folder, Link, Sink, Source, written};
 use ak_sweeps::run_sweep;
 use ak_turns::{run_ctl, run_node};
 pub use laws::{replays_are_determined, replays_reach_runs, worked_schedules};
+use replay::replay_with_notes;
 pub use replay::run_replay;
-use replay::{replay_with_notes, written};
 use std::alloc::Global;
 use std::process::ExitCode;
 use std::thread::Threads;
@@ -54,7 +53,7 @@ fn run_words<R: Threads + Sync, F: Folder, S: Source, W: Sink, L: Link, C: Clock
     ensures written { W.faults output.old ≤ W.faults output.new }
     ensures linked { L.faults link.old ≤ L.faults link.new }
     ensures replay { AsksReplay words.now → ReplayCause result (S.faults input.old) (S.faults input.new) (W.faults output.old) (W.faults output.new) }
-    ensures promise { AsksReplay words.now → Promises (S.remaining input.old) result (W.written output.old) (W.written output.new) }
+    ensures promise { AsksReplay words.now → Promises (S.remaining input.old) (S.remaining input.new) result (W.written output.old) (W.written output.new) }
     ensures end { AsksReplay words.now → IfSome (S.remaining input.old) (λ all. EndsSource result (S.remaining input.new)) }
     ensures headline { AsksReplay words.now → IfSome (S.remaining input.old) (λ bytes. KeepsEntitiesApart bytes result (W.written output.old) (W.written output.new)) }
     ensures complete { AsksReplay words.now → (bytes : List ℕ) → S.remaining input.old ≡ Some bytes → (Rose (S.faults input.old) (S.faults input.new) → ⊥) → (Rose (W.faults output.old) (W.faults output.new) → ⊥)
@@ -125,7 +124,7 @@ pub fn run<R: Threads + Sync, A: Arguments, F: Folder, S: Source, W: Sink, L: Li
     ensures written { W.faults output.old ≤ W.faults output.new }
     ensures linked { L.faults link.old ≤ L.faults link.new }
     ensures replay { IfSome (A.arguments arguments.now) (λ all. AsksReplay (words_of all) → ReplayCause result (S.faults input.old) (S.faults input.new) (W.faults output.old) (W.faults output.new)) }
-    ensures promise { IfSome (A.arguments arguments.now) (λ all. AsksReplay (words_of all) → Promises (S.remaining input.old) result (W.written output.old) (W.written output.new)) }
+    ensures promise { IfSome (A.arguments arguments.now) (λ all. AsksReplay (words_of all) → Promises (S.remaining input.old) (S.remaining input.new) result (W.written output.old) (W.written output.new)) }
     ensures end { IfSome (A.arguments arguments.now) (λ all. AsksReplay (words_of all) → IfSome (S.remaining input.old) (λ bytes. EndsSource result (S.remaining input.new))) }
     ensures headline { IfSome (A.arguments arguments.now) (λ all. AsksReplay (words_of all) → IfSome (S.remaining input.old) (λ bytes. KeepsEntitiesApart bytes result (W.written output.old) (W.written output.new))) }
     ensures complete { IfSome (A.arguments arguments.now) (λ all. AsksReplay (words_of all) → (bytes : List ℕ) → S.remaining input.old ≡ Some bytes → (Rose (S.faults input.old) (S.faults input.new) → ⊥) → (Rose (W.faults output.old) (W.faults output.new) → ⊥)
@@ -180,7 +179,7 @@ pub fn run_with_notes<
     ensures written { W.faults output.old ≤ W.faults output.new }
     ensures linked { L.faults link.old ≤ L.faults link.new }
     ensures replay { IfSome (A.arguments arguments.now) (λ all. AsksReplay (words_of all) → ReplayCause result (S.faults input.old) (S.faults input.new) (W.faults output.old) (W.faults output.new)) }
-    ensures promise { IfSome (A.arguments arguments.now) (λ all. AsksReplay (words_of all) → Promises (S.remaining input.old) result (W.written output.old) (W.written output.new)) }
+    ensures promise { IfSome (A.arguments arguments.now) (λ all. AsksReplay (words_of all) → Promises (S.remaining input.old) (S.remaining input.new) result (W.written output.old) (W.written output.new)) }
     ensures end { IfSome (A.arguments arguments.now) (λ all. AsksReplay (words_of all) → IfSome (S.remaining input.old) (λ bytes. EndsSource result (S.remaining input.new))) }
     ensures headline { IfSome (A.arguments arguments.now) (λ all. AsksReplay (words_of all) → IfSome (S.remaining input.old) (λ bytes. KeepsEntitiesApart bytes result (W.written output.old) (W.written output.new))) }
     ensures complete { IfSome (A.arguments arguments.now) (λ all. AsksReplay (words_of all) → (bytes : List ℕ) → S.remaining input.old ≡ Some bytes → (Rose (S.faults input.old) (S.faults input.new) → ⊥) → (Rose (W.faults output.old) (W.faults output.new) → ⊥)

@@ -1,28 +1,36 @@
-//! The replay of a recorded schedule: reads it whole, applies one line at a time, and prints each step.
+//! The replay of a recorded schedule: reads one line after another, applies it, and prints its step before the next is read.
 
-ghost use Rattle.std.specs.Prelude.{◌≡◌, ◌⊎◌, ◌+◌, ◌≤◌, ◌<◌, ◌^◌, ◌++◌, ℕ, List, OnOk, OnErr, Some, IfSome, length};
-ghost use Rattle.ak_outside.specs.Outside.{Rose};
+ghost use Rattle.std.specs.Prelude.{◌≡◌, ◌⊎◌, ◌+◌, ◌≤◌, ◌<◌, ◌^◌, ◌++◌, ℕ, List, Err, OnOk, OnErr, Some, IfSome, IfNone, length, true};
+ghost use Rattle.ak_outside.specs.Lines.{to_come, Gives, NextCause, EndedBy};
+ghost use Rattle.ak_outside.specs.Outside.{Rose, AppendsPrefix};
 ghost use Rattle.ak_schedule.specs.Draft.{first_draft};
 ghost use Rattle.ak_driver.specs.Headline.{KeepsEntitiesApart};
-ghost use Rattle.ak_driver.specs.ReplayPromise.{Prints, Promises, EndsSource, IsCompleted};
-ghost use Rattle.ak_driver.specs.ReplayText.{refusal_text, code_text, reason_text};
-ghost use Rattle.ak_driver.specs.ReplayContracts.{stop_of, IsReady, IsWhole, opened, progress_of, HeadingAnswers, RunningAnswers, PassesOver, TurnAnswers, FinishAnswers, finished_status, Ended};
-ghost use Rattle.ak_driver.specs.StatusContracts.{ReplayCause, Written, memory_line};
+ghost use Rattle.ak_driver.specs.ReplayPromise.{Promises, EndsSource, IsCompleted};
+ghost use Rattle.ak_schedule.specs.Line.{most_bytes};
+ghost use Rattle.ak_driver.specs.ReplayText.{refusal_text, code_text, reason_text, IsRefused};
+ghost use Rattle.ak_driver.specs.ReplayContracts.{stop_of, IsReady, IsWhole, opened, progress_of, HeadingAnswers, RunningAnswers, PassesOver, TurnAnswers, FinishAnswers, Flushes, finished_status, Ended, EndsWith};
+ghost use Rattle.ak_outside.specs.Endings.{Written, memory_line};
+ghost use Rattle.ak_driver.specs.StatusContracts.{ReplayCause};
 ghost use Rattle.ak_outside.specs.declared.status.Status.TheVariants.{Schedule, Memory};
 
-use crate::explain::{explain, explain_end};
-use crate::input::{MOST_LINES, Unread, read_all};
+use crate::explain::explain;
 use ak_address::print_number;
 use ak_notes::{NoNotes, Notes, warn_of_quorum};
-use ak_outside::{Sink, Source, Status, write_all};
+use ak_outside::{LineReader, Next, Sink, Source, Status, write_all, written};
 use ak_report::print_bytes;
-use ak_schedule::{Draft, Event, LineFault, is_passed_over, next_line, read_line};
+use ak_schedule::{Draft, LineFault, is_passed_over, read_line};
 use ak_world::{Reason, Refused, World, append_step, print_summary};
 use std::alloc::{AllocError, Global};
 use std::mem;
 
+/// A schedule may have this many lines.
+pub const MOST_LINES: u32 = 200_000;
+
 /// A schedule may have this many events.
 const MOST_EVENTS: u64 = 50_000;
+
+// A schedule has this many headers.
+const MOST_HEADERS: u32 = 9;
 
 // Text is written in pieces of about this many bytes.
 const PIECE: usize = 1 << 16;
@@ -176,6 +184,71 @@ impl Replay {
         };
     }
 
+    // Why a line that is too long is refused: whatever it says, it is no header, no event and no comment.
+    fn long_code(&self) -> Code
+        requires { IsReady self.now.stage self.now.steps }
+        ensures { (line : List ℕ) → most_bytes < length line → IsRefused (progress_of self.now) line result }
+    {
+        if self.line > u64::from(MOST_LINES) {
+            return Code::PastLimit;
+        }
+        match &self.stage {
+            Stage::Heading(_) => Code::BadHeader,
+            Stage::Running(_) => {
+                if self.steps >= MOST_EVENTS {
+                    return Code::PastLimit;
+                }
+                Code::Malformed
+            }
+        }
+    }
+
+    // How many headers were read.
+    fn headers_read(&self) -> u32 {
+        match &self.stage {
+            Stage::Heading(draft) => draft.headers_read(),
+            Stage::Running(_) => MOST_HEADERS,
+        }
+    }
+
+    // After the last line: the summary is written, or a header is missing.
+    fn ends<W: Sink, N: Notes>(
+        &self,
+        alloc: Global,
+        out: &mut Vec<u8>,
+        output: &mut W,
+        notes: &mut N,
+    ) -> Status
+        requires { IsReady self.now.stage self.now.steps }
+        ensures count { W.faults output.old ≤ W.faults output.new }
+        ensures cause { ReplayCause result 0 0 (W.faults output.old) (W.faults output.new) }
+        ensures ends { EndsWith (progress_of self.now) out.old.items result (W.faults output.old) (W.faults output.new) (W.written output.old) (W.written output.new) }
+    {
+        let end = self.finish(alloc, out);
+        if let Err(stop) = &end {
+            explain(alloc, stop, self.headers_read(), self.line, &[], notes);
+        }
+        ended(alloc, end, self.line, out, output)
+    }
+
+    // At a line that stops the replay.
+    fn stops<W: Sink, N: Notes>(
+        &self,
+        alloc: Global,
+        stop: Stop,
+        line: &[u8],
+        out: &mut Vec<u8>,
+        output: &mut W,
+        notes: &mut N,
+    ) -> Status
+        ensures count { W.faults output.old ≤ W.faults output.new }
+        ensures cause { ReplayCause result 0 0 (W.faults output.old) (W.faults output.new) }
+        ensures stops { Ended (Err stop) self.now.line out.old.items result (W.faults output.old) (W.faults output.new) (W.written output.old) (W.written output.new) }
+    {
+        explain(alloc, &stop, self.headers_read(), self.line, line, notes);
+        ended(alloc, Err(stop), self.line, out, output)
+    }
+
     // After the last line: the summary, and whether there is a double; or a header is missing.
     fn finish(&self, alloc: Global, out: &mut Vec<u8>) -> Result<bool, Stop>
         requires { IsReady self.now.stage self.now.steps }
@@ -263,18 +336,6 @@ fn print_refusal(alloc: Global, code: Code, line: u64, out: &mut Vec<u8>) -> Res
     print_bytes(&text, out)
 }
 
-// Writes what was printed, and answers the status unless the sink fails.
-pub(crate) fn written<W: Sink>(output: &mut W, text: &[u8], status: Status) -> Status
-    ensures count { W.faults output.old ≤ W.faults output.new }
-    ensures written { Written status text.now result (W.faults output.old) (W.faults output.new) (W.written output.old) (W.written output.new) }
-{
-    if write_all(output, text) {
-        status
-    } else {
-        Status::Write
-    }
-}
-
 // Whole steps stand in the output, and then the line on memory.
 fn out_of_memory<W: Sink>(output: &mut W, text: &[u8]) -> Status
     ensures count { W.faults output.old ≤ W.faults output.new }
@@ -336,49 +397,46 @@ fn ended<W: Sink>(
     }
 }
 
-// Replays these bytes.
-fn replay_bytes<W: Sink, N: Notes>(
-    alloc: Global,
-    bytes: &[u8],
+// The next line. Before the source is asked for it, which may have to wait, and once much is there, what was printed is written. None
+// where the sink failed.
+fn next_line<S: Source, W: Sink>(
+    reader: &mut LineReader,
+    input: &mut S,
+    out: &mut Vec<u8>,
     output: &mut W,
-    notes: &mut N,
-) -> Status
+) -> Option<Next>
+    ensures read { S.faults input.old ≤ S.faults input.new }
     ensures count { W.faults output.old ≤ W.faults output.new }
-    ensures cause { ReplayCause result 0 0 (W.faults output.old) (W.faults output.new) }
-    ensures prints { Prints bytes.now result (W.written output.old) (W.written output.new) }
+    ensures next { IfSome result (λ next. Gives next reader.new (to_come reader.old (S.remaining input.old)) (to_come reader.new (S.remaining input.new)) × NextCause (S.faults input.old) (S.faults input.new) next) }
+    ensures stays { IfSome result (λ next. reader.old.ended ≡ true → reader.new.ended ≡ true) }
+    ensures ended { IfSome result (λ next. reader.new.ended ≡ true → EndedBy reader.old.ended (S.remaining input.old) (S.remaining input.new)) }
+    ensures flushes { IfSome result (λ next. Flushes next out.old.items out.new.items (W.written output.old) (W.written output.new) × (W.faults output.new ≡ W.faults output.old)) }
+    ensures fails { IfNone result (Rose (W.faults output.old) (W.faults output.new) × AppendsPrefix (W.written output.old) (W.written output.new) out.old.items) }
 {
-    let mut replay = Replay::new(alloc);
-    let mut text = Vec::new(alloc);
-    let mut out = Vec::new(alloc);
-    let mut rest = bytes;
-    'lines: while let Some((line, after_it)) = next_line(rest) {
-        if let Err(stop) = replay.turn(alloc, line, &mut text, &mut out, notes) {
-            explain(alloc, &stop, bytes, replay.line, line, notes);
-            return ended(alloc, Err(stop), replay.line, &mut out, output);
-        }
-        rest = after_it;
-        if out.len() >= PIECE {
-            if !write_all(output, &out) {
-                return Status::Write;
-            }
-            out.clear();
+    if out.len() < PIECE {
+        if let Some(next) = reader.buffered() {
+            return Some(next);
         }
     }
-    let end = replay.finish(alloc, &mut out);
-    explain_end(alloc, &end, bytes, replay.line, notes);
-    ended(alloc, end, replay.line, &mut out, output)
+    if !write_all(output, out) {
+        return None;
+    }
+    out.clear();
+    Some(reader.next(input))
 }
 
-/// Replays a recorded schedule: reads the whole input, prints each step and then the summary.
+/// Replays a recorded schedule: applies and prints the event of each line before it reads the next line, and prints the summary
+/// after the last one.
 ///
 /// Answers `Done` where every line is accepted and no entity was active on two nodes at once, and `Double` where one was, after
 /// the same text, whose last line names it; `Schedule` where a line is refused, after the steps before it and a
-/// line that says which and why; `Read` where the source failed, and nothing else is read then; `Write` where the sink
-/// failed, and nothing else is written then; and `Memory`, after whole steps. `Read` and `Write` come exactly where a
-/// fault came first: at each other status no count of faults rose.
+/// line that says which and why; `Read` where the source failed, after the steps of all lines that it had given whole and a line that
+/// says so; `Write` where the sink failed, and nothing else is written then; and `Memory`, after whole steps. `Read` and `Write` come
+/// exactly where a fault came first: at each other status no count of faults rose.
 ///
 /// Where the bytes of the source are known, the sink took what the rules say of all of them, also where reading stopped at a
-/// limit before their end. After `Done` and `Double` the source is at its end.
+/// limit before their end; after `Read` what they say of the lines that ended with LF among the bytes that the source gave. After
+/// `Done` and `Double` the source is at its end.
 ///
 /// Where neither the source nor the sink fails, the replay is complete: a schedule whose lines are all accepted gives `Done` or
 /// `Double` and its whole text, and one with a refused line gives `Schedule` and its whole text, unless memory ends.
@@ -390,7 +448,7 @@ pub fn run_replay<S: Source, W: Sink>(alloc: Global, input: &mut S, output: &mut
     ensures read { S.faults input.old ≤ S.faults input.new }
     ensures written { W.faults output.old ≤ W.faults output.new }
     ensures cause { ReplayCause result (S.faults input.old) (S.faults input.new) (W.faults output.old) (W.faults output.new) }
-    ensures promise { Promises (S.remaining input.old) result (W.written output.old) (W.written output.new) }
+    ensures promise { Promises (S.remaining input.old) (S.remaining input.new) result (W.written output.old) (W.written output.new) }
     ensures end { IfSome (S.remaining input.old) (λ all. EndsSource result (S.remaining input.new)) }
     ensures headline { IfSome (S.remaining input.old) (λ bytes. KeepsEntitiesApart bytes result (W.written output.old) (W.written output.new)) }
     ensures complete { (bytes : List ℕ) → S.remaining input.old ≡ Some bytes → (Rose (S.faults input.old) (S.faults input.new) → ⊥) → (Rose (W.faults output.old) (W.faults output.new) → ⊥)
@@ -409,18 +467,33 @@ pub(crate) fn replay_with_notes<S: Source, W: Sink, N: Notes>(
     ensures read { S.faults input.old ≤ S.faults input.new }
     ensures written { W.faults output.old ≤ W.faults output.new }
     ensures cause { ReplayCause result (S.faults input.old) (S.faults input.new) (W.faults output.old) (W.faults output.new) }
-    ensures promise { Promises (S.remaining input.old) result (W.written output.old) (W.written output.new) }
+    ensures promise { Promises (S.remaining input.old) (S.remaining input.new) result (W.written output.old) (W.written output.new) }
     ensures end { IfSome (S.remaining input.old) (λ all. EndsSource result (S.remaining input.new)) }
     ensures headline { IfSome (S.remaining input.old) (λ bytes. KeepsEntitiesApart bytes result (W.written output.old) (W.written output.new)) }
     ensures complete { (bytes : List ℕ) → S.remaining input.old ≡ Some bytes → (Rose (S.faults input.old) (S.faults input.new) → ⊥) → (Rose (W.faults output.old) (W.faults output.new) → ⊥)
         → IsCompleted bytes result (W.written output.old) (W.written output.new) }
 {
-    match read_all(alloc, input) {
-        Ok(bytes) => replay_bytes(alloc, &bytes, output, notes),
-        Err(Unread::Failed) => {
-            notes.say(b"standard input could not be read\n");
-            written(output, b"error 5 read\n", Status::Read)
+    let mut replay = Replay::new(alloc);
+    let mut reader = LineReader::new();
+    let mut text = Vec::new(alloc);
+    let mut out = Vec::new(alloc);
+    'lines: loop {
+        match next_line(&mut reader, input, &mut out, output) {
+            None => return Status::Write,
+            Some(Next::Failed) => {
+                notes.say(b"standard input could not be read\n");
+                return written(output, b"error 5 read\n", Status::Read);
+            }
+            Some(Next::End) => return replay.ends(alloc, &mut out, output, notes),
+            Some(Next::TooLong) => {
+                let stop = Stop::Refused(replay.long_code());
+                return replay.stops(alloc, stop, reader.line(), &mut out, output, notes);
+            }
+            Some(Next::Line(_)) => {
+                if let Err(stop) = replay.turn(alloc, reader.line(), &mut text, &mut out, notes) {
+                    return replay.stops(alloc, stop, reader.line(), &mut out, output, notes);
+                }
+            }
         }
-        Err(Unread::NoMemory) => written(output, b"error 7 memory\n", Status::Memory),
     }
 }

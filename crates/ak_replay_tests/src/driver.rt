@@ -366,16 +366,16 @@ fn written<R: Threads + Sync>(
     written_from(rt, alloc, &mut input, failing, status)
 }
 
-// A prefix that is not the whole, and is as long as what is written at once.
-fn is_large_prefix(prefix: &[u8], whole: &[u8]) -> bool {
-    prefix.len() >= 65536 && prefix.len() < whole.len() && whole.starts_with(prefix)
+// A prefix that is neither empty nor the whole.
+fn is_proper_prefix(prefix: &[u8], whole: &[u8]) -> bool {
+    !prefix.is_empty() && prefix.len() < whole.len() && whole.starts_with(prefix)
 }
 
 // Whether what is written of this text where the second write fails is such a prefix.
 fn leaves_a_prefix<R: Threads + Sync>(rt: &R, alloc: Global, text: &[u8]) -> Result<bool, Fail> {
     let whole = written(rt, alloc, text, &[], Status::Done)?;
     let prefix = written(rt, alloc, text, &[2], Status::Write)?;
-    Ok(is_large_prefix(&prefix, &whole))
+    Ok(is_proper_prefix(&prefix, &whole))
 }
 
 // Where the second write fails, the sink took the first piece, which is a prefix of the text.
@@ -420,6 +420,9 @@ fn ends_at_long_line<R: Threads + Sync>(
 const FOUNDED_AND_REFUSED: &[u8] =
     b"1 start a:1#1\n2 found a:1#1\n  update 1 joined a:1#1\n  view a:1#1=1 | a:1#1 joining | -\nerror 4 S1 line 12\n";
 
+const FOUNDED_AND_UNREAD: &[u8] =
+    b"1 start a:1#1\n2 found a:1#1\n  update 1 joined a:1#1\n  view a:1#1=1 | a:1#1 joining | -\nerror 5 read\n";
+
 // Lines, the last byte of such a comment after them, and what a replay comes to.
 static LONG_LINES: [(&[u8], u8, Wanted<'static>); 4] = [
     (b"", b'\r', FAILED_READ),
@@ -439,7 +442,8 @@ fn all_steps_end_at_long_line<R: Threads + Sync>(
     running: &[u8],
 ) -> Result<bool, AllocError> {
     let refused: Wanted = (Status::Schedule, FOUNDED_AND_REFUSED, 0, 0);
-    let failed = ends_at_long_line(rt, alloc, running, b'\r', FAILED_READ)?;
+    let unread: Wanted = (Status::Read, FOUNDED_AND_UNREAD, 1, 0);
+    let failed = ends_at_long_line(rt, alloc, running, b'\r', unread)?;
     Ok(failed && ends_at_long_line(rt, alloc, running, b'#', refused)?)
 }
 
@@ -492,29 +496,53 @@ fn asks_no_more<R: Threads + Sync>(
     )
 }
 
-// Whether a read that fails in the middle or in place of the end is the last one, and none is asked after the end.
-fn reads_to_end<R: Threads + Sync>(
-    rt: &R,
-    alloc: Global,
-    text: &[u8],
-    status: Status,
-    printed: &[u8],
-) -> Result<bool, AllocError> {
-    let middle = ends_at_read(rt, alloc, text, 2)?;
-    let end = ends_at_read(rt, alloc, text, read_after(text))?;
-    Ok(middle && end && asks_no_more(rt, alloc, text, status, printed)?)
+// Whether a read that fails in the midst of the headers, or in place of the end, is the last one, and none is asked after the end.
+fn reads_to_end<R: Threads + Sync>(rt: &R, alloc: Global) -> Result<bool, AllocError> {
+    let middle = ends_at_read(rt, alloc, HEADERS, 2)?;
+    let end = ends_at_read(rt, alloc, HEADERS, read_after(HEADERS))?;
+    Ok(middle && end && asks_no_more(rt, alloc, HEADERS, Status::Done, SUMMARY)?)
 }
 
+// Whether no read is asked after a line that is refused.
 fn reads_to_refusal<R: Threads + Sync>(rt: &R, alloc: Global) -> Result<bool, AllocError> {
     let text = schedule(alloc, b"start a:1#1\ntock a:1#1\n")?;
-    reads_to_end(rt, alloc, &text, Status::Schedule, REFUSED)
+    let failing = [read_after(&text)];
+    let refused = (Status::Schedule, REFUSED, 0, 0);
+    comes_to(rt, alloc, &REPLAY, &text, (&failing, &[]), refused)
 }
 
-// A read that fails in the middle, or in place of the end, is the last, and no step is printed. After the end no read is asked.
+// A read that fails in the midst of the headers, or in place of the end, is the last, and no step is printed. After the end no read is
+// asked, nor after a line that is refused.
 #[test]
 fn a_failed_read_is_the_last(rt: HostRuntime) -> Result<(), Fail> {
-    assert!(rt; reads_to_end(&rt, rt.alloc(), HEADERS, Status::Done, SUMMARY)?);
+    assert!(rt; reads_to_end(&rt, rt.alloc())?);
     assert!(rt; reads_to_refusal(&rt, rt.alloc())?);
+    Ok(())
+}
+
+const TWO_STEPS: &[u8] = b"start a:1#1\nfound a:1#1\n";
+
+// A replay of two steps and one line more, of whose input the first read gives so many bytes past the two steps, and the second one
+// fails; the third would give more.
+fn cut_after_two_steps<R: Threads + Sync>(
+    rt: &R,
+    alloc: Global,
+    past: usize,
+) -> Result<bool, AllocError> {
+    let mut text = schedule(alloc, TWO_STEPS)?;
+    let first = text.len() + past;
+    text.extend_from_slice(b"tick a:1#1 0\n")?;
+    let mut input = MemorySource::new(alloc, &text, first, &[2])?;
+    let unread: Wanted = (Status::Read, FOUNDED_AND_UNREAD, 1, 0);
+    ends_at_writes(rt, alloc, &REPLAY, &mut input, &[], unread)
+}
+
+// Where the source fails, the steps of all lines stand that it had given whole; what it gave of one more line is no line.
+#[test]
+fn whole_lines_stand_before_a_failed_read(rt: HostRuntime) -> Result<(), Fail> {
+    'bytes: for past in 0..13 {
+        assert!(rt; cut_after_two_steps(&rt, rt.alloc(), past)?);
+    }
     Ok(())
 }
 

@@ -24,7 +24,7 @@ returns-in-Ok-clause-unread g c =
 pub returns-in-Err-clause-promise : goal.returns-in-Err-clause-promise
 returns-in-Err-clause-promise g c =
     always (g.A.Arguments.arguments c.args.arguments.now) _
-    (no_memory (g.S.Source.remaining c.args.input.now) c.written.result _ _ (g.W.Sink.written c.args.output.now) (g.W.Sink.written c.written.new.output) c.written.ensures.written)
+    (no_memory (g.S.Source.remaining c.args.input.now) (g.S.Source.remaining c.args.input.now) c.written.result _ _ (g.W.Sink.written c.args.output.now) (g.W.Sink.written c.written.new.output) c.written.ensures.written)
 
 pub returns-in-Err-clause-usage : goal.returns-in-Err-clause-usage
 returns-in-Err-clause-usage g c =
@@ -33,8 +33,8 @@ returns-in-Err-clause-usage g c =
 pub returns-in-Err-clause-headline : goal.returns-in-Err-clause-headline
 returns-in-Err-clause-headline g c =
     always (g.A.Arguments.arguments c.args.arguments.now) _
-    (promised_apart (g.S.Source.remaining c.args.input.now) c.written.result (g.W.Sink.written c.args.output.now) (g.W.Sink.written c.written.new.output)
-    (no_memory (g.S.Source.remaining c.args.input.now) c.written.result _ _ (g.W.Sink.written c.args.output.now) (g.W.Sink.written c.written.new.output) c.written.ensures.written))
+    (promised_apart (g.S.Source.remaining c.args.input.now) (g.S.Source.remaining c.args.input.now) c.written.result (g.W.Sink.written c.args.output.now) (g.W.Sink.written c.written.new.output)
+    (no_memory (g.S.Source.remaining c.args.input.now) (g.S.Source.remaining c.args.input.now) c.written.result _ _ (g.W.Sink.written c.args.output.now) (g.W.Sink.written c.written.new.output) c.written.ensures.written))
 
 pub returns-in-Ok-clause-sweep : goal.returns-in-Ok-clause-sweep
 returns-in-Ok-clause-sweep g c =

@@ -1,10 +1,5 @@
-use Rattle.std.proofs.Common.{◌≡◌, Option, Ok, ℕ, List, ◌≤◌, subst, arith, inl}
-use Rattle.ak_address.specs.Unique.{AddressModel}
-use Rattle.ak_options.specs.Answers.{Answers}
-use Rattle.ak_options.specs.CommandLine.{AsksFor}
-use Rattle.ak_options.specs.declared.command.Command.{Command}
+use Rattle.std.proofs.Common.{arith, inl}
 use Rattle.ak_options.specs.declared.command.Command.TheVariants.{Replay, Sweep, Node, Ctl}
-use Rattle.ak_options.specs.declared.command.Request.{Request}
 use Rattle.ak_turns.specs.Outside.{sink, wire}
 use Rattle.ak_driver.specs.StatusContracts.{Swept, RanNode, Asked}
 use Rattle.ak_driver.proofs.AskedCommands.{none_asked, none_swept, none_runs, none_asks, answered, same_kind, no_replay, swept_so, ran_so, asked_so, texts_no_replay, texts_no_sweep, texts_some}
