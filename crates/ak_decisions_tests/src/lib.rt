@@ -1,5 +1,5 @@
-//! What the rules over members answer to a caller: whom a node watches, whom it asks, who is downed, what
-//! is settled, and the cluster singleton with its promises.
+//! What a node decides of the others by the members that it knows: whom it watches and whom it asks, who is downed, what is settled, to
+//! whom it promises, and who runs the cluster singleton.
 #![tactic(auto)]
 
 #[cfg(test)]

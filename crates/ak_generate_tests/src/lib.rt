@@ -1,9 +1,0 @@
-//! The events that a generator gives, beside events that were drawn by hand from the rules; and workers that go side by side.
-#![tactic(auto)]
-
-#[cfg(test)]
-mod schedules;
-#[cfg(test)]
-mod settings;
-#[cfg(test)]
-mod workers;
