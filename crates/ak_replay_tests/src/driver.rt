@@ -530,7 +530,7 @@ fn cut_after_two_steps<R: Threads + Sync>(
     past: usize,
 ) -> Result<bool, AllocError> {
     let mut text = schedule(alloc, TWO_STEPS)?;
-    let first = text.len() + past;
+    let first = text.len().saturating_add(past).max(1);
     text.extend_from_slice(b"tick a:1#1 0\n")?;
     let mut input = MemorySource::new(alloc, &text, first, &[2])?;
     let unread: Wanted = (Status::Read, FOUNDED_AND_UNREAD, 1, 0);
