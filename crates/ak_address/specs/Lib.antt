@@ -3,6 +3,7 @@ pub mod Counters
 pub mod Distinct
 pub mod Pairs
 pub mod Spelling
+pub mod Start
 pub mod Table
 pub mod Unique
 pub mod Uniques

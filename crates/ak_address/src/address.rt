@@ -37,7 +37,7 @@ impl Address {
     pub fn compare(&self, other: &Address) -> Ordering
         ensures { result ≡ address_cmp self.now other.now }
     {
-        let hosts = self.host.bytes().cmp(other.host.bytes());
+        let hosts = self.host.compare(&other.host);
         if hosts.is_eq() {
             return self.port.cmp(&other.port);
         }

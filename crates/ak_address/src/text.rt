@@ -1,21 +1,34 @@
-ghost use Rattle.std.specs.Prelude.{◌≡◌, ◌↔◌, ℕ, List, IfOk, IsTrue, nat_eq};
-ghost use Rattle.std.specs.Cmp.Lexicographic.{pointwise};
+ghost use Rattle.std.specs.Prelude.{◌≡◌, ◌↔◌, ◌≤◌, ℕ, List, IfOk, IsTrue, length, get_or, nat_eq};
+ghost use Rattle.std.specs.Ordering.{nat_cmp};
+ghost use Rattle.std.specs.Cmp.Lexicographic.{pointwise, slice_cmp};
+ghost use Rattle.ak_address.specs.Start.{start_of};
 
 use smallvec::SmallVec;
 use std::alloc::{AllocError, Global};
+use std::cmp::Ordering;
 use std::marker::Model;
+
+// As many bytes as a number of 64 bits holds.
+const START_BYTES: usize = 8;
 
 /// A list of bytes: a host, an entity's id, the content of a file. Up to 16 bytes, as most hosts have, stand in the value
 /// itself, so that a copy of them takes no memory.
 #[derive(Debug)]
 pub struct Text {
     letters: SmallVec<u8, 16>,
+    start: u64,
 }
 
 impl Model for Text {
+    ghost use Rattle.std.specs.Prelude.{ℕ, List};
+    ghost use Rattle.ak_address.specs.Start.{IsKept};
+
     ghost Value = { List ℕ };
 
     ghost view = { λ t. t.letters.items };
+
+    // Names are compared at each search for a process, and of most the first bytes tell the order.
+    ghost invariant = { λ t. IsKept t.start t.letters.items };
 }
 
 impl Text {
@@ -24,7 +37,8 @@ impl Text {
         ensures { IfOk result (λ text. text ≡ bytes.now) }
     {
         let letters = SmallVec::from_slice(alloc, bytes)?;
-        Ok(Text { letters })
+        let start = start_of(bytes);
+        Ok(Text { letters, start })
     }
 
     /// Its bytes.
@@ -34,41 +48,75 @@ impl Text {
         self.letters.as_slice()
     }
 
-    /// Whether both have the same bytes. The last ones are compared first, since names that differ mostly differ there. Takes
-    /// no memory.
+    /// Whether both have the same bytes. Takes no memory.
     pub fn is(&self, other: &Text) -> bool
         ensures value { result ≡ pointwise nat_eq self.now other.now }
         ensures meaning { IsTrue result ↔ self.now ≡ other.now }
     {
-        let (mine, others) = (self.bytes(), other.bytes());
-        end_alike(mine, others) && mine == others
+        if self.start != other.start {
+            return false;
+        }
+        self.is_as_short(other) || self.bytes() == other.bytes()
+    }
+
+    /// The order of bytes: the first one that differs decides, and else a text comes before what it begins. Takes no memory.
+    pub fn compare(&self, other: &Text) -> Ordering
+        ensures { result ≡ slice_cmp nat_cmp self.now other.now }
+    {
+        if self.start != other.start {
+            return self.start.cmp(&other.start);
+        }
+        if self.is_as_short(other) {
+            return Ordering::Equal;
+        }
+        self.bytes().cmp(other.bytes())
+    }
+
+    // Both have as many bytes, and no more than their starts tell.
+    fn is_as_short(&self, other: &Text) -> bool
+        ensures { IsTrue result ↔ (length self.now ≤ 8) × (length self.now ≡ length other.now) }
+    {
+        let many = self.letters.len();
+        many <= START_BYTES && many == other.letters.len()
     }
 
     /// An equal text. Only memory can fail.
     pub fn copy(&self, alloc: Global) -> Result<Text, AllocError>
         ensures { IfOk result (λ text. text ≡ self.now) }
     {
-        Text::from_bytes(alloc, self.bytes())
+        let letters = SmallVec::from_slice(alloc, self.bytes())?;
+        let start = self.start;
+        Ok(Text { letters, start })
     }
 }
 
 // By hand, so that for a proof a drop is one step, wherever the bytes stand.
 impl Drop for Text {
     fn drop(self) {
-        let Text { letters } = self;
+        let Text {
+            letters,
+            start: _start,
+        } = self;
         drop(letters);
     }
 }
 
-// Both have as many bytes, and the same last one.
-fn end_alike(some: &[u8], others: &[u8]) -> bool
-    ensures { some.now ≡ others.now → IsTrue result }
+// The first bytes as one number, the first of them weighing most; past the end each is 0.
+fn start_of(bytes: &[u8]) -> u64
+    ensures { result ≡ start_of bytes.now }
 {
-    if some.len() != others.len() {
-        return false;
+    let mut start = 0;
+    'places: for place in 0..START_BYTES {
+        start = start * 256 + u64::from(byte_at(bytes, place));
     }
-    match (some.last(), others.last()) {
-        (Some(last), Some(other)) => *last == *other,
-        _ => true,
+    start
+}
+
+fn byte_at(bytes: &[u8], place: usize) -> u8
+    ensures { result ≡ get_or bytes.now place 0 }
+{
+    match bytes.get(place) {
+        Some(byte) => *byte,
+        None => 0,
     }
 }

@@ -1,0 +1,16 @@
+-- The first bytes of a text as one number, from which the order of most texts is told.
+use Rattle.std.specs.Prelude.{◌≡◌, ◌<◌, ℕ, zero, suc, ◌+◌, ◌*◌, List, get_or}
+
+-- the first n bytes as a number, the first of them weighing most; past the end each is 0
+abbrev pub first_bytes : ℕ → List ℕ → ℕ
+first_bytes zero bytes = 0
+first_bytes (suc n) bytes = first_bytes n bytes * 256 + get_or bytes n 0
+
+-- as many as a number of 64 bits holds
+unfoldable pub start_of : List ℕ → ℕ
+start_of bytes = first_bytes 8 bytes
+
+-- what a text keeps beside its bytes, each of which is one
+pub record IsKept (start : ℕ) (bytes : List ℕ) : Type 0 where
+  pub told : start ≡ start_of bytes
+  pub are_bytes : (i : ℕ) → get_or bytes i 0 < 256
