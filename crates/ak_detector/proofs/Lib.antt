@@ -1,3 +1,4 @@
 pub mod DetectorLaws
 pub mod DetectorLemmas
 pub mod RingLaws
+pub mod RingOrder

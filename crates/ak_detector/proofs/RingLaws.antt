@@ -1,13 +1,13 @@
 -- The ring by halves and by runs of pairs, and that a detector which watches its ring already is the one that watches it.
-use Rattle.std.proofs.Common.{◌≡◌, ◌≢◌, ℕ, zero, suc, ◌+◌, ◌-◌, ◌<◌, ◌≤◌, ◌⊎◌, inl, inr, Bool, true, false, cond, ◌&&◌, ◌||◌, T, List, [], ◌∷◌, ◌++◌, length, min, take, drop, slice_get, Option, Some, None, is_some, unwrap_or, option_to_list, get_or, Ok, Err, subst, refl, sym, ap, ◌∙◌, arith, append-nil, take-append-drop}
+use Rattle.std.proofs.Common.{◌≡◌, ◌≢◌, ◌↔◌, ℕ, zero, suc, ◌+◌, ◌-◌, ◌<◌, ◌≤◌, ◌⊎◌, inl, inr, Bool, true, false, cond, ◌&&◌, T, List, [], ◌∷◌, ◌++◌, length, min, take, drop, slice_get, Option, Some, None, is_some, unwrap_or, option_to_list, get_or, Ok, Err, subst, refl, sym, ap, ◌∙◌, arith, append-nil, take-append-drop}
 use Rattle.std.proofs.lemmas.Option.{same_Some, slice_get-get_or}
-use Rattle.std.proofs.lemmas.List.{take_all, take_min, length-take, length-drop, length-append}
+use Rattle.std.proofs.lemmas.List.{take_all, take_min, length-take, length-take-le, length-drop, length-append}
+use Rattle.std.proofs.Math.Seq.{take-append_seam, drop-append_seam}
 use Rattle.std.proofs.lemmas.List.Elements.{filter-append}
-use Rattle.std.proofs.lemmas.List.Folds.{list_any-append}
 use Rattle.std.specs.List.{fold, filter}
 use Rattle.std.specs.declared.cmp.Ordering.{Ordering}
 use Rattle.std.specs.declared.cmp.Ordering.TheVariants.{Less, Equal, Greater}
-use Rattle.std.specs.Ordering.{is_lt, eq_by_cmp, ordering_reverse}
+use Rattle.std.specs.Ordering.{is_lt, ordering_reverse}
 use Rattle.std.specs.Cmp.{tied_itself}
 use Rattle.std.specs.FinMap as finmap
 use Rattle.ak_address.specs.Pairs.{index}
@@ -18,21 +18,18 @@ use Rattle.ak_address.specs.Counters.{Counters, counter}
 use Rattle.ak_address.proofs.OrderLemmas.{unique_total, unique_exact}
 use Rattle.ak_address.proofs.Pairs.{Stands, known, rises, not_None, IsAboveBefore, IsBelowFrom, above_before, goes_between}
 use Rattle.ak_address.proofs.TableLaws.{same_table, none_of_length}
-use Rattle.ak_address.proofs.UniquesLaws.{same_uniques}
 use Rattle.ak_address.proofs.ChangedLaws.{has-keys_of}
-use Rattle.ak_address.proofs.CountersLaws.{among, has-set_of, set_of-in_order}
+use Rattle.ak_address.proofs.CountersLaws.{set_of-in_order}
 use Rattle.ak_member.specs.declared.standing.Standing.{Standing}
 use Rattle.ak_member.specs.declared.standing.Standing.TheVariants.{Member, Buried}
-use Rattle.ak_member.specs.Standing.{Standings, is_member, member_pairs}
-use Rattle.ak_member.proofs.MemberLemmas.{KeepsPairs, kept_pair, kept_at_end, drop_from, keeps_members}
-use Rattle.ak_member.proofs.Folds.{keeps_mapped, kept_none, set_of_none}
+use Rattle.ak_member.specs.Standing.{Standings, is_member}
+use Rattle.ak_member.proofs.MemberLemmas.{kept_pair, kept_at_end, drop_from}
+use Rattle.ak_member.proofs.Folds.{kept_none, set_of_none}
 use Rattle.ak_detector.specs.Detector.{most_watched, watch_ring, is_silent, watching}
-use Rattle.ak_detector.specs.Sides.{Agrees, is_on_side, names_of, run, side_pairs}
+use Rattle.ak_detector.specs.Sides.{Agrees, BeginWith, Differs, is_on_side, names_of, run, side_pairs}
 use Rattle.ak_detector.proofs.DetectorLaws.{get-watching}
 use Rattle.ak_detector.proofs.DetectorLemmas.{take-append, length-in_order, ring_walked}
-
-pub keeps_names : KeepsPairs names_of
-keeps_names = keeps_mapped member_pairs keeps_members (λ pair. pair.0)
+use Rattle.ak_detector.proofs.RingOrder.{keeps_names, set_turned, ring_in_order}
 
 -- ---- elements of parts of a list
 module _ {X : Type 0} where
@@ -174,46 +171,49 @@ module _ (pairs : List (UniqueModel × Standing)) (i : ℕ) where
   pub counted_end : (left all : ℕ) → length pairs ≤ i → left - length (names_of (drop i pairs)) ≡ all → left ≡ all
   counted_end left all past so_far = let none : length (names_of (drop i pairs)) ≡ 0 = ap length (kept_at_end names_of keeps_names pairs i past) in omega arith
 
--- where the rest agrees, all of them do
-abbrev pub Agreeing : List UniqueModel → ℕ → ℕ → List UniqueModel → Type 0 → Type 0
-Agreeing set end left names all = take left (drop (end - left) set) ≡ take left names → all
+-- one more that is the same
+begins_more : (n : ℕ) (who : UniqueModel) (whos others : List UniqueModel) → BeginWith (suc n) (who ∷ whos) (who ∷ others) ↔ BeginWith n whos others
+begins_more n who whos others = (λ h. (let le = h.0 in omega arith, ap (drop 1) h.1), λ h. (let le = h.0 in omega arith, ap (λ l. who ∷ l) h.1))
 
-agreeing_one : (set : List UniqueModel) (end left next : ℕ) (o : Option UniqueModel) (rest : List UniqueModel) (all : Type 0)
+begins_one : (set : List UniqueModel) (end left next : ℕ) (o : Option UniqueModel) (rest : List UniqueModel)
     → 1 ≤ left → left ≤ end → Agrees left next o (slice_get set (end - left))
-    → Agreeing set end left (option_to_list o ++ rest) all → Agreeing set end next rest all
-agreeing_one set end left next None rest all least fits same so_far = λ agree. so_far (ap (λ n. take n (drop (end - n) set)) (sym same) ∙ agree ∙ ap (λ n. take n rest) same)
-agreeing_one set end zero next (Some who) rest all least fits same so_far = absurd (omega arith)
-agreeing_one set end (suc left) next (Some who) rest all least fits (fewer, found) so_far = λ agree.
-    let is : next ≡ left = omega (arith, fewer) in
+    → BeginWith left (option_to_list o ++ rest) (drop (end - left) set) ↔ BeginWith next rest (drop (end - next) set)
+begins_one set end left next None rest least fits same = subst (λ n. BeginWith left rest (drop (end - left) set) ↔ BeginWith n rest (drop (end - n) set)) (sym same) (λ h. h, λ h. h)
+begins_one set end zero next (Some who) rest least fits same = absurd (omega arith)
+begins_one set end (suc left) next (Some who) rest least fits (fewer, found) =
+    let is : left ≡ next = omega (arith, fewer) in
     let index : end - suc left + 1 ≡ end - left = omega arith in
-    let whole : drop (end - suc left) set ≡ who ∷ drop (end - left) set = drop_from set (end - suc left) ∙ (λ i. option_to_list (found i) ++ drop (index i) set) in
-    so_far (ap (take (suc left)) whole ∙ ap (λ l. who ∷ l) (ap (λ n. take n (drop (end - n) set)) (sym is) ∙ agree ∙ ap (λ n. take n rest) is))
+    let whole : who ∷ drop (end - left) set ≡ drop (end - suc left) set = sym (drop_from set (end - suc left) ∙ (λ i. option_to_list (found i) ++ drop (index i) set)) in
+    subst (λ others. BeginWith (suc left) (who ∷ rest) others ↔ BeginWith next rest (drop (end - next) set)) whole
+    (subst (λ n. BeginWith (suc left) (who ∷ rest) (who ∷ drop (end - left) set) ↔ BeginWith n rest (drop (end - n) set)) is (begins_more left who rest (drop (end - left) set)))
 
-pub agreeing_next : (set : List UniqueModel) (pairs : List (UniqueModel × Standing)) (i end left next : ℕ) (o : Option UniqueModel) (all : Type 0)
-    → 1 ≤ left → left ≤ end → option_to_list o ≡ names_of (option_to_list (slice_get pairs i)) → Agrees left next o (slice_get set (end - left))
-    → Agreeing set end left (names_of (drop i pairs)) all → Agreeing set end next (names_of (drop (i + 1) pairs)) all
-agreeing_next set pairs i end left next o all least fits is same so_far =
-    agreeing_one set end left next o (names_of (drop (i + 1) pairs)) all least fits same
-    (λ agree. so_far (agree ∙ ap (take left) (sym (kept_pair names_of keeps_names pairs i o is))))
+-- with those that are left, a run is the same where it was before
+module _ (set : List UniqueModel) (pairs : List (UniqueModel × Standing)) (i end left : ℕ) (o : Option UniqueModel) (is : option_to_list o ≡ names_of (option_to_list (slice_get pairs i))) where
+  pub begins_next : (next : ℕ) (all : Type 0) → 1 ≤ left → left ≤ end → Agrees left next o (slice_get set (end - left))
+      → BeginWith left (names_of (drop i pairs)) (drop (end - left) set) ↔ all → BeginWith next (names_of (drop (i + 1) pairs)) (drop (end - next) set) ↔ all
+  begins_next next all least fits same so_far =
+      let one = begins_one set end left next o (names_of (drop (i + 1) pairs)) least fits same in
+      let here = kept_pair names_of keeps_names pairs i o is in
+      (λ h. so_far.0 (subst (λ l. BeginWith left l (drop (end - left) set)) (sym here) (one.1 h)), λ a. one.0 (subst (λ l. BeginWith left l (drop (end - left) set)) here (so_far.1 a)))
+
+  -- nor is it where another stands there
+  pub begins_not : 1 ≤ left → Differs o (slice_get set (end - left)) → BeginWith left (names_of (drop i pairs)) (drop (end - left) set) → ⊥
+  begins_not least differs h =
+      let there = subst (λ l. BeginWith left l (drop (end - left) set)) (kept_pair names_of keeps_names pairs i o is) h in
+      apart left o least differs (sym (ap (λ l. slice_get l 0) (there.1)))
+    where
+      apart : (left : ℕ) (o : Option UniqueModel) → 1 ≤ left → Differs o (slice_get set (end - left)) → slice_get (take left (option_to_list o ++ names_of (drop (i + 1) pairs))) 0 ≡ slice_get (take left (drop (end - left) set)) 0 → ⊥
+      apart left None least differs first = differs
+      apart zero (Some who) least differs first = absurd (omega arith)
+      apart (suc left) (Some who) least differs first =
+          let index : end - suc left + 0 ≡ end - suc left = omega arith in
+          differs (sym (first ∙ got_in_take (suc left) 0 (drop (end - suc left) set) (omega arith) ∙ got_of_drop (end - suc left) 0 set ∙ ap (slice_get set) index))
 
 pub agrees_fewer : (left next : ℕ) (o other : Option UniqueModel) → Agrees left next o other → next ≤ left
 agrees_fewer left next None other is = omega (arith, is)
 agrees_fewer left next (Some who) other is = omega (arith, is.0)
 
 -- ---- the ring
-or_turned : (a b : Bool) → (a || b) ≡ (b || a)
-or_turned true true = refl
-or_turned true false = refl
-or_turned false true = refl
-or_turned false false = refl
-
-set_turned : (xs ys : List UniqueModel) → set_of (xs ++ ys) ≡ set_of (ys ++ xs)
-set_turned xs ys = same_uniques _ _ (λ q.
-    has-set_of (xs ++ ys) q
-    ∙ list_any-append (eq_by_cmp unique_cmp q) xs ys
-    ∙ or_turned (among q xs) (among q ys)
-    ∙ sym (has-set_of (ys ++ xs) q ∙ list_any-append (eq_by_cmp unique_cmp q) ys xs))
-
 pub run_to_end : (s : Standings) (after end : ℕ) → end ≡ finmap.len s → run after end (finmap.entries s) ≡ drop after (finmap.entries s)
 run_to_end s after end is = ap (drop after) (take_all end (finmap.entries s) (let long = finmap.len-entries s in omega arith))
 
@@ -240,6 +240,30 @@ module _ (me : UniqueModel) (s : Standings) where
       ∙ ap set_of (sym (take-append-drop first w) ∙ (λ i. firsts i ++ lasts i))
       ∙ set_turned (take (most_watched - length after) before) (take most_watched after)
       ∙ ap set_of (sym (take-append most_watched after before) ∙ (λ i. take most_watched (sym is_after i ++ sym is_before i)))
+
+  -- and the ring agrees with both
+  pub ring_agrees : (set : UniqueSet) (before after : List UniqueModel) (first last : ℕ)
+      → side_pairs false me (finmap.entries s) ≡ before → side_pairs true me (finmap.entries s) ≡ after
+      → last ≡ min most_watched (length after) → first ≡ min (most_watched - last) (length before) → set ≡ watch_ring me s
+      → (how_many set ≡ first + last) × BeginWith first before (drop (first - first) (in_order set)) × BeginWith last after (drop (first + last - last) (in_order set))
+  ring_agrees set before after first last is_before is_after last_is first_is ring =
+      let firsts = take first before in
+      let lasts = take last after in
+      let left : most_watched - length after ≡ most_watched - last = omega arith in
+      let long_first : length firsts ≡ first = length-take-le first before (omega arith) in
+      let long_last : length lasts ≡ last = length-take-le last after (omega arith) in
+      let whole : in_order set ≡ firsts ++ lasts =
+      ap in_order ring
+      ∙ ring_in_order me s
+      ∙ (λ i. take (most_watched - length (is_after i)) (is_before i) ++ take most_watched (is_after i))
+      ∙ (λ i. take (left i) before ++ take most_watched after)
+      ∙ sym (λ i. least_of (most_watched - last) before first first_is i ++ least_of most_watched after last last_is i) in
+      let from_start : 0 ≡ first - first = omega arith in
+      let from_first : length firsts ≡ first + last - last = omega arith in (
+        sym (length-in_order set) ∙ ap length whole ∙ length-append firsts lasts ∙ (λ i. long_first i + long_last i),
+        (omega arith, (λ i. take first (drop (sym from_start i) (whole i))) ∙ (λ i. take (sym long_first i) (firsts ++ lasts)) ∙ take-append_seam firsts lasts),
+        (omega arith, (λ i. take last (drop (sym from_first i) (whole i))) ∙ ap (take last) (drop-append_seam firsts lasts) ∙ take_all last lasts (omega arith)),
+      )
 
   -- it is made of both runs
   pub ring_made : (before after left : ℕ) (end : ℕ) (ring both : UniqueSet)

@@ -1,5 +1,5 @@
 -- The members on one side of a node in the order of processes, as the ring is walked.
-use Rattle.std.specs.Prelude.{◌≡◌, ℕ, ◌-◌, Bool, true, false, List, Option, None, Some, map, take, drop, nat_lt}
+use Rattle.std.specs.Prelude.{◌≡◌, ◌≢◌, ℕ, ◌-◌, ◌≤◌, Bool, true, false, List, Option, None, Some, length, map, take, drop, nat_lt}
 use Rattle.std.specs.List.{filter}
 use Rattle.std.specs.Ordering.{is_lt}
 use Rattle.ak_address.specs.Unique.{UniqueModel, unique_cmp}
@@ -27,6 +27,15 @@ run from to pairs = drop from (take to pairs)
 abbrev pub Agrees : ℕ → ℕ → Option UniqueModel → Option UniqueModel → Type 0
 Agrees left next None other = next ≡ left
 Agrees left next (Some who) other = (next ≡ left - 1) × (other ≡ Some who)
+
+-- a process is found, and does not stand there
+abbrev pub Differs : Option UniqueModel → Option UniqueModel → Type 0
+Differs None other = ⊥
+Differs (Some who) other = other ≢ Some who
+
+-- there are so many processes, and other ones begin with these
+abbrev pub BeginWith : ℕ → List UniqueModel → List UniqueModel → Type 0
+BeginWith n whos others = (n ≤ length whos) × (take n others ≡ take n whos)
 
 -- the processes of these pairs whose counter is above a limit
 abbrev pub above_pairs : ℕ → List (UniqueModel × ℕ) → List UniqueModel

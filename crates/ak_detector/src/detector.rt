@@ -1,4 +1,4 @@
-ghost use Rattle.std.specs.Prelude.{◌≡◌, ◌≢◌, ◌⊎◌, ◌<◌, ◌≤◌, ◌-◌, ◌^◌, ℕ, IfOk, OnOk, OnErr, IsTrue, slice_get, option_copied, option_map, option_to_list};
+ghost use Rattle.std.specs.Prelude.{◌≡◌, ◌≢◌, ◌⊎◌, ◌↔◌, ◌<◌, ◌≤◌, ◌-◌, ◌^◌, ℕ, IfOk, OnOk, OnErr, IsTrue, slice_get, option_copied, option_map, option_to_list};
 ghost use Rattle.std.specs.List.{fold, filter};
 ghost use Rattle.std.specs.FinMap as map;
 ghost use Rattle.ak_address.specs.Changed.{keys_of};
@@ -67,17 +67,18 @@ impl Detector {
         Ok(Detector { watched, counters })
     }
 
-    /// Whether it is known, without a look at the counters, that the detector that watches by these members is this one: who
-    /// is watched is the ring. No answer but a yes says anything. Takes no memory.
+    /// Whether whom it watches is the node's ring by these members. Then the detector that watches by them is this one, at any
+    /// deadline; after a no it may be so too, where whoever is watched off the ring is silent and still a member. Takes no
+    /// memory.
     pub fn watches_already(&self, me: &Unique, members: &Members) -> bool
         ensures same { (deadline : ℕ) → IsTrue result → watching me.now members.now deadline self.now ≡ self.now }
-        ensures ring { IsTrue result → keys_of self.now ≡ watch_ring me.now members.now }
+        ensures ring { IsTrue result ↔ keys_of self.now ≡ watch_ring me.now members.now }
     {
         is_ring(me, members, &self.watched)
     }
 
-    /// Watches so from now on. After an error the detector is as it was; only memory can fail, and only where there is another
-    /// member, or somebody silent.
+    /// Watches so from now on. After an error the detector is as it was; only memory can fail, and only where whom it watches is
+    /// not the ring, and there is another member, or somebody silent.
     pub fn watch(
         &mut self,
         alloc: Global,
@@ -87,7 +88,7 @@ impl Detector {
     ) -> Result<(), AllocError>
         ensures ok { OnOk result (self.new ≡ watching me.now members.now deadline self.old) }
         ensures err { OnErr result (self.new ≡ self.old) }
-        ensures memory { OnErr result ((watch_ring me.now members.now ≢ no_one) ⊎ (silent deadline self.old ≢ no_one)) }
+        ensures memory { OnErr result ((keys_of self.old ≢ watch_ring me.now members.now) × ((watch_ring me.now members.now ≢ no_one) ⊎ (silent deadline self.old ≢ no_one))) }
     {
         if self.watches_already(me, members) {
             return Ok(());

@@ -1,9 +1,9 @@
-ghost use Rattle.std.specs.Prelude.{◌≡◌, ◌≢◌, ◌-◌, ◌≤◌, [], true, false, IfOk, OnErr, IsTrue, MatchOption, length, min, take, drop, slice_get, option_copied, option_to_list};
+ghost use Rattle.std.specs.Prelude.{◌≡◌, ◌≢◌, ◌↔◌, ◌-◌, ◌≤◌, [], true, false, IfOk, OnErr, IsTrue, MatchOption, length, min, take, drop, slice_get, option_copied, option_to_list};
 ghost use Rattle.std.specs.List.{fold};
 ghost use Rattle.std.specs.FinMap as map;
 ghost use Rattle.ak_address.specs.Uniques.{no_one, with_one, in_order};
 ghost use Rattle.ak_detector.specs.Detector.{watch_ring};
-ghost use Rattle.ak_detector.specs.Sides.{Agrees, names_of, run, side_pairs};
+ghost use Rattle.ak_detector.specs.Sides.{Agrees, BeginWith, Differs, names_of, run, side_pairs};
 
 use ak_address::{Unique, Uniques};
 use ak_member::{Members, Standing};
@@ -28,9 +28,10 @@ pub fn watch_ring(alloc: Global, me: &Unique, members: &Members) -> Result<Uniqu
     Ok(ring)
 }
 
-// Whether these are whom the node watches; no answer but a yes says anything. Takes no memory.
+// Whether these are whom the node watches: in their order, those before the node come first, and then those after it. Takes no
+// memory.
 pub(crate) fn is_ring(me: &Unique, members: &Members, watched: &Uniques) -> bool
-    ensures { IsTrue result → watched.now ≡ watch_ring me.now members.now }
+    ensures { IsTrue result ↔ watched.now ≡ watch_ring me.now members.now }
 {
     let end = members.uniques();
     let (before, after) = sides(me, members, end);
@@ -136,7 +137,7 @@ fn left_after(who: Option<&Unique>, left: usize) -> usize
     }
 }
 
-// The first members of a run of pairs, as many as the most, are those of the set that stand before the end, as many.
+// A run of pairs has so many members, and its first are those of the set that stand before the end, as many.
 fn is_run(
     members: &Members,
     from: usize,
@@ -146,7 +147,7 @@ fn is_run(
     most: usize,
 ) -> bool
     requires { most ≤ end }
-    ensures { IsTrue result → take most (drop (end - most) (in_order watched.now)) ≡ take most (names_of (run from to (map.entries members.now))) }
+    ensures { IsTrue result ↔ BeginWith most (names_of (run from to (map.entries members.now))) (drop (end - most) (in_order watched.now)) }
 {
     let mut left = most;
     'pairs: for pair in from..to {
@@ -165,7 +166,7 @@ fn is_run(
 
 // How many are left to find after this one, if there is one; none where the set has another one at the index.
 fn next_left(who: Option<&Unique>, watched: &Uniques, index: usize, left: usize) -> Option<usize>
-    ensures { MatchOption result (Unit {0}) (λ next. Agrees left next (option_copied who.entry) (slice_get (in_order watched.now) index)) }
+    ensures { MatchOption result (Differs (option_copied who.entry) (slice_get (in_order watched.now) index)) (λ next. Agrees left next (option_copied who.entry) (slice_get (in_order watched.now) index)) }
 {
     match who {
         Some(who) => {
@@ -180,7 +181,7 @@ fn next_left(who: Option<&Unique>, watched: &Uniques, index: usize, left: usize)
 
 // The process stands at the index of the set.
 fn is_at(set: &Uniques, index: usize, who: &Unique) -> bool
-    ensures { IsTrue result → slice_get (in_order set.now) index ≡ Some who.now }
+    ensures { IsTrue result ↔ slice_get (in_order set.now) index ≡ Some who.now }
 {
     match set.at(index) {
         Some(other) => other.is(who),

@@ -3,7 +3,8 @@ use Rattle.std.specs.FinMap as map
 use Rattle.ak_address.proofs.Failing.{on_err}
 use Rattle.ak_detector.specs.Sides.{names_of}
 use Rattle.ak_detector.proofs.DetectorLemmas.{taking_next}
-use Rattle.ak_detector.proofs.RingLaws.{run_none, keeps_names, there_in}
+use Rattle.ak_detector.proofs.RingLaws.{run_none, there_in}
+use Rattle.ak_detector.proofs.RingOrder.{keeps_names}
 use Rattle.ak_detector.proofs.ring.add_run.Goals as goal
 
 pub pairs-preserved : goal.pairs-preserved
