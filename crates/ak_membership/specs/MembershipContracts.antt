@@ -129,13 +129,15 @@ pub record Closes (close : MembershipState × Closing) (after : MembershipState)
   pub state_after : after ≡ close.0
   pub is_due : due ≡ close.1
 
--- somebody is to watch: another member, or one that is watched and silent
-abbrev pub HasWatched : MembershipState → Type 0
-HasWatched m = (watch_ring m.me m.gossip.view.standings ≢ no_one) ⊎ (silent m.settings.deadline m.detector ≢ no_one)
+-- somebody is to be watched anew: whom the node watches is not its ring, and another member is there, or one that is watched and
+-- silent
+abbrev pub WatchesAnew : MembershipState → Type 0
+WatchesAnew m =
+    (keys_of m.detector ≢ watch_ring m.me m.gossip.view.standings) × ((watch_ring m.me m.gossip.view.standings ≢ no_one) ⊎ (silent m.settings.deadline m.detector ≢ no_one))
 
--- a closing may take memory: for a version to show, for a settled view to note, or for whom to watch
+-- a closing may take memory: for a version to show, for a settled view to note, or for whom to watch anew
 abbrev pub MayTake : Bool → MembershipState → Type 0
-MayTake stopping m = IsTrue (is_viewed m) ⊎ IsTrue (notes stopping m) ⊎ HasWatched m
+MayTake stopping m = IsTrue (is_viewed m) ⊎ IsTrue (notes stopping m) ⊎ WatchesAnew m
 
 -- after the call it is the same process with the same settings, and knows nothing
 pub record Forgets (old new : MembershipState) : Type 0 where

@@ -6,7 +6,7 @@ ghost use Rattle.ak_clock.specs.Version.{Covers};
 ghost use Rattle.ak_detector.specs.Detector.{watching, watch_ring};
 ghost use Rattle.ak_settled.specs.Settled.{version_of, after_note};
 ghost use Rattle.ak_membership.specs.Closing as closing;
-ghost use Rattle.ak_membership.specs.MembershipContracts.{Closes, HasWatched, MayTake, IsAtRest, RestsIf};
+ghost use Rattle.ak_membership.specs.MembershipContracts.{Closes, MayTake, IsAtRest, RestsIf, WatchesAnew};
 
 use crate::change::Closing;
 use crate::state::MembershipState;
@@ -54,7 +54,7 @@ impl MembershipState {
 
     // The detector that watches by what is known now, where it is another.
     fn watching(&self, alloc: Global) -> Result<Option<Detector>, AllocError>
-        ensures memory { OnErr result (HasWatched self.now) }
+        ensures memory { OnErr result (WatchesAnew self.now) }
         ensures ok { IfOk result (λ detector. MatchOption detector ((watching self.now.me self.now.gossip.view.standings self.now.settings.deadline self.now.detector ≡ self.now.detector) × (keys_of self.now.detector ≡ watch_ring self.now.me self.now.gossip.view.standings)) (λ other. other ≡ watching self.now.me self.now.gossip.view.standings self.now.settings.deadline self.now.detector)) }
     {
         let members = self.gossip.members();
