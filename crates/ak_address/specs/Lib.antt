@@ -1,6 +1,7 @@
 pub mod Changed
 pub mod Counters
 pub mod Distinct
+pub mod Keys
 pub mod Pairs
 pub mod Spelling
 pub mod Start

@@ -3,6 +3,7 @@
 #![tactic(auto)]
 
 mod address;
+mod keys;
 mod laws;
 mod parse;
 mod print;

@@ -118,11 +118,11 @@ accepted clock.TheVariants.After own incoming = (received.TheVariants.Older, own
 accepted clock.TheVariants.Concurrent own incoming = (received.TheVariants.Merged, both own incoming)
 
 -- what is older changes nothing; of all else the node has seen what it knows then
-abbrev pub noted : UniqueModel → received.Received × GossipState → received.Received × GossipState
-noted me (received.TheVariants.Older, g) = (received.TheVariants.Older, g)
-noted me (received.TheVariants.Same, g) = (received.TheVariants.Same, seen_by me g)
-noted me (received.TheVariants.Newer, g) = (received.TheVariants.Newer, seen_by me g)
-noted me (received.TheVariants.Merged, g) = (received.TheVariants.Merged, seen_by me g)
+abbrev pub marked_seen : UniqueModel → received.Received × GossipState → received.Received × GossipState
+marked_seen me (received.TheVariants.Older, g) = (received.TheVariants.Older, g)
+marked_seen me (received.TheVariants.Same, g) = (received.TheVariants.Same, seen_by me g)
+marked_seen me (received.TheVariants.Newer, g) = (received.TheVariants.Newer, seen_by me g)
+marked_seen me (received.TheVariants.Merged, g) = (received.TheVariants.Merged, seen_by me g)
 
 -- What the node makes of a gossip. Nobody else counts this node's entries: a count of them above its own is refused.
 abbrev pub receive : UniqueModel → GossipState → GossipState → Result (received.Received × GossipState) fault.GossipFault
@@ -132,4 +132,4 @@ receive me own incoming =
     then Err (fault.TheVariants.ForeignCount (count own.version me) (count incoming.version me))
     else (if nat_lt most_uniques union
     then Err (fault.TheVariants.TooManyUniques union)
-    else Ok (noted me (accepted (relation own.version incoming.version) own incoming)))
+    else Ok (marked_seen me (accepted (relation own.version incoming.version) own incoming)))

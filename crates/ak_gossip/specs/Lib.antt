@@ -1,5 +1,5 @@
 pub mod Gossip
 pub mod GossipContracts
-pub mod Held
+pub mod Ownership
 pub mod Parts
 pub mod PartsWalk

@@ -8,7 +8,7 @@ ghost use Rattle.ak_member.specs.Standing.{is_member, merged_standings};
 ghost use Rattle.ak_member.specs.View.{observed, after_observed, merged_rows};
 ghost use Rattle.ak_reach.specs.Reach.{is_as_new};
 ghost use Rattle.ak_gossip.specs.Gossip.{GossipState, IsGossip, most_uniques, nothing_known, MayUpdate, updated, seen_by, same, both};
-ghost use Rattle.ak_gossip.specs.Held.{said_by};
+ghost use Rattle.ak_gossip.specs.Ownership.{said_by};
 ghost use Rattle.ak_gossip.specs.GossipContracts.{Receives, excess_of, foreign_of};
 
 use crate::known::{Known, Tables};
@@ -242,7 +242,7 @@ impl Gossip {
         ensures answer { IfOk result (λ r. r ≡ Received.Newer) }
         ensures err { OnErr result (self.new ≡ self.old) }
     {
-        let known = noted(alloc, me, &incoming.known)?;
+        let known = seen_by(alloc, me, &incoming.known)?;
         *self = Gossip { known };
         Ok(Received::Newer)
     }
@@ -381,8 +381,8 @@ fn both_rows(alloc: Global, one: &Rows, other: &Rows) -> Result<Rows, AllocError
 }
 
 // What is known, and seen by the node where it is a member of that.
-fn noted(alloc: Global, me: &Unique, known: &Known) -> Result<Known, AllocError>
-    ensures { IfOk result (λ noted. noted ≡ seen_by me.now known.now) }
+fn seen_by(alloc: Global, me: &Unique, known: &Known) -> Result<Known, AllocError>
+    ensures { IfOk result (λ seen. seen ≡ seen_by me.now known.now) }
 {
     if has_member(me, known.members(), known.seen()) {
         let same = known.copy(alloc)?;

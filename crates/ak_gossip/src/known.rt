@@ -1,6 +1,6 @@
 ghost use Rattle.std.specs.Prelude.{◌≡◌, IfOk};
 ghost use Rattle.ak_gossip.specs.Gossip.{nothing_known};
-ghost use Rattle.ak_gossip.specs.Held.{said_by, held_state};
+ghost use Rattle.ak_gossip.specs.Ownership.{said_by, owned_state};
 
 use ak_address::Uniques;
 use ak_clock::Version;
@@ -22,7 +22,7 @@ pub(crate) struct Tables {
 // The tables and those that have seen what they say. Of a gossip that knows nothing they stand in the value itself, since
 // it takes no memory; of all others they are shared.
 #[derive(Drop)]
-enum Held {
+enum Ownership {
     Own(Tables, Uniques),
     Shared(Rc<Tables>, Rc<Uniques>),
 }
@@ -30,7 +30,7 @@ enum Held {
 /// What a gossip knows, and who has seen it. What is kept never changes: a copy shares it, an entry or a merge makes new
 /// tables, and where only more members have seen it the tables stay (this project's choice).
 pub(crate) struct Known {
-    held: Held,
+    tables: Ownership,
 }
 
 impl Model for Known {
@@ -40,9 +40,9 @@ impl Model for Known {
 
     ghost coded = { coded_gossip };
 
-    ghost use Rattle.ak_gossip.specs.Held.{held_state};
+    ghost use Rattle.ak_gossip.specs.Ownership.{owned_state};
 
-    ghost view = { λ k. held_state k.held };
+    ghost view = { λ k. owned_state k.tables };
 }
 
 impl Known {
@@ -53,7 +53,7 @@ impl Known {
         let tables = no_tables(alloc);
         let seen = Uniques::empty(alloc);
         Known {
-            held: Held::Own(tables, seen),
+            tables: Ownership::Own(tables, seen),
         }
     }
 
@@ -68,7 +68,7 @@ impl Known {
         let tables = Rc::new(alloc, tables)?;
         let seen = Rc::new(alloc, seen)?;
         Ok(Known {
-            held: Held::Shared(tables, seen),
+            tables: Ownership::Shared(tables, seen),
         })
     }
 
@@ -77,19 +77,19 @@ impl Known {
     pub(crate) fn copy(&self, alloc: Global) -> Result<Known, AllocError>
         ensures { IfOk result (λ copy. copy ≡ self.now) }
     {
-        match &self.held {
-            Held::Own(tables, seen) => {
+        match &self.tables {
+            Ownership::Own(tables, seen) => {
                 let tables = copy_of(alloc, tables)?;
                 let seen = seen.copy(alloc)?;
                 Ok(Known {
-                    held: Held::Own(tables, seen),
+                    tables: Ownership::Own(tables, seen),
                 })
             }
-            Held::Shared(tables, seen) => {
+            Ownership::Shared(tables, seen) => {
                 let tables = tables.clone()?;
                 let seen = seen.clone()?;
                 Ok(Known {
-                    held: Held::Shared(tables, seen),
+                    tables: Ownership::Shared(tables, seen),
                 })
             }
         }
@@ -99,18 +99,18 @@ impl Known {
     pub(crate) fn with_seen(&self, alloc: Global, seen: Uniques) -> Result<Known, AllocError>
         ensures { IfOk result (λ known. known ≡ record self.now { seen = seen }) }
     {
-        match &self.held {
-            Held::Own(tables, _) => {
+        match &self.tables {
+            Ownership::Own(tables, _) => {
                 let tables = copy_of(alloc, tables)?;
                 Ok(Known {
-                    held: Held::Own(tables, seen),
+                    tables: Ownership::Own(tables, seen),
                 })
             }
-            Held::Shared(tables, _) => {
+            Ownership::Shared(tables, _) => {
                 let tables = tables.clone()?;
                 let seen = Rc::new(alloc, seen)?;
                 Ok(Known {
-                    held: Held::Shared(tables, seen),
+                    tables: Ownership::Shared(tables, seen),
                 })
             }
         }
@@ -120,9 +120,9 @@ impl Known {
     pub(crate) fn version(&self) -> &Version
         ensures { result.now ≡ self.now.version }
     {
-        match &self.held {
-            Held::Own(tables, _) => &tables.version,
-            Held::Shared(tables, _) => &tables.as_ref().version,
+        match &self.tables {
+            Ownership::Own(tables, _) => &tables.version,
+            Ownership::Shared(tables, _) => &tables.as_ref().version,
         }
     }
 
@@ -130,9 +130,9 @@ impl Known {
     pub(crate) fn members(&self) -> &Members
         ensures { result.now ≡ self.now.view.standings }
     {
-        match &self.held {
-            Held::Own(tables, _) => &tables.members,
-            Held::Shared(tables, _) => &tables.as_ref().members,
+        match &self.tables {
+            Ownership::Own(tables, _) => &tables.members,
+            Ownership::Shared(tables, _) => &tables.as_ref().members,
         }
     }
 
@@ -140,9 +140,9 @@ impl Known {
     pub(crate) fn rows(&self) -> &Rows
         ensures { result.now ≡ self.now.view.rows }
     {
-        match &self.held {
-            Held::Own(tables, _) => &tables.rows,
-            Held::Shared(tables, _) => &tables.as_ref().rows,
+        match &self.tables {
+            Ownership::Own(tables, _) => &tables.rows,
+            Ownership::Shared(tables, _) => &tables.as_ref().rows,
         }
     }
 
@@ -150,9 +150,9 @@ impl Known {
     pub(crate) fn seen(&self) -> &Uniques
         ensures { result.now ≡ self.now.seen }
     {
-        match &self.held {
-            Held::Own(_, seen) => seen,
-            Held::Shared(_, seen) => seen.as_ref(),
+        match &self.tables {
+            Ownership::Own(_, seen) => seen,
+            Ownership::Shared(_, seen) => seen.as_ref(),
         }
     }
 }
@@ -160,8 +160,8 @@ impl Known {
 // By hand, so that for a proof a drop is one step, wherever it stands.
 impl Drop for Known {
     fn drop(self) {
-        let Known { held } = self;
-        drop(held);
+        let Known { tables } = self;
+        drop(tables);
     }
 }
 

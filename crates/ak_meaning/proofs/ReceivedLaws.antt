@@ -10,7 +10,7 @@ use Rattle.ak_clock.specs.Version.{Counts, count, covers, Covers, relation, rela
 use Rattle.ak_clock.proofs.VersionLaws.{count-merged, covers_from_test, test_from_covers}
 use Rattle.ak_gossip.specs.declared.gossip.GossipFault.{GossipFault}
 use Rattle.ak_gossip.specs.declared.gossip.Received.{Received}
-use Rattle.ak_gossip.specs.Gossip.{GossipState, most_uniques, accepted, noted, same, seen_by, both, receive}
+use Rattle.ak_gossip.specs.Gossip.{GossipState, most_uniques, accepted, marked_seen, same, seen_by, both, receive}
 use Rattle.ak_member.specs.Standing.{is_member, merged_standings}
 use Rattle.ak_meaning.specs.Receiving.{AreMerged}
 
@@ -44,7 +44,7 @@ module _ (me : UniqueModel) (own incoming : GossipState) where
   not_covered v w is above = true≢false (sym (test_from_covers v w above) ∙ is)
 
   by_tests : (a b : Bool) → covers own.version incoming.version ≡ a → covers incoming.version own.version ≡ b
-      → AreMerged me own incoming (noted me (accepted (relation_by a b) own incoming)).0 (noted me (accepted (relation_by a b) own incoming)).1
+      → AreMerged me own incoming (marked_seen me (accepted (relation_by a b) own incoming)).0 (marked_seen me (accepted (relation_by a b) own incoming)).1
   by_tests true true p q = record {
     version = λ u. ap (λ v. count v u) (mark_version (same own incoming)) ∙ first_greater own.version incoming.version (covers_from_test own.version incoming.version p) u;
     is_older = (λ is. absurd cc, λ is. absurd (is.1 (covers_from_test incoming.version own.version q)));
@@ -75,7 +75,7 @@ module _ (me : UniqueModel) (own incoming : GossipState) where
   passed false true why other x r is = absurd (true≢false (sym (ap is_ok is)))
   passed false false why other x r is = same_Some x r (ap result_ok is)
 
-  received_is : (r : Received × GossipState) → receive me own incoming ≡ Ok r → noted me (accepted (relation own.version incoming.version) own incoming) ≡ r
+  received_is : (r : Received × GossipState) → receive me own incoming ≡ Ok r → marked_seen me (accepted (relation own.version incoming.version) own incoming) ≡ r
   received_is r is = passed (nat_lt (count own.version me) (count incoming.version me)) (nat_lt most_uniques (map.len (merged_standings own.view.standings incoming.view.standings))) _ _ _ r is
 
   pub accepted_merges : (result : Received) (known : GossipState) → receive me own incoming ≡ Ok (result, known) → AreMerged me own incoming result known

@@ -14,7 +14,7 @@ use Rattle.ak_member.specs.declared.standing.Standing.TheVariants.{Member}
 use Rattle.ak_member.specs.Standing as standing
 use Rattle.ak_member.specs.View.{View, after_effects}
 use Rattle.ak_member.proofs.ViewLaws.{get-known_here}
-use Rattle.ak_gossip.specs.Gossip.{GossipState, is_known, accepted, noted, same, both, seen_by}
+use Rattle.ak_gossip.specs.Gossip.{GossipState, is_known, accepted, marked_seen, same, both, seen_by}
 use Rattle.ak_gossip.proofs.InvariantLemmas.{known_second, known_after_effects}
 use Rattle.ak_settled.specs.Settled.{version_of, standings_of, ticked, after_note, IsCounting}
 use Rattle.ak_settled.specs.SettledView.{SettledView, SettledModel}
@@ -42,7 +42,7 @@ module _ (me : UniqueModel) (own incoming : GossipState) (k : KnowsItself me own
   seen_itself : (g : GossipState) → KnowsItself me g → KnowsItself me (seen_by me g)
   seen_itself g l = seen_if (standing.is_member g.view.standings me) g _ refl l
 
-  accepted_itself : (r : Relation) → KnowsItself me (noted me (accepted r own incoming)).1
+  accepted_itself : (r : Relation) → KnowsItself me (marked_seen me (accepted r own incoming)).1
   accepted_itself relations.Same = seen_itself (same own incoming) k
   accepted_itself relations.Before = seen_itself incoming (known_is me incoming there)
   accepted_itself relations.After = k
@@ -64,7 +64,7 @@ seen_covers me g v over = by_case (standing.is_member g.view.standings me)
     by_case true = over
     by_case false = over
 
-accepted_covers : (me : UniqueModel) (own g : GossipState) (a b : Bool) → covers own.version g.version ≡ a → covers g.version own.version ≡ b → Covers (noted me (accepted (relation_by a b) own g)).1.version own.version
+accepted_covers : (me : UniqueModel) (own g : GossipState) (a b : Bool) → covers own.version g.version ≡ a → covers g.version own.version ≡ b → Covers (marked_seen me (accepted (relation_by a b) own g)).1.version own.version
 accepted_covers me own g true true p q = seen_covers me (same own g) own.version (covers_itself own.version)
 accepted_covers me own g true false p q = covers_itself own.version
 accepted_covers me own g false true p q = seen_covers me g own.version (covers_from_test g.version own.version q)

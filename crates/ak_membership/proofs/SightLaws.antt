@@ -15,7 +15,7 @@ use Rattle.ak_member.specs.Standing.{members_of, rank, merged_standings, is_memb
 use Rattle.ak_member.specs.View.{View}
 use Rattle.ak_gossip.specs.declared.gossip.Received.{Received}
 use Rattle.ak_gossip.specs.declared.gossip.GossipFault.{GossipFault}
-use Rattle.ak_gossip.specs.Gossip.{GossipState, most_uniques, accepted, noted, same, seen_by, receive}
+use Rattle.ak_gossip.specs.Gossip.{GossipState, most_uniques, accepted, marked_seen, same, seen_by, receive}
 use Rattle.ak_gossip.specs.declared.gossip.GossipFault.TheVariants as faults
 use Rattle.ak_gossip.specs.GossipContracts as gossip
 use Rattle.ak_membership.specs.declared.state.MembershipState.{MembershipState}
@@ -54,7 +54,7 @@ module _ (me : UniqueModel) (own incoming : GossipState) where
   by_tests false true why other x r is = absurd (true≢false (sym (ap is_ok is)))
   by_tests false false why other x r is = same_Some x r (ap result_ok is)
 
-  received_is : (r : Received × GossipState) → receive me own incoming ≡ Ok r → noted me (accepted (relation own.version incoming.version) own incoming) ≡ r
+  received_is : (r : Received × GossipState) → receive me own incoming ≡ Ok r → marked_seen me (accepted (relation own.version incoming.version) own incoming) ≡ r
   received_is r is = by_tests (nat_lt (count own.version me) (count incoming.version me)) (nat_lt most_uniques (map.len (merged_standings own.view.standings incoming.view.standings))) _ _ _ r is
 
   seen_view : (g : GossipState) → (seen_by me g).view ≡ g.view
@@ -65,7 +65,7 @@ module _ (me : UniqueModel) (own incoming : GossipState) where
       by_case false = refl
 
   -- the view stays, unless what came is news
-  view_stays : (r : Relation) → is_news (noted me (accepted r own incoming)).0 ≡ false → (noted me (accepted r own incoming)).1.view ≡ own.view
+  view_stays : (r : Relation) → is_news (marked_seen me (accepted r own incoming)).0 ≡ false → (marked_seen me (accepted r own incoming)).1.view ≡ own.view
   view_stays clock.Same is = seen_view (same own incoming)
   view_stays clock.Before is = absurd (true≢false is)
   view_stays clock.After is = refl

@@ -11,7 +11,7 @@ use Rattle.ak_member.specs.declared.status.Status.TheVariants.{Leaving, Down}
 use Rattle.ak_member.specs.Standing as standing
 use Rattle.ak_member.specs.Standing.{members_of, is_down, is_up, is_member_with}
 use Rattle.ak_gossip.specs.declared.gossip.GossipFault.TheVariants as fault
-use Rattle.ak_gossip.specs.Gossip.{GossipState, is_known, accepted, noted, most_uniques}
+use Rattle.ak_gossip.specs.Gossip.{GossipState, is_known, accepted, marked_seen, most_uniques}
 use Rattle.ak_gossip.proofs.InvariantLemmas.{and_first, member_known}
 use Rattle.ak_settings.specs.Settings.{is_listed}
 use Rattle.ak_reach.specs.Unreachable.{unreachable_members}
@@ -214,7 +214,7 @@ module _ (given : Given) (m : MembershipState) where
 
   -- ---- a gossip
   module _ (g : GossipState) (brings : given.brings ≡ Some g) (there : IsTrue (is_known g.view.standings m.me)) where
-    accepting : (count g.version m.me ≤ count m.gossip.version m.me) → Learns given m (unchanged (knowing (noted m.me (accepted (relation m.gossip.version g.version) m.gossip g)).1 m))
+    accepting : (count g.version m.me ≤ count m.gossip.version m.me) → Learns given m (unchanged (knowing (marked_seen m.me (accepted (relation m.gossip.version g.version) m.gossip g)).1 m))
     accepting most = record {
       knowledge = Accepts g;
       lawful = (brings, there, most);
@@ -232,11 +232,11 @@ module _ (given : Given) (m : MembershipState) where
     }
 
     by_tests : (a b : Bool) → nat_lt (count m.gossip.version m.me) (count g.version m.me) ≡ a → (own theirs together : ℕ) →
-        Answers (on_received g m (if a then Err (fault.ForeignCount own theirs) else (if b then Err (fault.TooManyUniques together) else Ok (noted m.me (accepted (relation m.gossip.version g.version) m.gossip g)))))
+        Answers (on_received g m (if a then Err (fault.ForeignCount own theirs) else (if b then Err (fault.TooManyUniques together) else Ok (marked_seen m.me (accepted (relation m.gossip.version g.version) m.gossip g)))))
     by_tests true b foreign own theirs together = tt
     by_tests false true foreign own theirs together = tt
     by_tests false false foreign own theirs together =
-        let r = noted m.me (accepted (relation m.gossip.version g.version) m.gossip g) in
+        let r = marked_seen m.me (accepted (relation m.gossip.version g.version) m.gossip g) in
         let most = ltb-false (count m.gossip.version m.me) (count g.version m.me) foreign in
         replies _ (unchanged (knowing r.1 m)) (accepting most)
 

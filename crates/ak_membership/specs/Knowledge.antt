@@ -10,7 +10,7 @@ use Rattle.ak_member.specs.declared.status.Status.{Status}
 use Rattle.ak_member.specs.declared.status.Status.TheVariants.{Joining, Up, Leaving, Exiting, Down}
 use Rattle.ak_member.specs.Standing as standing
 use Rattle.ak_member.specs.Standing.{is_up, is_joining, is_member_with}
-use Rattle.ak_gossip.specs.Gossip.{GossipState, is_known, updated, accepted, noted}
+use Rattle.ak_gossip.specs.Gossip.{GossipState, is_known, updated, accepted, marked_seen}
 use Rattle.ak_settled.specs.Settled.{after_tick}
 use Rattle.ak_settled.specs.SettledView.{SettledModel}
 use Rattle.ak_membership.specs.declared.change.Change.{Change}
@@ -27,7 +27,7 @@ pub data Knowledge : Type 0 where
 abbrev pub learnt : UniqueModel → Knowledge → GossipState → GossipState
 learnt me Keeps g = g
 learnt me (Updates effects) g = updated me effects g
-learnt me (Accepts incoming) g = (noted me (accepted (relation g.version incoming.version) g incoming)).1
+learnt me (Accepts incoming) g = (marked_seen me (accepted (relation g.version incoming.version) g incoming)).1
 
 -- the updates that it makes
 abbrev pub made_by : Knowledge → List (List Effect)

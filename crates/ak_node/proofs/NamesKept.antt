@@ -19,7 +19,7 @@ use Rattle.ak_member.specs.declared.standing.Standing.TheVariants.{Member, Burie
 use Rattle.ak_member.specs.declared.status.Status.TheVariants.{Joining}
 use Rattle.ak_member.specs.Standing.{Standings, merged_standing, merged_standings, is_member, known}
 use Rattle.ak_member.specs.View.{after_effect, after_effects}
-use Rattle.ak_gossip.specs.Gossip.{GossipState, is_known, seen_by, same, both, accepted, noted}
+use Rattle.ak_gossip.specs.Gossip.{GossipState, is_known, seen_by, same, both, accepted, marked_seen}
 use Rattle.ak_gossip.proofs.InvariantLemmas.{member_known}
 use Rattle.ak_membership.specs.declared.state.MembershipState.{MembershipState}
 use Rattle.ak_membership.specs.Knowledge.{Knowledge, Keeps, Updates, Accepts, Given, learnt, IsCause, IsLawful}
@@ -93,7 +93,7 @@ seen_names me g all = by_member (is_member g.view.standings me)
     by_member true = all
     by_member false = all
 
-accepted_names : (r : Relation) (me : UniqueModel) (own incoming : GossipState) → AllUnique own.view.standings → AllUnique incoming.view.standings → AllUnique (noted me (accepted r own incoming)).1.view.standings
+accepted_names : (r : Relation) (me : UniqueModel) (own incoming : GossipState) → AllUnique own.view.standings → AllUnique incoming.view.standings → AllUnique (marked_seen me (accepted r own incoming)).1.view.standings
 accepted_names clock.Same me own incoming here there = seen_names me (same own incoming) here
 accepted_names clock.Before me own incoming here there = seen_names me incoming there
 accepted_names clock.After me own incoming here there = here

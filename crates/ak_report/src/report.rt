@@ -105,7 +105,7 @@ fn print_tombstone(who: &Unique, confirmed: bool, out: &mut Vec<u8>) -> Result<(
     Ok(())
 }
 
-// The member at a row, where there is one: a row is an index among all that are known.
+// The member at a pair, where there is one: the pairs are of all that are known, tombstones too.
 fn member_pair(members: &Members, pair: usize) -> Option<(&Unique, Status, u64)>
     ensures { option_to_list (option_map (λ m. (m.0.now, (m.1, m.2))) result) ≡ member_pairs (option_to_list (slice_get (finmap.entries members.now) pair)) }
 {
@@ -116,7 +116,7 @@ fn member_pair(members: &Members, pair: usize) -> Option<(&Unique, Status, u64)>
     }
 }
 
-// The tombstone at a row, where there is one, and whether it is confirmed.
+// The tombstone at a pair, where there is one, and whether it is confirmed.
 fn tombstone_pair(members: &Members, pair: usize) -> Option<(&Unique, bool)>
     ensures { option_to_list (option_map (λ t. (t.0.now, t.1)) result) ≡ tombstone_pairs (option_to_list (slice_get (finmap.entries members.now) pair)) }
 {

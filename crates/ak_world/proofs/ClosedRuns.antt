@@ -5,7 +5,7 @@ use Rattle.ak_clock.specs.Version.{Counts, count, covers, relation_by}
 use Rattle.ak_member.specs.Standing.{is_member}
 use Rattle.ak_member.specs.declared.effect.Effect.{Effect}
 use Rattle.ak_address.specs.Uniques.{with_one}
-use Rattle.ak_gossip.specs.Gossip.{GossipState, same, both, accepted, noted, seen_by}
+use Rattle.ak_gossip.specs.Gossip.{GossipState, same, both, accepted, marked_seen, seen_by}
 use Rattle.ak_history.specs.declared.entry.Entry.{Entry}
 use Rattle.ak_history.specs.History.{entries_of, IsNumbered, IsBounded}
 use Rattle.ak_address.proofs.Elements.{first_or_rest, contains_nothing}
@@ -63,7 +63,7 @@ module _ (based : List (Entry × Counts)) (numbered : IsNumbered (entries_in bas
       by_case true = closed
       by_case false = closed
 
-  accepted_closed : (g : GossipState) (a b : Bool) → IsClosed based own.version → IsClosed based g.version → IsClosed based (noted me (accepted (relation_by a b) own g)).1.version
+  accepted_closed : (g : GossipState) (a b : Bool) → IsClosed based own.version → IsClosed based g.version → IsClosed based (marked_seen me (accepted (relation_by a b) own g)).1.version
   accepted_closed g true true p q = seen_closed (same own g) p
   accepted_closed g true false p q = p
   accepted_closed g false true p q = seen_closed g q

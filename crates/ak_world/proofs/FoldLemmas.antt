@@ -14,7 +14,7 @@ use Rattle.ak_wire.specs.declared.envelope.Message.{Message}
 use Rattle.ak_wire.specs.declared.action.Action.{Action}
 use Rattle.ak_wire.specs.Wire.{sent, effects_of, put, updates_of, gossip_of}
 use Rattle.ak_history.specs.History.{entries_of, IsNumbered, view}
-use Rattle.ak_gossip.specs.Gossip.{GossipState, seen_by, same, both, accepted, noted}
+use Rattle.ak_gossip.specs.Gossip.{GossipState, seen_by, same, both, accepted, marked_seen}
 use Rattle.ak_node.specs.declared.node.State.{State}
 use Rattle.ak_node.specs.declared.node.NodeEvent.{NodeEvent}
 use Rattle.ak_node.specs.Node.{Outcome, known, me_of}
@@ -75,7 +75,7 @@ module _ (history : List Entry) (is_numbered : IsNumbered history) (me : UniqueM
   not_above : count incoming.version me ≤ count own.version me
   not_above = let below : count incoming.version me ≤ entries_of me history = fold.bounded me in let mine = k.own in omega arith
 
-  by_relation : (a b : Bool) → covers own.version incoming.version ≡ a → covers incoming.version own.version ≡ b → Knows history me (noted me (accepted (relation_by a b) own incoming)).1
+  by_relation : (a b : Bool) → covers own.version incoming.version ≡ a → covers incoming.version own.version ≡ b → Knows history me (marked_seen me (accepted (relation_by a b) own incoming)).1
   by_relation true true p q = noted_knows (same own incoming) (record { own = k.own; fold = record { shown = k.fold.shown; bounded = k.fold.bounded } })
   by_relation true false p q = k
   by_relation false true p q = noted_knows incoming (record {
@@ -105,7 +105,7 @@ module _ (history : List Entry) (is_numbered : IsNumbered history) (me : UniqueM
     };
   })
 
-  noted_is : Knows history me (noted me (accepted (relation own.version incoming.version) own incoming)).1
+  noted_is : Knows history me (marked_seen me (accepted (relation own.version incoming.version) own incoming)).1
   noted_is = by_relation (covers own.version incoming.version) (covers incoming.version own.version) refl refl
 
 -- ---- the history after updates

@@ -12,7 +12,7 @@ use Rattle.std.specs.Ordering.{eq_by_cmp}
 use Rattle.ak_clock.specs.Version.{Counts, count, covers, relation_by, bumped, Covers}
 use Rattle.ak_clock.proofs.VersionLaws.{covers_from_test}
 use Rattle.ak_member.specs.Standing.{is_member}
-use Rattle.ak_gossip.specs.Gossip.{GossipState, nothing_known, accepted, noted, same, both, seen_by}
+use Rattle.ak_gossip.specs.Gossip.{GossipState, nothing_known, accepted, marked_seen, same, both, seen_by}
 use Rattle.ak_gossip.proofs.GossipLaws.{same_seen}
 use Rattle.ak_address.proofs.Elements.{contains_rest, first_or_rest, contains_nothing, contains_first}
 use Rattle.ak_settings.specs.Settings.{SettingsModel}
@@ -87,7 +87,7 @@ module _ (held : List (UniqueModel × Counts)) (me : UniqueModel) (own : GossipS
           by_tie u false is seen = h.each u seen
 
   taking : (incoming : GossipState) (a b : Bool) → covers own.version incoming.version ≡ a → covers incoming.version own.version ≡ b → Knew held incoming
-      → Contains held (me, (noted me (accepted (relation_by a b) own incoming)).1.version) → Knew held (noted me (accepted (relation_by a b) own incoming)).1
+      → Contains held (me, (marked_seen me (accepted (relation_by a b) own incoming)).1.version) → Knew held (marked_seen me (accepted (relation_by a b) own incoming)).1
   taking incoming true true p q h now =
       let is : own.version ≡ incoming.version = one_version own.version incoming.version k.no_zero h.no_zero (covers_from_test own.version incoming.version p) (covers_from_test incoming.version own.version q) in
       seen_by_knew (same own incoming) (record {

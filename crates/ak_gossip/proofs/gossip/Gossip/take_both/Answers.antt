@@ -2,7 +2,7 @@ use Rattle.std.proofs.Common.{sym, ap, ◌∙◌, subst, if◌then◌else◌}
 use Rattle.ak_address.specs.Uniques.{UniqueSet, no_one, with_one}
 use Rattle.ak_member.specs.Standing.{is_member}
 use Rattle.ak_gossip.specs.Gossip.{IsGossip}
-use Rattle.ak_gossip.specs.Held.{said_by}
+use Rattle.ak_gossip.specs.Ownership.{said_by}
 use Rattle.ak_gossip.proofs.InvariantLemmas.{noted_kept}
 use Rattle.ak_gossip.proofs.gossip.Gossip.take_both.Goals as goal
 

@@ -1,7 +1,7 @@
 use Rattle.std.proofs.Common.{sym, ap, ◌∙◌, subst}
 use Rattle.ak_address.specs.Uniques.{UniqueSet, with_one}
 use Rattle.ak_gossip.specs.Gossip.{IsGossip}
-use Rattle.ak_gossip.specs.Held.{said_by}
+use Rattle.ak_gossip.specs.Ownership.{said_by}
 use Rattle.ak_gossip.proofs.gossip.Gossip.update.Goals as goal
 
 pub invariant_of-drop : goal.invariant_of-drop
