@@ -3,6 +3,7 @@
 use Rattle.std.specs.Prelude.{ℕ, ◌+◌, ◌-◌, ◌^◌, min, List, [], ◌∷◌, ◌++◌, fold, Option, None, Some, Result, Ok, Err}
 use Rattle.std.specs.FinMap as map
 use Rattle.std.specs.Hash as fed
+use Rattle.ak_address.specs.Keys.{address_key, unique_key, fed_of_address, fed_of_unique}
 use Rattle.ak_address.specs.Unique.{UniqueModel}
 use Rattle.ak_address.specs.Uniques.{how_many}
 use Rattle.ak_clock.specs.Version.{Counts}
@@ -68,9 +69,7 @@ hashed_message m =
     ++ (fed.u64 (number_of (number_in m)) ++ name_of (entity_in m) ∷ [])))))))
 
 abbrev pub hashed : Envelope → Writes
-hashed e =
-    e.from.address.host ∷ (fed.u16 e.from.address.port
-    ++ (fed.u64 e.from.uid ++ e.to.host ∷ (fed.u16 e.to.port ++ (fed.u64 e.uid ++ hashed_message e.message))))
+hashed e = fed_of_unique (unique_key e.from) ++ (fed_of_address (address_key e.to) ++ (fed.u64 e.uid ++ hashed_message e.message))
 
 abbrev pub hashed_if_read : Result Envelope WireFault → Writes
 hashed_if_read (Ok e) = hashed e

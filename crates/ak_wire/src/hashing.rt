@@ -11,17 +11,14 @@ use ak_address::{Text, Unique};
 use ak_clock::Version;
 use ak_gossip::Gossip;
 use ak_promise::Ballot;
-use std::hash::Hasher;
+use std::hash::{Hash, Hasher};
 
 /// Feeds a hash with an envelope: with who sends it to whom, its kind, and numbers of what it carries. Takes no memory.
 pub(crate) fn hash_envelope<H: Hasher>(envelope: &Envelope, state: &mut H)
     ensures { state.new ≡ fold H.write state.old (hashed envelope.now) }
 {
-    state.write(envelope.from.address.host.bytes());
-    state.write_u16(envelope.from.address.port);
-    state.write_u64(envelope.from.uid);
-    state.write(envelope.to.host.bytes());
-    state.write_u16(envelope.to.port);
+    envelope.from.hash(state);
+    envelope.to.hash(state);
     state.write_u64(envelope.uid);
     hash_message(&envelope.message, state);
 }
