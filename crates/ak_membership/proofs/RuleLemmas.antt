@@ -29,15 +29,15 @@ use Rattle.ak_membership.specs.declared.change.Reply.TheVariants.{Welcome}
 use Rattle.ak_membership.specs.declared.state.MembershipState.{MembershipState}
 use Rattle.ak_membership.specs.Membership.{Outcome, unchanged, replying, may_count, update, update_any, is_member, leave, down, has_member_beside, replaced, is_beside, most_at_join, admitted, on_join, on_received, on_gossip}
 use Rattle.ak_membership.specs.Tick.{silent, decided, leads, has_settled, is_process}
-use Rattle.ak_membership.specs.MembershipContracts.{Makes, Answers, IsAccepted, IsCounting, IsWatching, KnowsItself, or_no_memory}
+use Rattle.ak_membership.specs.MembershipContracts.{Makes, Answers, IsAccepted, IsWatching, KnowsItself, or_no_memory}
 use Rattle.ak_membership.proofs.MayMake.{leaving_may, down_may, downed_may, founding_may, leading_may}
 use Rattle.ak_membership.proofs.MayRise.{observing_may}
 
 -- what a call that only memory can fail answered, as that of a rule that is not refused
 pub answered_or : (rule : Result Outcome MemberFault) (o : Outcome) (old new : MembershipState) (change : Result Change AllocError) (result : Result Change MemberFault)
-    → result ≡ or_no_memory change → rule ≡ Ok o → IfOk change (λ c. Makes o new c) → (free : Type 0) → (IsCounting old → free) → OnErr change (IsCounting old × (new ≡ old)) → Answers (free × IsAccepted rule) rule old result new
-answered_or rule o old new (Ok change) result told is ok free may err = subst (λ r. Answers (free × IsAccepted rule) rule old r new) (sym told) (o, is, ok)
-answered_or rule o old new (Err error) result told is ok free may err = subst (λ r. Answers (free × IsAccepted rule) rule old r new) (sym told) ((may err.0, (o, is)), err.1)
+    → result ≡ or_no_memory change → rule ≡ Ok o → IfOk change (λ c. Makes o new c) → (cause free : Type 0) → (cause → free) → OnErr change (cause × (new ≡ old)) → Answers (free × IsAccepted rule) rule old result new
+answered_or rule o old new (Ok change) result told is ok cause free may err = subst (λ r. Answers (free × IsAccepted rule) rule old r new) (sym told) (o, is, ok)
+answered_or rule o old new (Err error) result told is ok cause free may err = subst (λ r. Answers (free × IsAccepted rule) rule old r new) (sym told) ((may err.0, (o, is)), err.1)
 
 -- ---- leaving and downing
 module _ (who : UniqueModel) (m : MembershipState) where

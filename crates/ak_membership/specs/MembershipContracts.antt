@@ -1,11 +1,11 @@
 -- Words of the contracts of a membership's calls.
 use Rattle.std.specs.declared.alloc.AllocError.{AllocError}
-use Rattle.std.specs.Prelude.{◌≡◌, ◌≢◌, ◌⊎◌, Bool, true, false, not, is_some, Result, Ok, Err, ⊤, IsTrue}
+use Rattle.std.specs.Prelude.{◌≡◌, ◌≢◌, ◌⊎◌, Bool, true, false, not, [], is_some, Result, Ok, Err, ⊤, IsTrue}
 use Rattle.std.specs.FinMap as map
 use Rattle.std.specs.Coded.{Coded, coded_ℕ}
 use Rattle.ak_address.specs.Changed.{keys_of}
 use Rattle.ak_address.specs.Unique.{UniqueModel, coded_unique}
-use Rattle.ak_address.specs.Uniques.{no_one}
+use Rattle.ak_address.specs.Uniques.{no_one, has}
 use Rattle.ak_clock.specs.Version.{Counts, Covers}
 use Rattle.ak_detector.specs.Detector.{watch_ring, silent}
 use Rattle.ak_gossip.specs.declared.gossip.Received.{Received}
@@ -20,7 +20,7 @@ use Rattle.ak_membership.specs.declared.change.Closing.{Closing}
 use Rattle.ak_membership.specs.declared.change.MemberFault.{MemberFault}
 use Rattle.ak_membership.specs.declared.change.MemberFault.TheVariants.{NotUp, UnknownMember, NotMember, Unlisted, ForeignCount, TooManyUniques, NoMemory}
 use Rattle.ak_membership.specs.declared.state.MembershipState.{MembershipState}
-use Rattle.ak_membership.specs.Membership.{Outcome, started, knowing, is_gone, may_count}
+use Rattle.ak_membership.specs.Membership.{Outcome, started, knowing, is_gone, may_count, has_member_beside, replaced}
 use Rattle.ak_membership.specs.Closing.{is_noted, is_viewed, notes}
 
 -- the version that was last shown is stored as its counts
@@ -104,13 +104,19 @@ Receives incoming old (Err (gossip.NoMemory _)) new = new ≡ old
 abbrev pub IsCounting : MembershipState → Type 0
 IsCounting m = IsTrue (may_count m)
 
--- a process that asks to join may become a member: it is no member and no tombstone, and a number is left
+-- An update may be made for a process that asks to join: it is no member and no tombstone, a number is left, and where members are
+-- at its address, one of them is to go Down.
 abbrev pub MayAdmit : UniqueModel → MembershipState → Type 0
-MayAdmit from m = IsCounting m × (is_known m.gossip.view.standings from ≡ false)
+MayAdmit from m =
+    IsCounting m × (is_known m.gossip.view.standings from ≡ false) × (IsTrue (has_member_beside from m.gossip.view.standings) → replaced from m.gossip.view.standings ≢ [])
 
 -- a member may be downed: it is not Down, and a number is left
 abbrev pub MayDown : UniqueModel → MembershipState → Type 0
 MayDown who m = IsCounting m × (is_member_with is_down m.gossip.view.standings who ≡ false)
+
+-- a process may be confirmed: it is a member, and not among the confirmed yet
+abbrev pub MayConfirm : UniqueModel → MembershipState → Type 0
+MayConfirm who m = IsTrue (is_member m.gossip.view.standings who) × (has m.confirmed who ≡ false)
 
 -- the node does not know itself, neither as a member nor as a tombstone
 abbrev pub IsUnknown : MembershipState → Type 0

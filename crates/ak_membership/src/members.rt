@@ -1,4 +1,4 @@
-ghost use Rattle.std.specs.Prelude.{◌≡◌, ◌<◌, ◌^◌, ◌∷◌, [], IfOk, slice_get, option_copied, option_map, option_to_list};
+ghost use Rattle.std.specs.Prelude.{◌≡◌, ◌≢◌, ◌<◌, ◌^◌, ◌∷◌, [], IfOk, OnErr, slice_get, option_copied, option_map, option_to_list};
 ghost use Rattle.std.specs.Prelude as list;
 ghost use Rattle.std.specs.FinMap as map;
 ghost use Rattle.std.specs.List.{list_any};
@@ -92,7 +92,8 @@ pub(crate) fn downed_beside(
     who: &Unique,
     members: &Members,
 ) -> Result<Effects, AllocError>
-    ensures { IfOk result (λ effects. effects ≡ rules.replaced who.now members.now) }
+    ensures ok { IfOk result (λ effects. effects ≡ rules.replaced who.now members.now) }
+    ensures memory { OnErr result (rules.replaced who.now members.now ≢ []) }
 {
     let mut effects = Effects::empty(alloc);
     'pairs: for pair in 0..members.uniques() {

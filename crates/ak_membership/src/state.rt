@@ -6,7 +6,7 @@ ghost use Rattle.ak_member.specs.Standing as standing;
 ghost use Rattle.ak_settings.specs.Settings.{is_listed};
 ghost use Rattle.ak_leader.specs.Leader as leads;
 ghost use Rattle.ak_membership.specs.Membership as rules;
-ghost use Rattle.ak_membership.specs.MembershipContracts.{Makes, Answers, IsAccepted, IsCounting, IsKnownIn, IsUnknown, MayAdmit, MayDown, RestsIf, LeavesAtRest, IsWatching, KnowsItself, Receives, or_no_memory};
+ghost use Rattle.ak_membership.specs.MembershipContracts.{Makes, Answers, IsAccepted, IsCounting, IsKnownIn, IsUnknown, MayAdmit, MayConfirm, MayDown, RestsIf, LeavesAtRest, IsWatching, KnowsItself, Receives, or_no_memory};
 ghost use Rattle.ak_membership.specs.Sight.{is_news};
 ghost use Rattle.ak_membership.specs.Tick as ticks;
 
@@ -295,7 +295,7 @@ impl MembershipState {
     fn replace(&mut self, alloc: Global, from: &Unique) -> Result<Change, AllocError>
         requires { IsTrue (rules.is_member self.old) }
         ensures ok { IfOk result (λ change. Makes (rules.update_any (rules.replaced from.now self.old.gossip.view.standings) self.old) self.new change) }
-        ensures err { OnErr result (IsCounting self.old × (self.new ≡ self.old)) }
+        ensures err { OnErr result ((IsCounting self.old × (rules.replaced from.now self.old.gossip.view.standings ≢ [])) × (self.new ≡ self.old)) }
     {
         if !self.may_count() {
             return Ok(unchanged(alloc));
@@ -416,7 +416,7 @@ impl MembershipState {
     pub(crate) fn on_confirmed(&mut self, alloc: Global, from: &Unique) -> Result<(), AllocError>
         ensures ok { OnOk result (self.new ≡ rules.on_confirmed from.now self.old) }
         ensures err { OnErr result (self.new ≡ self.old) }
-        ensures memory { OnErr result (IsTrue (standing.is_member self.old.gossip.view.standings from.now)) }
+        ensures memory { OnErr result (MayConfirm from.now self.old) }
     {
         if self.has_member(from) {
             return self.confirmed.insert(alloc, from);

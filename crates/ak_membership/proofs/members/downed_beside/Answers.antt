@@ -2,8 +2,10 @@ use Rattle.std.specs.FinMap as map
 use Rattle.std.proofs.Common.{◌≡◌, ◌++◌, ◌+◌, [], ◌∷◌, drop, Some, None, sym, ap, ◌∙◌, append-nil, arith}
 use Rattle.ak_member.specs.declared.effect.Effect.TheVariants.{Rise}
 use Rattle.ak_member.specs.declared.status.Status.TheVariants.{Down}
+use Rattle.ak_address.proofs.Failing.{on_err}
 use Rattle.ak_downing.proofs.SideLemmas.{downed_among, downed_next, downed_end}
 use Rattle.ak_membership.specs.Membership.{is_beside, replaced}
+use Rattle.ak_membership.proofs.EffectLemmas.{some_downed}
 use Rattle.ak_membership.proofs.members.downed_beside.Goals as goal
 use Rattle.ak_membership.proofs.members.downed_beside.Goals.{in-Some+in_ok-copy+in_ok-push, in_default}
 
@@ -22,5 +24,13 @@ pairs-preserved c =
           ap (λ effects. effects ++ rest) (w.effects-is ∙ sym (append-nil c.pairs.effects)) ∙ downed_next test es c.pairs.pair None c.pairs.effects total w.in_default.ensures c.pairs.invariant
     ]
 
-pub returns : goal.returns
-returns c = downed_end (is_beside c.args.who.now) (map.entries c.args.members.now) c.pairs.pair c.pairs.effects _ (let past = map.len-entries c.args.members.now in omega arith) c.pairs.invariant
+pub returns-clause-ok : goal.returns-clause-ok
+returns-clause-ok c = downed_end (is_beside c.args.who.now) (map.entries c.args.members.now) c.pairs.pair c.pairs.effects _ (let past = map.len-entries c.args.members.now in omega arith) c.pairs.invariant
+
+pub returns-in_err-copy-clause-memory : goal.returns-in_err-copy-clause-memory
+returns-in_err-copy-clause-memory c =
+    on_err _ (some_downed (is_beside c.args.who.now) (map.entries c.args.members.now) c.pairs.pair (Rise c.in-Some.unique.now Down 0) c.pairs.effects _ c.in-Some.ensures c.pairs.invariant)
+
+pub returns-in_err-push-clause-memory : goal.returns-in_err-push-clause-memory
+returns-in_err-push-clause-memory c =
+    on_err _ (some_downed (is_beside c.args.who.now) (map.entries c.args.members.now) c.pairs.pair (Rise c.in-Some.unique.now Down 0) c.pairs.effects _ c.in-Some.ensures c.pairs.invariant)

@@ -12,4 +12,4 @@ raise-requires c = may_down c.args.self.now c.invariant.ensures c.args.who.now c
 pub returns : goal.returns
 returns c =
     answered_or _ _ c.args.self.now c.raise.new.self c.raise.result c.or_no_memory.result c.or_no_memory.ensures
-    (downs c.args.who.now c.args.self.now c.if-not-is_member.ensures c.if-not-has_member.ensures c.if-is_down.ensures) c.raise.ensures.ok _ (λ counting. (counting, sym c.if-is_down.ensures)) c.raise.ensures.err
+    (downs c.args.who.now c.args.self.now c.if-not-is_member.ensures c.if-not-has_member.ensures c.if-is_down.ensures) c.raise.ensures.ok _ _ (λ counting. (counting, sym c.if-is_down.ensures)) c.raise.ensures.err

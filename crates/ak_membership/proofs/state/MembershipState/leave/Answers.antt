@@ -12,4 +12,4 @@ pub returns : goal.returns
 returns c =
     let up = subst (λ (s : Standings). true ≡ is_member_with is_up s c.args.who.now) c.members.ensures c.if-not-is_up.ensures in
     answered_or _ _ c.args.self.now c.raise.new.self c.raise.result c.or_no_memory.result c.or_no_memory.ensures
-    (leaves c.args.who.now c.args.self.now c.if-not-is_member.ensures c.if-not-has_member.ensures up) c.raise.ensures.ok _ (λ counting. counting) c.raise.ensures.err
+    (leaves c.args.who.now c.args.self.now c.if-not-is_member.ensures c.if-not-has_member.ensures up) c.raise.ensures.ok _ _ (λ counting. counting) c.raise.ensures.err

@@ -1,4 +1,4 @@
-use Rattle.std.proofs.Common.{refl, ap, sym}
+use Rattle.std.proofs.Common.{refl, ap, sym, ◌∙◌, true≢false}
 use Rattle.ak_membership.specs.declared.change.Change.{Change}
 use Rattle.ak_membership.specs.declared.change.Reply.TheVariants.{Welcome}
 use Rattle.ak_membership.proofs.RuleLemmas.{at_unlisted, at_member, at_tombstone, at_beside, at_free, answered_or}
@@ -18,9 +18,9 @@ returns-then-knows c =
 pub returns-then-has_member_beside : goal.returns-then-has_member_beside
 returns-then-has_member_beside c =
     answered_or _ _ c.args.self.now c.replace.new.self c.replace.result c.or_no_memory.result c.or_no_memory.ensures
-    (at_beside c.args.from.now c.args.self.now c.if-not-is_member.ensures c.if-not-is_listed.ensures c.if-has_member.ensures c.if-knows.ensures c.if-has_member_beside.ensures) c.replace.ensures.ok _ (λ counting. (counting, sym c.if-knows.ensures)) c.replace.ensures.err
+    (at_beside c.args.from.now c.args.self.now c.if-not-is_member.ensures c.if-not-is_listed.ensures c.if-has_member.ensures c.if-knows.ensures c.if-has_member_beside.ensures) c.replace.ensures.ok _ _ (λ cause. (cause.0, sym c.if-knows.ensures, λ beside. cause.1)) c.replace.ensures.err
 
 pub returns : goal.returns
 returns c =
     answered_or _ _ c.args.self.now c.admit.new.self c.admit.result c.or_no_memory-2.result c.or_no_memory-2.ensures
-    (at_free c.args.from.now c.args.self.now c.if-not-is_member.ensures c.if-not-is_listed.ensures c.if-has_member.ensures c.if-knows.ensures c.if-has_member_beside.ensures c.if-is_full.ensures) c.admit.ensures.ok _ (λ counting. (counting, sym c.if-knows.ensures)) c.admit.ensures.err
+    (at_free c.args.from.now c.args.self.now c.if-not-is_member.ensures c.if-not-is_listed.ensures c.if-has_member.ensures c.if-knows.ensures c.if-has_member_beside.ensures c.if-is_full.ensures) c.admit.ensures.ok _ _ (λ counting. (counting, sym c.if-knows.ensures, λ beside. absurd (true≢false (sym (c.if-has_member_beside.ensures ∙ beside))))) c.admit.ensures.err
