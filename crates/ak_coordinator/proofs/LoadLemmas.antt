@@ -1,5 +1,5 @@
 -- Walks along the pairs of a table, and along the processes of a set.
-use Rattle.std.proofs.Common.{◌≡◌, ◌≢◌, ◌⊎◌, inl, inr, ℕ, ◌+◌, ◌≤◌, Bool, true, false, cond, List, [], ◌∷◌, ◌++◌, map, length, drop, slice_get, Option, None, Some, option_to_list, unwrap_or, refl, sym, ap, ◌∙◌, subst, arith}
+use Rattle.std.proofs.Common.{◌≡◌, ◌≢◌, ◌⊎◌, inl, inr, ℕ, ◌+◌, ◌≤◌, Bool, true, false, true≢false, cond, ◌||◌, List, [], ◌∷◌, ◌++◌, map, length, drop, slice_get, Option, None, Some, option_to_list, unwrap_or, refl, sym, ap, ◌∙◌, subst, arith}
 use Rattle.std.proofs.lemmas.List.{map-append, length-map}
 use Rattle.std.specs.FinMap as finmap
 use Rattle.std.specs.Ordering.{is_eq}
@@ -12,7 +12,8 @@ use Rattle.ak_member.specs.declared.status.Status.{Status}
 use Rattle.ak_member.specs.Standing.{member_pairs}
 use Rattle.ak_member.proofs.MemberLemmas.{KeepsPairs, drop_from, keeps_members, kept_pair}
 use Rattle.ak_member.proofs.Folds.{keeps_mapped, keeps_filtered, keeps_all}
-use Rattle.std.specs.List.{filter}
+use Rattle.std.specs.List.{filter, list_any}
+use Rattle.std.proofs.lemmas.Bool.{or_parts}
 use Rattle.ak_coordinator.specs.Table.{Home, ShardEntry, ShardTable}
 use Rattle.ak_coordinator.specs.Entry.{is_at, is_owner}
 use Rattle.ak_coordinator.specs.Coordinator.{load_of, may_host, loads_among}
@@ -87,3 +88,27 @@ counted_few counts after entry is who i few =
     at_most_one : (b : Bool) → length (cond b (entry ∷ []) []) ≤ 1
     at_most_one true = omega arith
     at_most_one false = omega arith
+
+-- ---- where there are loads
+module _ {X Y : Type 0} (p : X → Bool) (f : X → Y) where
+  -- nobody passes, and nothing is made
+  pub nothing_made : (xs : List X) → list_any p xs ≡ false → [] ≡ map f (filter p xs)
+  nothing_made [] none = refl
+  nothing_made (x ∷ xs) none =
+      let parts = or_parts (p x) (list_any p xs) none in
+      nothing_made xs parts.1 ∙ ap (λ b. map f (cond b (x ∷ filter p xs) (filter p xs))) (sym parts.0)
+
+  pub something_made : (xs : List X) → list_any p xs ≡ true → map f (filter p xs) ≢ []
+  something_made [] some none = true≢false (sym some)
+  something_made (x ∷ xs) some none = by_test (p x) (something_made xs) some none
+    where
+      by_test : (b : Bool) → (list_any p xs ≡ true → map f (filter p xs) ≢ []) → (b || list_any p xs) ≡ true → map f (cond b (x ∷ filter p xs) (filter p xs)) ≡ [] → ⊥
+      by_test true rest some none = let e = ap length none in omega arith
+      by_test false rest some none = rest some none
+
+-- where nobody may host there is no load, and where somebody may there is one
+pub no_loads : (table : ShardTable) (granted : UniqueSet) (pairs : List (UniqueModel × Standing)) → list_any (may_host granted) (member_pairs pairs) ≡ false → [] ≡ loads_among table granted pairs
+no_loads table granted pairs none = nothing_made (may_host granted) (λ (pair : UniqueModel × (Status × ℕ)). load_of table pair.0) (member_pairs pairs) none
+
+pub some_loads : (table : ShardTable) (granted : UniqueSet) (pairs : List (UniqueModel × Standing)) → list_any (may_host granted) (member_pairs pairs) ≡ true → loads_among table granted pairs ≢ []
+some_loads table granted pairs some = something_made (may_host granted) (λ (pair : UniqueModel × (Status × ℕ)). load_of table pair.0) (member_pairs pairs) some

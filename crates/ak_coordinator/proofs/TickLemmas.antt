@@ -58,24 +58,6 @@ none_leaves s shard (entry ∷ table) none =
     none_leaves s (shard + 1) table none
     ∙ ap (λ b. cond b (Some shard) (first_from (shard + 1) (leaves_exiting s) table)) (sym (and_right (not (moves entry)) (has_exiting_home s entry.home) (not_at_home s entry.home none)))
 
--- the pairs from a pair on
-from_pair : (pairs : List (UniqueModel × Standing)) (i : ℕ) → (list_any is_exiting_pair (member_pairs (option_to_list (slice_get pairs i))) || list_any is_exiting_pair (member_pairs (drop (i + 1) pairs))) ≡ list_any is_exiting_pair (member_pairs (drop i pairs))
-from_pair pairs i =
-    sym (ap (list_any is_exiting_pair) (kept_from member_pairs keeps_members pairs i)
-    ∙ list_any-append is_exiting_pair (member_pairs (option_to_list (slice_get pairs i))) (member_pairs (drop (i + 1) pairs)))
-
-pub next_exiting : (pairs : List (UniqueModel × Standing)) (i : ℕ) (b : Bool) → b ≡ list_any is_exiting_pair (member_pairs (option_to_list (slice_get pairs i))) → b ≡ false
-    → list_any is_exiting_pair (member_pairs (drop (i + 1) pairs)) ≡ list_any is_exiting_pair (member_pairs (drop i pairs))
-next_exiting pairs i b is none =
-    ap (λ b. b || list_any is_exiting_pair (member_pairs (drop (i + 1) pairs))) (sym none ∙ is)
-    ∙ from_pair pairs i
-
-pub found_exiting : (pairs : List (UniqueModel × Standing)) (i : ℕ) (b : Bool) → b ≡ list_any is_exiting_pair (member_pairs (option_to_list (slice_get pairs i))) → b ≡ true
-    → true ≡ list_any is_exiting_pair (member_pairs (drop i pairs))
-found_exiting pairs i b is some =
-    ap (λ b. b || list_any is_exiting_pair (member_pairs (drop (i + 1) pairs))) (sym some ∙ is)
-    ∙ from_pair pairs i
-
 -- nobody was removed, and no shard changes
 no_tombstone : (pairs : List (UniqueModel × Standing)) (who : UniqueModel) → tombstone_pairs pairs ≡ [] → tombstone_of (finmap.find unique_cmp who pairs) ≡ None
 no_tombstone [] who none = refl
@@ -113,18 +95,32 @@ none_noticed margin settled (entry ∷ table) none =
     ∙ ap (λ e. e ∷ map (noticed margin settled) table) (sym (ap (λ b. cond b (freed entry) (record entry { waits = unfinished margin settled entry.waits })) (lives_at_home margin settled entry.home none)
     ∙ ap (λ (w : UniqueSet). record entry { waits = w }) (ap set_of (all_left margin settled (in_order entry.waits) none) ∙ set_of-in_order entry.waits)))
 
--- what is at a pair says whether the member there, where there is one, is Exiting
-pub exiting_there : {M : Type 0} (f : M → UniqueModel × (Status × ℕ)) (pairs : List (UniqueModel × Standing)) (i : ℕ) (found : Option M) (member : M) → found ≡ Some member
-    → option_to_list (option_map f found) ≡ member_pairs (option_to_list (slice_get pairs i)) → is_exiting (f member).1.0 ≡ list_any is_exiting_pair (member_pairs (option_to_list (slice_get pairs i)))
-exiting_there f pairs i found member is at = alone (is_exiting (f member).1.0) ∙ ap (list_any is_exiting_pair) (ap (λ r. option_to_list (option_map f r)) (sym is) ∙ at)
-  where
-    alone : (b : Bool) → b ≡ (b || false)
-    alone true = refl
-    alone false = refl
+-- ---- a walk that looks for a member that passes a test
+module _ (p : UniqueModel × (Status × ℕ) → Bool) (pairs : List (UniqueModel × Standing)) (i : ℕ) where
+  -- the pairs from a pair on
+  from_pair : (list_any p (member_pairs (option_to_list (slice_get pairs i))) || list_any p (member_pairs (drop (i + 1) pairs))) ≡ list_any p (member_pairs (drop i pairs))
+  from_pair =
+      sym (ap (list_any p) (kept_from member_pairs keeps_members pairs i)
+      ∙ list_any-append p (member_pairs (option_to_list (slice_get pairs i))) (member_pairs (drop (i + 1) pairs)))
 
-pub nobody_there : {M : Type 0} (f : M → UniqueModel × (Status × ℕ)) (pairs : List (UniqueModel × Standing)) (i : ℕ) (found : Option M) → found ≡ None
-    → option_to_list (option_map f found) ≡ member_pairs (option_to_list (slice_get pairs i)) → false ≡ list_any is_exiting_pair (member_pairs (option_to_list (slice_get pairs i)))
-nobody_there f pairs i found none at = ap (list_any is_exiting_pair) (ap (λ r. option_to_list (option_map f r)) (sym none) ∙ at)
+  pub next_passing : (b : Bool) → b ≡ list_any p (member_pairs (option_to_list (slice_get pairs i))) → b ≡ false → list_any p (member_pairs (drop (i + 1) pairs)) ≡ list_any p (member_pairs (drop i pairs))
+  next_passing b is none = ap (λ b. b || list_any p (member_pairs (drop (i + 1) pairs))) (sym none ∙ is) ∙ from_pair
+
+  pub found_passing : (b : Bool) → b ≡ list_any p (member_pairs (option_to_list (slice_get pairs i))) → b ≡ true → true ≡ list_any p (member_pairs (drop i pairs))
+  found_passing b is some = ap (λ b. b || list_any p (member_pairs (drop (i + 1) pairs))) (sym some ∙ is) ∙ from_pair
+
+  -- what is at a pair says whether the member there, where there is one, passes
+  pub passing_there : {M : Type 0} (f : M → UniqueModel × (Status × ℕ)) (found : Option M) (member : M) → found ≡ Some member
+      → option_to_list (option_map f found) ≡ member_pairs (option_to_list (slice_get pairs i)) → p (f member) ≡ list_any p (member_pairs (option_to_list (slice_get pairs i)))
+  passing_there f found member is at = alone (p (f member)) ∙ ap (list_any p) (ap (λ r. option_to_list (option_map f r)) (sym is) ∙ at)
+    where
+      alone : (b : Bool) → b ≡ (b || false)
+      alone true = refl
+      alone false = refl
+
+  pub nobody_there : {M : Type 0} (f : M → UniqueModel × (Status × ℕ)) (found : Option M) → found ≡ None
+      → option_to_list (option_map f found) ≡ member_pairs (option_to_list (slice_get pairs i)) → false ≡ list_any p (member_pairs (option_to_list (slice_get pairs i)))
+  nobody_there f found none at = ap (list_any p) (ap (λ r. option_to_list (option_map f r)) (sym none) ∙ at)
 
 -- ---- where memory ran out
 pub on_err : {X E P : Type 0} (r : Result X E) → P → OnErr r P

@@ -1,9 +1,9 @@
 -- The tick of a coordinator (Akka's Cluster Sharding, "Shard rebalancing": a hand-off begins with every region, then the home
 -- hands the shard off; that a shard leaves an Exiting home first, and how many move at once, are this project's).
-use Rattle.std.specs.Prelude.{◌≡◌, ◌≤◌, ◌⊎◌, ℕ, ◌+◌, ◌==◌, nat_lt, Bool, false, not, ◌&&◌, List, [], ◌∷◌, ◌++◌, length, map, take, drop, Option, None, Some, if◌then◌else◌}
+use Rattle.std.specs.Prelude.{◌≡◌, ◌≢◌, ◌≤◌, ◌<◌, ◌⊎◌, ℕ, ◌+◌, ◌==◌, nat_lt, Bool, false, not, ◌&&◌, List, [], ◌∷◌, ◌++◌, length, map, take, drop, Option, None, Some, if◌then◌else◌}
 use Rattle.std.specs.List.{filter}
 use Rattle.ak_address.specs.Unique.{UniqueModel}
-use Rattle.ak_address.specs.Uniques.{UniqueSet, how_many, in_order, set_of}
+use Rattle.ak_address.specs.Uniques.{UniqueSet, no_one, how_many, in_order, set_of}
 use Rattle.ak_allocation.specs.declared.load.Load.{Load}
 use Rattle.ak_allocation.specs.Allocation.{overloaded}
 use Rattle.ak_member.specs.Standing.{Standings, is_member_with, is_exiting}
@@ -130,3 +130,19 @@ orders_of shard entry = orders_at shard entry entry.home
 abbrev pub orders_from : ℕ → List ShardEntry → List Order
 orders_from shard [] = []
 orders_from shard (entry ∷ entries) = orders_of shard entry ++ orders_from (shard + 1) entries
+
+-- ---- where a tick takes memory
+-- of some shard, nodes are waited for
+abbrev pub AnyWaited : ShardTable → Type 0
+AnyWaited table = (shard : ℕ) × ((entry_of table shard).waits ≢ no_one)
+
+-- one more shard may move, and there is a load to be compared
+abbrev pub ComparesLoads : UniqueSet → SettledView → ℕ → ShardTable → Type 0
+ComparesLoads granted settled limit table = (moving table < limit) × (loads_of table granted (standings_of settled) ≢ [])
+
+-- nodes are still waited for, loads are compared, or something is ordered
+abbrev pub TickTakesRoom : UniqueSet → SettledView → ℕ → ℕ → ℕ → ShardTable → Type 0
+TickTakesRoom granted settled margin threshold limit table =
+    AnyWaited (map (noticed margin settled) table)
+    ⊎ ComparesLoads granted settled limit (map (noticed margin settled) table)
+    ⊎ (orders_from 0 (after_tick granted settled margin threshold limit table) ≢ [])

@@ -1,8 +1,8 @@
-ghost use Rattle.std.specs.Prelude.{◌≡◌, ◌≤◌, ◌<◌, ◌⊎◌, length, replicate, IsTrue, Contains, IfOk, OnOk, OnErr, option_copied};
+ghost use Rattle.std.specs.Prelude.{◌≡◌, ◌≢◌, ◌≤◌, ◌<◌, ◌⊎◌, [], length, replicate, IsTrue, Contains, IfOk, OnOk, OnErr, option_copied};
 ghost use Rattle.ak_shard_id.specs.declared.report.Report.{Report};
 ghost use Rattle.ak_settled.specs.Settled.{standings_of};
 ghost use Rattle.ak_coordinator.specs.Entry.{unplaced, homing, NamesHome, after_get_home, after_started, is_last_ack, after_ack, freed, awaits_stop, allotted, after_allotment};
-ghost use Rattle.ak_coordinator.specs.Tick.{after_tick, orders_from, IsPartlyTicked};
+ghost use Rattle.ak_coordinator.specs.Tick.{after_tick, orders_from, IsPartlyTicked, TickTakesRoom};
 ghost use Rattle.ak_coordinator.specs.Coordinator.{entry_of, with_entry, learnt_all, IsPartlyLearnt, SaysHosted, stopped_placed, after_stopped, loads_of};
 
 use crate::entry::{Entry, Homing, Placed};
@@ -122,8 +122,8 @@ impl Coordinator {
     /// A node does not host the shard any more. Where the shard moves with that number from this node, it is free now, and is
     /// placed at the least of these loads, of which the node's has one shard less, with the last number plus one. The answer
     /// is the new home; none exactly where the stop was not awaited, or there is no load, or that number would pass
-    /// 4611686018427387904. Only memory can fail, where the stop was awaited, and then nothing has changed, or the shard is
-    /// free.
+    /// 4611686018427387904. Only memory can fail, where the stop was awaited and there is a load, and then nothing has changed,
+    /// or the shard is free.
     pub fn on_stopped(
         &mut self,
         alloc: Global,
@@ -136,6 +136,7 @@ impl Coordinator {
         ensures placed { IfOk result (λ placed. placed ≡ stopped_placed from.now number loads.now (entry_of self.old shard)) }
         ensures after { OnOk result (self.new ≡ with_entry self.old shard (after_stopped from.now number loads.now (entry_of self.old shard))) }
         ensures awaited { OnErr result (IsTrue (awaits_stop from.now number (entry_of self.old shard))) }
+        ensures memory { OnErr result (loads.now ≢ []) }
         ensures lost { OnErr result ((self.new ≡ self.old) ⊎ (self.new ≡ with_entry self.old shard (freed (entry_of self.old shard)))) }
     {
         if !self.entries[shard as usize].awaits_stop(from, number) {
@@ -146,14 +147,15 @@ impl Coordinator {
     }
 
     /// How many shards have their home at each Up member of the settled view that has granted, in the order of processes;
-    /// nobody where there is no settled view. Only memory can fail.
+    /// nobody where there is no settled view. Only memory can fail, and only where there is such a member.
     pub fn loads(
         &self,
         alloc: Global,
         granted: &Uniques,
         settled: &Settled,
     ) -> Result<Vec<Load>, AllocError>
-        ensures { IfOk result (λ loads. loads.items ≡ loads_of self.now granted.now (standings_of settled.now.view)) }
+        ensures ok { IfOk result (λ loads. loads.items ≡ loads_of self.now granted.now (standings_of settled.now.view)) }
+        ensures memory { OnErr result (loads_of self.now granted.now (standings_of settled.now.view) ≢ []) }
     {
         loads_in(alloc, &self.entries, granted, settled.members())
     }
@@ -163,8 +165,9 @@ impl Coordinator {
     /// first one that does not move of the node that has to give one away; it waits for every node that has granted and is
     /// not finished. Then for each shard in ascending order: every node that is waited for is told that the hand-off begins;
     /// where nobody is left, the home is told to hand it off; and a home that has not started is told to host it. Only memory
-    /// can fail: then the first of the shards were looked at for finished nodes, and nothing more was done; or all was done, and
-    /// only the orders are missing.
+    /// can fail, and only where nodes are still waited for, where one more shard may move and there is a load, or where
+    /// something is ordered: then the first of the shards were looked at for finished nodes, and nothing more was done; or all
+    /// was done, and only the orders are missing.
     pub fn on_tick(
         &mut self,
         alloc: Global,
@@ -175,6 +178,7 @@ impl Coordinator {
         ensures after { OnOk result (self.new ≡ after_tick granted.now settled.now.view settings.now.margin settings.now.threshold settings.now.limit self.old) }
         ensures orders { IfOk result (λ orders. orders.items ≡ orders_from 0 (after_tick granted.now settled.now.view settings.now.margin settings.now.threshold settings.now.limit self.old)) }
         ensures lost { OnErr result (IsPartlyTicked granted.now settled.now.view settings.now.margin settings.now.threshold settings.now.limit self.old self.new) }
+        ensures memory { OnErr result (TickTakesRoom granted.now settled.now.view settings.now.margin settings.now.threshold settings.now.limit self.old) }
     {
         notice_each(alloc, &mut self.entries, settled, settings.margin)?;
         begin_one(alloc, &mut self.entries, granted, settled, settings)?;
@@ -217,6 +221,7 @@ fn stop(alloc: Global, entry: &mut Entry, loads: &[Load]) -> Result<Option<Place
     ensures placed { IfOk result (λ placed. placed ≡ allotted loads.now (freed entry.old)) }
     ensures after { IfOk result (λ placed. entry.new ≡ after_allotment placed (freed entry.old)) }
     ensures lost { OnErr result (entry.new ≡ freed entry.old) }
+    ensures memory { OnErr result (loads.now ≢ []) }
 {
     entry.free(alloc);
     entry.allocate(alloc, loads)

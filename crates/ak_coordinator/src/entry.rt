@@ -1,6 +1,6 @@
-ghost use Rattle.std.specs.Prelude.{◌≡◌, IfOk, OnOk, OnErr, option_copied, is_some, option_map, IsSome, IsTrue};
+ghost use Rattle.std.specs.Prelude.{◌≡◌, ◌≢◌, IfOk, OnOk, OnErr, option_copied, is_some, option_map, IsSome, IsTrue};
 ghost use Rattle.ak_address.specs.Unique.{UniqueModel};
-ghost use Rattle.ak_address.specs.Uniques.{UniqueSet};
+ghost use Rattle.ak_address.specs.Uniques.{UniqueSet, no_one};
 ghost use Rattle.ak_coordinator.specs.Entry.{unplaced, moves, is_home, is_at, claims, learnt, beats, allotted, after_allotment, homing, NamesHome, after_get_home, after_started, is_awaited, is_last_ack, after_ack, freed, awaits_stop};
 ghost use Rattle.ak_coordinator.specs.Tick.{has_finished_home, noticed, leaves_exiting, leaves_node, begun, hurried};
 
@@ -259,7 +259,8 @@ impl Entry {
         }
     }
 
-    // A shard whose home is finished is free, and finished nodes are waited for no more.
+    // A shard whose home is finished is free, and finished nodes are waited for no more. Takes memory only where others still
+    // are.
     #[tactic(auto, using(crate::proofs::TickLemmas::nothing_noticed))]
     pub(crate) fn notice(
         &mut self,
@@ -269,6 +270,7 @@ impl Entry {
     ) -> Result<(), AllocError>
         ensures ok { OnOk result (self.new ≡ noticed margin settled.now.view self.old) }
         ensures err { OnErr result (self.new ≡ self.old) }
+        ensures memory { OnErr result ((noticed margin settled.now.view self.old).waits ≢ no_one) }
     {
         if self.has_finished_home(settled, margin) {
             self.free(alloc);

@@ -1,11 +1,12 @@
-ghost use Rattle.std.specs.Prelude.{◌≡◌, ◌+◌, ◌≤◌, ◌<◌, ◌++◌, ◌∷◌, [], length, IfOk, OnOk, Ok, option_to_list, slice_get};
+ghost use Rattle.std.specs.Prelude.{◌≡◌, ◌≢◌, ◌+◌, ◌≤◌, ◌<◌, ◌++◌, ◌∷◌, [], length, IfOk, OnOk, OnErr, Ok, option_to_list, slice_get};
 ghost use Rattle.std.specs.Prelude as list;
+ghost use Rattle.std.specs.List.{list_any};
 ghost use Rattle.std.specs.FinMap as map;
 ghost use Rattle.ak_address.specs.Counters.{counter};
 ghost use Rattle.ak_address.specs.Pairs.{index};
 ghost use Rattle.ak_address.specs.Unique.{UniqueModel, unique_cmp};
-ghost use Rattle.ak_member.specs.Standing.{Standings};
-ghost use Rattle.ak_coordinator.specs.Coordinator.{less_one, loads_among};
+ghost use Rattle.ak_member.specs.Standing.{member_pairs, members_of};
+ghost use Rattle.ak_coordinator.specs.Coordinator.{less_one, may_host, loads_among};
 ghost use Rattle.ak_coordinator.specs.Homes.{with_home, AreHomes, loads_counted};
 
 use crate::entry::Entry;
@@ -33,13 +34,14 @@ fn push_lightened(
     Ok(())
 }
 
-// The loads, of which that of the node has one shard less.
+// The loads, of which that of the node has one shard less. Takes memory only where there is one.
 pub(crate) fn lightened(
     alloc: Global,
     loads: &[Load],
     from: &Unique,
 ) -> Result<Vec<Load>, AllocError>
-    ensures { IfOk result (λ lightened. lightened.items ≡ list.map (less_one from.now) loads.now) }
+    ensures ok { IfOk result (λ lightened. lightened.items ≡ list.map (less_one from.now) loads.now) }
+    ensures memory { OnErr result (loads.now ≢ []) }
 {
     let mut lightened = Vec::with_capacity(alloc, loads.len())?;
     'loads: for load in loads {
@@ -158,7 +160,29 @@ fn loads_by(
     Ok(loads)
 }
 
-// The loads of the Up members that have granted.
+// Whether the member at a pair, where there is one, is Up and has granted.
+fn hosts_at(granted: &Uniques, members: &Members, pair: usize) -> bool
+    ensures { result ≡ list_any (may_host granted.now) (member_pairs (option_to_list (slice_get (map.entries members.now) pair))) }
+{
+    match members.member_at_pair(pair) {
+        Some(member) => member.status.is_up() && granted.contains(member.unique),
+        None => false,
+    }
+}
+
+// Whether any Up member has granted.
+fn any_host(granted: &Uniques, members: &Members) -> bool
+    ensures { result ≡ list_any (may_host granted.now) (members_of members.now) }
+{
+    'pairs: for pair in 0..members.uniques() {
+        if hosts_at(granted, members, pair) {
+            return true;
+        }
+    }
+    false
+}
+
+// The loads of the Up members that have granted. Takes memory only where there is one.
 pub(crate) fn loads_in(
     alloc: Global,
     entries: &[Entry],
@@ -166,8 +190,13 @@ pub(crate) fn loads_in(
     members: &Members,
 ) -> Result<Vec<Load>, AllocError>
     requires { length entries.now ≤ 1000 }
-    ensures { IfOk result (λ loads. loads.items ≡ loads_among entries.now granted.now (map.entries members.now)) }
+    ensures ok { IfOk result (λ loads. loads.items ≡ loads_among entries.now granted.now (map.entries members.now)) }
+    ensures memory { OnErr result (loads_among entries.now granted.now (map.entries members.now) ≢ []) }
 {
+    // Where nobody can host, no home is counted.
+    if !any_host(granted, members) {
+        return Ok(Vec::new(alloc));
+    }
     let counts = homes_in(alloc, entries)?;
     loads_by(alloc, &counts, granted, members)
 }

@@ -1,4 +1,4 @@
-ghost use Rattle.std.specs.Prelude.{◌≡◌, ◌≤◌, ◌++◌, ◌∷◌, [], length, map, option_copied, option_to_list, IfOk, OnOk};
+ghost use Rattle.std.specs.Prelude.{◌≡◌, ◌≢◌, ◌≤◌, ◌++◌, ◌∷◌, [], length, map, option_copied, option_to_list, IfOk, OnOk, OnErr};
 ghost use Rattle.ak_address.specs.Uniques.{in_order};
 ghost use Rattle.ak_coordinator.specs.Tick.{begin_order, orders_of, orders_from};
 
@@ -25,7 +25,8 @@ fn push_begin(
     number: u64,
     who: Option<&Unique>,
 ) -> Result<(), AllocError>
-    ensures { OnOk result (orders.new.items ≡ orders.old.items ++ map (begin_order shard number) (option_to_list (option_copied who.entry))) }
+    ensures ok { OnOk result (orders.new.items ≡ orders.old.items ++ map (begin_order shard number) (option_to_list (option_copied who.entry))) }
+    ensures memory { OnErr result (option_to_list (option_copied who.entry) ≢ []) }
 {
     if let Some(who) = who {
         let who = who.copy(alloc)?;
@@ -42,7 +43,8 @@ fn push_begins(
     number: u64,
     waits: &Uniques,
 ) -> Result<(), AllocError>
-    ensures { OnOk result (orders.new.items ≡ orders.old.items ++ map (begin_order shard number) (in_order waits.now)) }
+    ensures ok { OnOk result (orders.new.items ≡ orders.old.items ++ map (begin_order shard number) (in_order waits.now)) }
+    ensures memory { OnErr result (map (begin_order shard number) (in_order waits.now) ≢ []) }
 {
     'waits: for index in 0..waits.len() {
         push_begin(alloc, orders, shard, number, waits.at(index))?;
@@ -57,7 +59,8 @@ fn push_orders(
     shard: u32,
     entry: &Entry,
 ) -> Result<(), AllocError>
-    ensures { OnOk result (orders.new.items ≡ orders.old.items ++ orders_of shard entry.now) }
+    ensures ok { OnOk result (orders.new.items ≡ orders.old.items ++ orders_of shard entry.now) }
+    ensures memory { OnErr result (orders_of shard entry.now ≢ []) }
 {
     let Some(home) = &entry.home else {
         return Ok(());
@@ -80,9 +83,11 @@ fn push_orders(
     }
 }
 
+// Takes memory only where there is an order.
 pub(crate) fn orders_of(alloc: Global, entries: &[Entry]) -> Result<Vec<Order>, AllocError>
     requires { length entries.now ≤ 1000 }
-    ensures { IfOk result (λ orders. orders.items ≡ orders_from 0 entries.now) }
+    ensures ok { IfOk result (λ orders. orders.items ≡ orders_from 0 entries.now) }
+    ensures memory { OnErr result (orders_from 0 entries.now ≢ []) }
 {
     let mut orders = Vec::new(alloc);
     'shards: for shard in 0..entries.len() {

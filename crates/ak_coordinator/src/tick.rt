@@ -1,12 +1,12 @@
-ghost use Rattle.std.specs.Prelude.{◌≡◌, ◌≤◌, ◌<◌, length, slice_get, option_copied, option_to_list, IfOk, OnOk, OnErr, IfSome, IsSome};
+ghost use Rattle.std.specs.Prelude.{◌≡◌, ◌≢◌, ◌≤◌, ◌<◌, ◌⊎◌, [], length, slice_get, option_copied, option_to_list, IfOk, OnOk, OnErr, IfSome, IsSome};
 ghost use Rattle.std.specs.Prelude as list;
 ghost use Rattle.std.specs.List.{filter, list_any};
-ghost use Rattle.ak_address.specs.Uniques.{in_order};
+ghost use Rattle.ak_address.specs.Uniques.{no_one, in_order};
 ghost use Rattle.ak_member.specs.Standing.{members_of};
 ghost use Rattle.ak_settled.specs.Settled.{standings_of};
 ghost use Rattle.ak_coordinator.specs.Entry.{moves};
-ghost use Rattle.ak_coordinator.specs.Coordinator.{entry_of};
-ghost use Rattle.ak_coordinator.specs.Tick.{is_unfinished, unfinished, noticed, IsPartlyNoticed, hurried, is_exiting_pair, leaves_exiting, leaves_node, first_from, first_leaver, after_begin, moving};
+ghost use Rattle.ak_coordinator.specs.Coordinator.{entry_of, loads_of};
+ghost use Rattle.ak_coordinator.specs.Tick.{is_unfinished, unfinished, noticed, IsPartlyNoticed, hurried, is_exiting_pair, leaves_exiting, leaves_node, first_from, first_leaver, after_begin, moving, orders_from, AnyWaited, ComparesLoads};
 
 use crate::entry::Entry;
 use crate::loads::loads_in;
@@ -17,14 +17,15 @@ use ak_settings::Settings;
 use ak_settled::Settled;
 use std::alloc::{AllocError, Global};
 
-// Those of the nodes that are not finished.
+// Those of the nodes that are not finished. Takes memory only where there is one.
 pub(crate) fn unfinished(
     alloc: Global,
     settled: &Settled,
     margin: u32,
     whos: &Uniques,
 ) -> Result<Uniques, AllocError>
-    ensures { IfOk result (λ left. left ≡ unfinished margin settled.now.view whos.now) }
+    ensures ok { IfOk result (λ left. left ≡ unfinished margin settled.now.view whos.now) }
+    ensures memory { OnErr result (unfinished margin settled.now.view whos.now ≢ no_one) }
 {
     let mut left = Uniques::empty(alloc);
     'whos: for index in 0..whos.len() {
@@ -42,6 +43,7 @@ pub(crate) fn notice_each(
 ) -> Result<(), AllocError>
     ensures ok { OnOk result (entries.new ≡ list.map (noticed margin settled.now.view) entries.old) }
     ensures lost { OnErr result (IsPartlyNoticed margin settled.now.view entries.old entries.new) }
+    ensures memory { OnErr result (AnyWaited (list.map (noticed margin settled.now.view) entries.old)) }
 {
     // Whoever is finished was removed, and where nobody was, no shard is looked at.
     if settled.members().buried_len() == 0 {
@@ -112,7 +114,7 @@ fn first_of_node(entries: &[Entry], who: &Unique) -> Option<usize>
     None
 }
 
-// The shard that begins to move.
+// The shard that begins to move. Takes memory only where there is a load.
 fn first_leaver(
     alloc: Global,
     entries: &[Entry],
@@ -123,6 +125,7 @@ fn first_leaver(
     requires { length entries.now ≤ 1000 }
     ensures first { IfOk result (λ shard. shard ≡ first_leaver granted.now (standings_of settled.now.view) threshold entries.now) }
     ensures placed { IfOk result (λ found. IfSome found (λ shard. (shard < length entries.now) × IsSome (entry_of entries.now shard).home)) }
+    ensures memory { OnErr result (loads_of entries.now granted.now (standings_of settled.now.view) ≢ []) }
 {
     let exiting = first_exiting(entries, settled.members());
     if exiting.is_some() {
@@ -135,7 +138,8 @@ fn first_leaver(
     }
 }
 
-// Where fewer shards move than may, one begins.
+// Where fewer shards move than may, one begins. Takes memory only where loads are compared, or a shard begins, of which
+// something is then ordered.
 pub(crate) fn begin_one(
     alloc: Global,
     entries: &mut Vec<Entry>,
@@ -147,6 +151,7 @@ pub(crate) fn begin_one(
     ensures after { OnOk result (entries.new.items ≡ after_begin granted.now settled.now.view settings.now.margin settings.now.threshold settings.now.limit entries.old.items) }
     ensures many { length entries.new.items ≡ length entries.old.items }
     ensures err { OnErr result (entries.new.items ≡ entries.old.items) }
+    ensures memory { OnErr result (ComparesLoads granted.now settled.now.view settings.now.limit entries.old.items ⊎ (orders_from 0 (list.map hurried (after_begin granted.now settled.now.view settings.now.margin settings.now.threshold settings.now.limit entries.old.items)) ≢ [])) }
 {
     if moving(entries) >= settings.limit as usize {
         return Ok(());

@@ -1,6 +1,6 @@
 -- The counted members that pass a test, along the pairs of a table: how many they are, which is the first, and which
 -- members go down.
-use Rattle.std.proofs.Common.{◌≡◌, ℕ, ◌+◌, ◌≤◌, Bool, true, false, cond, ◌&&◌, not, List, [], ◌∷◌, ◌++◌, length, drop, slice_get, Option, Some, None, option_map, option_to_list, refl, sym, ap, ◌∙◌, append_assoc, append-nil, arith}
+use Rattle.std.proofs.Common.{◌≡◌, ◌≢◌, ℕ, ◌+◌, ◌≤◌, Bool, true, false, cond, ◌&&◌, not, List, [], ◌∷◌, ◌++◌, length, drop, slice_get, Option, Some, None, option_map, option_to_list, refl, sym, ap, ◌∙◌, append_assoc, append-nil, length-append, arith}
 use Rattle.std.specs.List.{filter}
 use Rattle.ak_address.specs.Unique.{UniqueModel}
 use Rattle.ak_member.specs.declared.effect.Effect.{Effect}
@@ -93,3 +93,12 @@ downed_next test es i o effects total is so_far =
 
 pub downed_end : (test : UniqueModel → Bool) (es : List (UniqueModel × Standing)) (i : ℕ) (effects total : List Effect) → length es ≤ i → effects ++ downed_among test (drop i es) ≡ total → effects ≡ total
 downed_end test es i effects total past so_far = sym (ap (λ l. effects ++ l) (kept_at_end (downed_among test) (keeps_downed test) es i past) ∙ append-nil effects) ∙ so_far
+
+-- where one goes down, there are effects
+pub someone_downed : (test : UniqueModel → Bool) (es : List (UniqueModel × Standing)) (i : ℕ) (effect : Effect) (effects total : List Effect) → effect ∷ [] ≡ downed_among test (option_to_list (slice_get es i))
+    → effects ++ downed_among test (drop i es) ≡ total → total ≢ []
+someone_downed test es i effect effects total is so_far none =
+    let many = ap length (downed_next test es i (Some effect) effects total is so_far ∙ none) in
+    let all = length-append (effects ++ effect ∷ []) (downed_among test (drop (i + 1) es)) in
+    let first = length-append effects (effect ∷ []) in
+    absurd (omega arith)

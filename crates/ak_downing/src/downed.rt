@@ -1,4 +1,4 @@
-ghost use Rattle.std.specs.Prelude.{◌≡◌, IfOk, slice_get, option_copied, option_to_list};
+ghost use Rattle.std.specs.Prelude.{◌≡◌, ◌≢◌, [], IfOk, OnErr, slice_get, option_copied, option_to_list};
 ghost use Rattle.std.specs.Prelude as list;
 ghost use Rattle.std.specs.FinMap as map;
 ghost use Rattle.ak_member.specs.declared.effect.Effect.TheVariants.{Rise};
@@ -16,7 +16,7 @@ use ak_reach::Rows;
 use std::alloc::{AllocError, Global};
 
 /// The effects of a decision, in the order of processes: whom it is against rises to Down, unless it is Down already
-/// (Akka's Split Brain Resolver, "Strategies"). Only memory can fail.
+/// (Akka's Split Brain Resolver, "Strategies"). Only memory can fail, and only where somebody is downed.
 pub fn downs(
     alloc: Global,
     decision: Decision,
@@ -24,7 +24,8 @@ pub fn downs(
     rows: &Rows,
     me: &Unique,
 ) -> Result<Effects, AllocError>
-    ensures { IfOk result (λ effects. effects ≡ downs decision (seen_with members.now rows.now) me.now) }
+    ensures ok { IfOk result (λ effects. effects ≡ downs decision (seen_with members.now rows.now) me.now) }
+    ensures memory { OnErr result (downs decision (seen_with members.now rows.now) me.now ≢ []) }
 {
     let mut effects = Effects::empty(alloc);
     'pairs: for pair in 0..members.uniques() {

@@ -1,14 +1,16 @@
 -- Views come to one in any order and grouping, and what effects add to one of two views, or to both, they add to the merge.
-use Rattle.std.proofs.Common.{◌≡◌, ◌≢◌, List, [], ◌∷◌, Some, refl, ap, ◌∙◌}
+use Rattle.std.proofs.Common.{◌≡◌, ◌≢◌, Bool, true, false, cond, List, [], ◌∷◌, Option, Some, refl, sym, ap, ◌∙◌, subst}
+use Rattle.std.specs.Option.{IsSome}
+use Rattle.std.specs.Ordering.{eq_by_cmp}
 use Rattle.std.specs.FinMap as map
-use Rattle.ak_address.specs.Unique.{UniqueModel}
+use Rattle.ak_address.specs.Unique.{UniqueModel, unique_cmp}
 use Rattle.ak_address.specs.Table.{merged_at, value_with}
-use Rattle.ak_address.proofs.TableLaws.{get-merged_tables}
+use Rattle.ak_address.proofs.TableLaws.{get-insert, get-merged_tables}
 use Rattle.ak_member.specs.declared.effect.Effect.{Effect}
 use Rattle.ak_member.specs.declared.effect.Effect.TheVariants.{Joined, Rise, Removed, Observed}
 use Rattle.ak_member.specs.declared.standing.Standing.{Standing}
 use Rattle.ak_member.specs.Standing.{Standings, merged_standing, merged_standings, known}
-use Rattle.ak_member.specs.View.{RowTable, View, later_row, merged_rows, merged_views, after_effect, after_effects, RowsAgree}
+use Rattle.ak_member.specs.View.{RowTable, View, later_row, merged_rows, merged_views, after_effect, after_effects, IsAboutKnown, RowsAgree}
 use Rattle.ak_member.proofs.Merges.{merged_commutative, merged_associative, merged_idempotent, merged_either_way, known_to_one, known_to_both, get-with_known_here, get-with_known_elsewhere}
 use Rattle.ak_member.proofs.StandingLaws.{standing_commutative, standing_associative, standing_idempotent, row_commutative, row_associative, row_idempotent}
 
@@ -78,3 +80,24 @@ effects_merge_one (effect ∷ effects) s t = ap (after_effects effects) (effect_
 pub effects_merge_both : (effects : List Effect) (s t : Standings) → after_effects effects (merged_standings s t) ≡ merged_standings (after_effects effects s) (after_effects effects t)
 effects_merge_both [] s t = refl
 effects_merge_both (effect ∷ effects) s t = ap (after_effects effects) (effect_merges_both effect s t) ∙ effects_merge_both effects (after_effect effect s) (after_effect effect t)
+
+-- whoever is known stays known
+still_there : (b : Bool) (x : Standing) (o : Option Standing) → IsSome o → IsSome (cond b (Some x) o)
+still_there true x o there = refl
+still_there false x o there = there
+
+stays_known : (s : Standings) (who : UniqueModel) (x : Standing) (q : UniqueModel) → IsSome (map.get s q) → IsSome (map.get (known s who x) q)
+stays_known s who x q there =
+    subst IsSome (sym (get-insert s who (value_with merged_standing (map.get s who) x) q)) (still_there (eq_by_cmp unique_cmp q who) _ (map.get s q) there)
+
+stays_after : (effect : Effect) (s : Standings) (q : UniqueModel) → IsSome (map.get s q) → IsSome (map.get (after_effect effect s) q)
+stays_after (Joined who) s q there = stays_known s who _ q there
+stays_after (Rise who status number) s q there = stays_known s who _ q there
+stays_after (Removed who confirmed) s q there = stays_known s who _ q there
+stays_after (Observed subjects) s q there = there
+
+pub stays_about_known : (effect other : Effect) (s : Standings) → IsAboutKnown s other → IsAboutKnown (after_effect effect s) other
+stays_about_known effect (Joined who) s there = stays_after effect s who there
+stays_about_known effect (Rise who status number) s there = stays_after effect s who there
+stays_about_known effect (Removed who confirmed) s there = stays_after effect s who there
+stays_about_known effect (Observed subjects) s there = there

@@ -1,6 +1,6 @@
 -- What a node knows of its cluster besides its version, how two such views are merged, and what an entry of the
 -- history adds (Akka's Cluster Specification, "Gossip" and "Failure Detector").
-use Rattle.std.specs.Prelude.{◌≡◌, ℕ, nat_lt, List, [], ◌∷◌, Option, None, Some, if◌then◌else◌, refl}
+use Rattle.std.specs.Prelude.{◌≡◌, ℕ, nat_lt, List, [], ◌∷◌, Option, None, Some, IsSome, if◌then◌else◌, refl}
 use Rattle.std.specs.FinMap as map
 use Rattle.std.specs.FinSet as set
 use Rattle.std.specs.Coded.{Coded, code_by, coded×, coded_ℕ}
@@ -65,6 +65,13 @@ after_effect (Observed subjects) s = s
 abbrev pub after_effects : List Effect → Standings → Standings
 after_effects [] s = s
 after_effects (effect ∷ effects) s = after_effects effects (after_effect effect s)
+
+-- the process that an effect is about is known: a member or a tombstone; one that observes is about nobody
+abbrev pub IsAboutKnown : Standings → Effect → Type 0
+IsAboutKnown s (Joined who) = IsSome (map.get s who)
+IsAboutKnown s (Rise who status number) = IsSome (map.get s who)
+IsAboutKnown s (Removed who confirmed) = IsSome (map.get s who)
+IsAboutKnown s (Observed subjects) = Unit {0}
 
 -- whom the last of the effects that observes found unreachable
 abbrev pub observed_by : Effect → Option UniqueSet → Option UniqueSet

@@ -1,11 +1,11 @@
-ghost use Rattle.std.specs.Prelude.{◌≡◌, IfOk, OnOk, OnErr, IsOk, IsSome, Ok, length, slice_get, option_map, option_to_list, ◌+◌, ℕ};
+ghost use Rattle.std.specs.Prelude.{◌≡◌, All, IfOk, OnOk, OnErr, IsOk, IsSome, Ok, length, slice_get, option_map, option_to_list, ◌+◌, ℕ};
 ghost use Rattle.std.specs.FinMap as map;
 ghost use Rattle.ak_address.specs.Pairs.{index};
 ghost use Rattle.ak_address.specs.Table.{value_with};
 ghost use Rattle.ak_address.specs.Unique.{UniqueModel, unique_cmp};
 ghost use Rattle.ak_member.specs.declared.status.Status.{Status};
 ghost use Rattle.ak_member.specs.Standing.{nobody, merged_standings, merged_standing, known, member_pairs, tombstone_pairs, raised, buried, is_gone, is_up, is_exiting, is_member_with, member_of, tombstone_of, members_of, tombstones_of};
-ghost use Rattle.ak_member.specs.View.{after_effect, after_effects};
+ghost use Rattle.ak_member.specs.View.{after_effect, after_effects, IsAboutKnown};
 
 use crate::effect::{Effect, Effects};
 use crate::standing::Standing;
@@ -226,9 +226,11 @@ impl Members {
         self.note(alloc, who, Standing::Buried(confirmed))
     }
 
-    /// The members after these effects, in their order. Only memory can fail.
+    /// The members after these effects, in their order. Only memory can fail, and only where an effect is about a process that
+    /// is not known yet.
     pub fn after(self, alloc: Global, effects: &Effects) -> Result<Members, AllocError>
-        ensures { IfOk result (λ members. members ≡ after_effects effects.now self) }
+        ensures ok { IfOk result (λ members. members ≡ after_effects effects.now self) }
+        ensures memory { All (IsAboutKnown self) effects.now → IsOk result }
     {
         let mut members = self;
         'effects: for effect in effects.as_slice() {
@@ -277,9 +279,11 @@ impl Members {
         }
     }
 
-    // What the effect makes of the members. After an error they are as they were.
+    // What the effect makes of the members. After an error they are as they were; only an effect about a process that is not
+    // known yet takes memory.
     fn take_effect(&mut self, alloc: Global, effect: &Effect) -> Result<(), AllocError>
-        ensures { OnOk result (self.new ≡ after_effect effect.now self.old) }
+        ensures ok { OnOk result (self.new ≡ after_effect effect.now self.old) }
+        ensures memory { IsAboutKnown self.old effect.now → IsOk result }
     {
         match effect {
             Effect::Joined(who) => self.raise(alloc, who, Status::Joining, 0),

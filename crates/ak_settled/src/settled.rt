@@ -1,4 +1,4 @@
-ghost use Rattle.std.specs.Prelude.{◌≡◌, ◌≢◌, ◌≤◌, IfOk, OnOk, OnErr, length, slice_get, option_copied, option_map, option_to_list, is_some};
+ghost use Rattle.std.specs.Prelude.{◌≡◌, ◌≢◌, ◌≤◌, ◌⊎◌, [], IfOk, OnOk, OnErr, length, slice_get, option_copied, option_map, option_to_list, is_some};
 ghost use Rattle.std.specs.Prelude as list;
 ghost use Rattle.std.specs.List.{fold};
 ghost use Rattle.std.specs.FinMap as map;
@@ -6,6 +6,7 @@ ghost use Rattle.ak_address.specs.Uniques.{no_one, set_of};
 ghost use Rattle.ak_address.specs.Changed.{changed};
 ghost use Rattle.ak_address.specs.Counters.{counter, with_each};
 ghost use Rattle.ak_clock.specs.Version.{Covers};
+ghost use Rattle.ak_member.specs.Standing.{nobody};
 ghost use Rattle.ak_settled.specs.Settled.{version_of, standings_of, unconfirmed, unconfirmed_pairs, unsettled, after_note, after_tick, is_finished, is_needed_as, needed_pairs, needed, candidate};
 ghost use Rattle.ak_settled.specs.Ticks.{counts_of, unmarked, with_unmarked, marked_pairs, marked};
 
@@ -79,7 +80,8 @@ impl Settled {
     }
 
     /// The settled view becomes this one. An unconfirmed tombstone keeps its counter, a new one begins at 0, and nobody
-    /// has just ended. After an error the settled view is as it was; only memory can fail.
+    /// has just ended. After an error the settled view is as it was. Only memory can fail, and only where the version counts
+    /// somebody or somebody is known: a member or a tombstone.
     pub fn note(
         &mut self,
         alloc: Global,
@@ -89,6 +91,7 @@ impl Settled {
         requires { Covers version.now (version_of self.old.view) }
         ensures ok { OnOk result (self.new ≡ after_note version.now members.now self.old) }
         ensures err { OnErr result (self.new ≡ self.old) }
+        ensures memory { OnErr result ((version.now ≢ map.empty) ⊎ (members.now ≢ nobody)) }
     {
         let counters = counters_for(alloc, &self.counters, members)?;
         let version = version.copy(alloc)?;
@@ -204,13 +207,14 @@ fn marked_at(counters: &Table<Ticks>, index: usize) -> Option<&Unique>
     None
 }
 
-// A counter for each unconfirmed tombstone: the one that it has, or 0.
+// A counter for each unconfirmed tombstone: the one that it has, or 0. Only memory can fail, and only where there is one.
 fn counters_for(
     alloc: Global,
     before: &Table<Ticks>,
     members: &Members,
 ) -> Result<Table<Ticks>, AllocError>
-    ensures { IfOk result (λ counters. counters ≡ changed unmarked (with_each (counts_of before.now) (unconfirmed members.now) map.empty)) }
+    ensures ok { IfOk result (λ counters. counters ≡ changed unmarked (with_each (counts_of before.now) (unconfirmed members.now) map.empty)) }
+    ensures memory { OnErr result (unconfirmed members.now ≢ []) }
 {
     let mut counters = Table::empty(alloc);
     'pairs: for pair in 0..members.uniques() {
@@ -231,14 +235,15 @@ fn unconfirmed_at(members: &Members, pair: usize) -> Option<&Unique>
     }
 }
 
-// Adds the counter of the process, if there is one.
+// Adds the counter of the process, if there is one; where there is none it takes no memory.
 fn add_counter(
     alloc: Global,
     before: &Table<Ticks>,
     who: Option<&Unique>,
     counters: &mut Table<Ticks>,
 ) -> Result<(), AllocError>
-    ensures { OnOk result (counters.new ≡ fold (with_unmarked (counts_of before.now)) counters.old (option_to_list (option_copied who.entry))) }
+    ensures ok { OnOk result (counters.new ≡ fold (with_unmarked (counts_of before.now)) counters.old (option_to_list (option_copied who.entry))) }
+    ensures memory { OnErr result (option_to_list (option_copied who.entry) ≢ []) }
 {
     match who {
         Some(who) => {

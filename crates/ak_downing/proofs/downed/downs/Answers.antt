@@ -1,11 +1,12 @@
 use Rattle.std.specs.FinMap as map
 use Rattle.std.proofs.Common.{◌≡◌, ◌++◌, ◌+◌, [], ◌∷◌, drop, Some, None, sym, ap, ◌∙◌, append-nil, arith}
+use Rattle.ak_address.proofs.Failing.{on_err_not}
 use Rattle.ak_member.specs.declared.effect.Effect.TheVariants.{Rise}
 use Rattle.ak_member.specs.declared.status.Status.TheVariants.{Down}
 use Rattle.ak_reach.specs.Unreachable.{unreachable_members}
 use Rattle.ak_downing.specs.Downing.{is_against, downs}
 use Rattle.ak_downing.specs.Sides.{seen_with}
-use Rattle.ak_downing.proofs.SideLemmas.{downed_among, downed_next, downed_end}
+use Rattle.ak_downing.proofs.SideLemmas.{downed_among, downed_next, downed_end, someone_downed}
 use Rattle.ak_downing.proofs.downed.downs.Goals as goal
 use Rattle.ak_downing.proofs.downed.downs.Goals.{in-Some+in_ok-copy+in_ok-push, in_default}
 
@@ -25,7 +26,18 @@ pairs-preserved c =
           ap (λ effects. effects ++ rest) (w.effects-is ∙ sym (append-nil c.pairs.effects)) ∙ downed_next test es c.pairs.pair None c.pairs.effects total w.in_default.ensures c.pairs.invariant
     ]
 
-pub returns : goal.returns
-returns c =
+-- where it fails, somebody is downed
+pub returns-in_err-copy-clause-memory : goal.returns-in_err-copy-clause-memory
+returns-in_err-copy-clause-memory c =
+    let v = seen_with c.args.members.now c.args.rows.now in
+    on_err_not c.from_residual.result _ [] (someone_downed (is_against c.args.decision (unreachable_members v) c.args.me.now) (map.entries c.args.members.now) c.pairs.pair (Rise c.in-Some.unique.now Down 0) c.pairs.effects (downs c.args.decision v c.args.me.now) c.in-Some.ensures c.pairs.invariant)
+
+pub returns-in_err-push-clause-memory : goal.returns-in_err-push-clause-memory
+returns-in_err-push-clause-memory c =
+    let v = seen_with c.args.members.now c.args.rows.now in
+    on_err_not c.from_residual-in_err-push.result _ [] (someone_downed (is_against c.args.decision (unreachable_members v) c.args.me.now) (map.entries c.args.members.now) c.pairs.pair (Rise c.in-Some.unique.now Down 0) c.pairs.effects (downs c.args.decision v c.args.me.now) c.in-Some.ensures c.pairs.invariant)
+
+pub returns-clause-ok : goal.returns-clause-ok
+returns-clause-ok c =
     let v = seen_with c.args.members.now c.args.rows.now in
     downed_end (is_against c.args.decision (unreachable_members v) c.args.me.now) (map.entries c.args.members.now) c.pairs.pair c.pairs.effects _ (let past = map.len-entries c.args.members.now in omega arith) c.pairs.invariant

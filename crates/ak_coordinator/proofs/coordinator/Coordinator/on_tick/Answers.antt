@@ -1,0 +1,27 @@
+use Rattle.std.proofs.Common.{◌≡◌, ◌≢◌, ◌⊎◌, inr, [], ◌++◌, map, length, take, drop, subst, arith}
+use Rattle.std.proofs.lemmas.Result.{on_err_weaker}
+use Rattle.std.proofs.lemmas.Grind.{common_steps}
+use Rattle.ak_coordinator.specs.Tick.{noticed, hurried, after_begin, after_tick, orders_from, ComparesLoads}
+use Rattle.ak_coordinator.proofs.TickLemmas.{on_err}
+use Rattle.ak_coordinator.proofs.coordinator.Coordinator.on_tick.Goals as goal
+
+-- after the shards were looked at for finished nodes
+pub returns-in_err-begin_one-clause-memory : goal.returns-in_err-begin_one-clause-memory
+returns-in_err-begin_one-clause-memory c =
+    let granted = c.args.granted.now in
+    let settled = c.args.settled.now.view in
+    let margin = c.args.settings.now.margin in
+    let threshold = c.args.settings.now.threshold in
+    let limit = c.args.settings.now.limit in
+    let seen : take c.self.inside.entries.len (c.notice_each.new.entries ++ drop (length c.notice_each.new.entries) c.self.inside.entries.items) ≡ map (noticed margin settled) c.args.self.now = grind (arith, common_steps) in
+    on_err c.from_residual-in_err-begin_one.result (inr (subst (λ table. ComparesLoads granted settled limit table ⊎ (orders_from 0 (map hurried (after_begin granted settled margin threshold limit table)) ≢ [])) seen (c.in_err-begin_one.ensures {u = tt}).memory))
+
+pub returns-clause-memory : goal.returns-clause-memory
+returns-clause-memory c =
+    let granted = c.args.granted.now in
+    let settled = c.args.settled.now.view in
+    let margin = c.args.settings.now.margin in
+    let threshold = c.args.settings.now.threshold in
+    let limit = c.args.settings.now.limit in
+    let seen : c.deref.result.now ≡ after_tick granted settled margin threshold limit c.args.self.now = grind (arith, common_steps) in
+    on_err_weaker c.orders_of.result (λ some. inr (inr (subst (λ table. orders_from 0 table ≢ []) seen some))) c.orders_of.ensures.memory
