@@ -141,8 +141,8 @@ abbrev pub ComparesLoads : UniqueSet → SettledView → ℕ → ShardTable → 
 ComparesLoads granted settled limit table = (moving table < limit) × (loads_of table granted (standings_of settled) ≢ [])
 
 -- nodes are still waited for, loads are compared, or something is ordered
-abbrev pub TickTakesRoom : UniqueSet → SettledView → ℕ → ℕ → ℕ → ShardTable → Type 0
-TickTakesRoom granted settled margin threshold limit table =
+abbrev pub TakesRoom : UniqueSet → SettledView → ℕ → ℕ → ℕ → ShardTable → Type 0
+TakesRoom granted settled margin threshold limit table =
     AnyWaited (map (noticed margin settled) table)
     ⊎ ComparesLoads granted settled limit (map (noticed margin settled) table)
     ⊎ (orders_from 0 (after_tick granted settled margin threshold limit table) ≢ [])

@@ -2,7 +2,7 @@ ghost use Rattle.std.specs.Prelude.{◌≡◌, ◌≢◌, ◌≤◌, ◌<◌, �
 ghost use Rattle.ak_shard_id.specs.declared.report.Report.{Report};
 ghost use Rattle.ak_settled.specs.Settled.{standings_of};
 ghost use Rattle.ak_coordinator.specs.Entry.{unplaced, homing, NamesHome, after_get_home, after_started, is_last_ack, after_ack, freed, awaits_stop, allotted, after_allotment};
-ghost use Rattle.ak_coordinator.specs.Tick.{after_tick, orders_from, IsPartlyTicked, TickTakesRoom};
+ghost use Rattle.ak_coordinator.specs.Tick.{after_tick, orders_from, IsPartlyTicked, TakesRoom};
 ghost use Rattle.ak_coordinator.specs.Coordinator.{entry_of, with_entry, learnt_all, IsPartlyLearnt, SaysHosted, stopped_placed, after_stopped, loads_of};
 
 use crate::entry::{Entry, Homing, Placed};
@@ -119,6 +119,14 @@ impl Coordinator {
         self.entries[shard as usize].ack(from, number)
     }
 
+    /// Whether the shard waits for the node to say, with that number, that it does not host it any more. Takes no memory.
+    pub fn awaits_stop(&self, from: &Unique, shard: u32, number: u64) -> bool
+        requires { shard < length self.now }
+        ensures { result ≡ awaits_stop from.now number (entry_of self.now shard) }
+    {
+        self.entries[shard as usize].awaits_stop(from, number)
+    }
+
     /// A node does not host the shard any more. Where the shard moves with that number from this node, it is free now, and is
     /// placed at the least of these loads, of which the node's has one shard less, with the last number plus one. The answer
     /// is the new home; none exactly where the stop was not awaited, or there is no load, or that number would pass
@@ -139,7 +147,7 @@ impl Coordinator {
         ensures memory { OnErr result (loads.now ≢ []) }
         ensures lost { OnErr result ((self.new ≡ self.old) ⊎ (self.new ≡ with_entry self.old shard (freed (entry_of self.old shard)))) }
     {
-        if !self.entries[shard as usize].awaits_stop(from, number) {
+        if !self.awaits_stop(from, shard, number) {
             return Ok(None);
         }
         let loads = lightened(alloc, loads, from)?;
@@ -178,7 +186,7 @@ impl Coordinator {
         ensures after { OnOk result (self.new ≡ after_tick granted.now settled.now.view settings.now.margin settings.now.threshold settings.now.limit self.old) }
         ensures orders { IfOk result (λ orders. orders.items ≡ orders_from 0 (after_tick granted.now settled.now.view settings.now.margin settings.now.threshold settings.now.limit self.old)) }
         ensures lost { OnErr result (IsPartlyTicked granted.now settled.now.view settings.now.margin settings.now.threshold settings.now.limit self.old self.new) }
-        ensures memory { OnErr result (TickTakesRoom granted.now settled.now.view settings.now.margin settings.now.threshold settings.now.limit self.old) }
+        ensures memory { OnErr result (TakesRoom granted.now settled.now.view settings.now.margin settings.now.threshold settings.now.limit self.old) }
     {
         notice_each(alloc, &mut self.entries, settled, settings.margin)?;
         begin_one(alloc, &mut self.entries, granted, settled, settings)?;

@@ -1,5 +1,5 @@
 -- What a node does as the coordinator, while it is active (Akka's Cluster Sharding, "How it works" and "Shard rebalancing").
-use Rattle.std.specs.Prelude.{ℕ, IsTrue, IsSome, Bool, true, false, List, [], ◌∷◌, Option, None, Some, length, map, replicate, ◌&&◌, nat_lt, if◌then◌else◌}
+use Rattle.std.specs.Prelude.{◌≡◌, ◌≢◌, ◌⊎◌, ℕ, IsTrue, Bool, true, false, List, [], ◌∷◌, Option, None, Some, length, map, replicate, ◌&&◌, nat_lt, if◌then◌else◌}
 use Rattle.std.specs.List.{list_all}
 use Rattle.ak_address.specs.Unique.{UniqueModel}
 use Rattle.ak_allocation.specs.declared.load.Load.{Load}
@@ -8,8 +8,9 @@ use Rattle.ak_coordinator.specs.declared.entry.Homing.TheVariants as homings
 use Rattle.ak_coordinator.specs.declared.orders.Order.{Order}
 use Rattle.ak_coordinator.specs.declared.orders.Order.TheVariants as order
 use Rattle.ak_coordinator.specs.Table.{Home, ShardTable}
-use Rattle.ak_coordinator.specs.Entry.{unplaced, homing, after_get_home, after_started, is_last_ack, after_ack}
+use Rattle.ak_coordinator.specs.Entry.{unplaced, homing, NamesHome, after_get_home, after_started, is_last_ack, after_ack, awaits_stop}
 use Rattle.ak_coordinator.specs.Coordinator.{entry_of, with_entry, learnt_all, stopped_placed, after_stopped, loads_of}
+use Rattle.ak_coordinator.specs.Tick as tick
 use Rattle.ak_coordinator.specs.Tick.{after_tick, orders_from}
 use Rattle.ak_promise.specs.Ballot.{BallotModel}
 use Rattle.ak_promise.specs.Promise.{is_some_ballot}
@@ -45,9 +46,9 @@ on_table rule (Some table) s = (record s { table = Some (rule table).0 }, (rule 
 abbrev pub if_active : Around → BallotModel → ℕ → (ShardTable → ShardTable × List Action) → ShardingModel → Outcome
 if_active around b shard rule s = if has_shard shard s && is_active_with around b then on_table rule s.table s else nothing s
 
--- such a rule applies
-abbrev pub Coordinates : Around → BallotModel → ℕ → ShardingModel → Type 0
-Coordinates around b shard s = IsTrue (has_shard shard s && is_active_with around b) × IsSome s.table
+-- such a rule applies, to a table of which this holds
+abbrev pub Coordinates : Around → BallotModel → ℕ → (ShardTable → Type 0) → ShardingModel → Type 0
+Coordinates around b shard Holds s = IsTrue (has_shard shard s && is_active_with around b) × ((table : ShardTable) × (s.table ≡ Some table) × Holds table)
 
 -- the loads: the Up members of the settled view that have granted
 abbrev pub loads : Around → ShardTable → List Load
@@ -97,6 +98,19 @@ on_shard_stopped around from b shard number s =
       orders_placed around b shard (stopped_placed from number (loads around table) (entry_of table shard)),
     )) s
 
+-- ---- where these rules take memory
+-- the home is named, or the shard is free and there is a load
+abbrev pub HomeTakesRoom : Around → ℕ → ShardTable → Type 0
+HomeTakesRoom around shard table = NamesHome (homing (loads around table) (entry_of table shard)) ⊎ (((entry_of table shard).home ≡ None) × (loads around table ≢ []))
+
+-- nobody else is waited for
+abbrev pub AckTakesRoom : UniqueModel → ℕ → ℕ → ShardTable → Type 0
+AckTakesRoom from shard number table = IsTrue (is_last_ack from number (entry_of table shard))
+
+-- the stop is awaited, and there is a load
+abbrev pub StopTakesRoom : Around → UniqueModel → ℕ → ℕ → ShardTable → Type 0
+StopTakesRoom around from shard number table = IsTrue (awaits_stop from number (entry_of table shard)) × (loads around table ≢ [])
+
 -- ---- in a tick of an active node
 abbrev pub gives_order : Around → BallotModel → Order → Action
 gives_order around b (order.Begin shard number who) = to_process around.me who (wire.TheVariants.BeginHandOff b shard number)
@@ -105,6 +119,10 @@ gives_order around b (order.Host shard number who) = to_process around.me who (w
 
 abbrev pub ticked_table : Around → ShardTable → ShardTable
 ticked_table around table = after_tick around.singleton.granted around.settled around.settings.margin around.settings.threshold around.settings.limit table
+
+-- a tick of the table takes memory
+abbrev pub TickTakesRoom : Around → ShardTable → Type 0
+TickTakesRoom around table = tick.TakesRoom around.singleton.granted around.settled around.settings.margin around.settings.threshold around.settings.limit table
 
 abbrev pub coordinates_with : Around → Option BallotModel → ShardingModel → Outcome
 coordinates_with around None s = nothing s

@@ -1,5 +1,6 @@
-ghost use Rattle.std.specs.Prelude.{◌≡◌, ◌++◌, ◌∷◌, [], ◌<◌, ◌&&◌, length, map, option_copied, OnOk, OnErr, IsTrue, IsSome, Some};
-ghost use Rattle.ak_coordinator.specs.Entry.{homing, after_get_home, is_last_ack, after_ack};
+ghost use Rattle.std.specs.Prelude.{◌≡◌, ◌≢◌, ◌++◌, ◌∷◌, [], ◌<◌, ◌&&◌, length, map, option_copied, IfOk, OnOk, OnErr, IsTrue, None, Some};
+ghost use Rattle.ak_coordinator.specs.Entry.{homing, NamesHome, after_get_home, is_last_ack, after_ack};
+ghost use Rattle.ak_coordinator.specs.Table.{ShardTable};
 ghost use Rattle.ak_coordinator.specs.Coordinator.{entry_of, with_entry, stopped_placed, after_stopped};
 ghost use Rattle.ak_coordinator.specs.Tick.{orders_from};
 ghost use Rattle.ak_sharding.specs.Hosts.{has_shard};
@@ -9,6 +10,7 @@ use crate::sends::{order_hand_off, order_hold, order_host, tell_home};
 use crate::sharding::Sharding;
 use crate::surroundings::Around;
 use ak_address::Unique;
+use ak_allocation::Load;
 use ak_coordinator::{Coordinator, Homing, Order, Placed};
 use ak_promise::Ballot;
 use ak_wire::Actions;
@@ -35,7 +37,7 @@ impl Sharding {
         ensures state { OnOk result (self.new ≡ (rules.on_get_home around.now from.now ballot.now shard self.old).0) }
         ensures actions { OnOk result (actions.new ≡ actions.old ++ (rules.on_get_home around.now from.now ballot.now shard self.old).1) }
         ensures lost { OnErr result (self.new ≡ rules.ends_table self.old) }
-        ensures memory { OnErr result (rules.Coordinates around.now ballot.now shard self.old) }
+        ensures memory { OnErr result (rules.Coordinates around.now ballot.now shard (rules.HomeTakesRoom around.now shard) self.old) }
     {
         if !self.coordinates_shard(around, ballot, shard) {
             return Ok(());
@@ -81,7 +83,7 @@ impl Sharding {
         ensures state { OnOk result (self.new ≡ (rules.on_ack around.now from.now ballot.now shard number self.old).0) }
         ensures actions { OnOk result (actions.new ≡ actions.old ++ (rules.on_ack around.now from.now ballot.now shard number self.old).1) }
         ensures lost { OnErr result (self.new ≡ rules.ends_table self.old) }
-        ensures memory { OnErr result (rules.Coordinates around.now ballot.now shard self.old) }
+        ensures memory { OnErr result (rules.Coordinates around.now ballot.now shard (rules.AckTakesRoom from.now shard number) self.old) }
     {
         if !self.coordinates_shard(around, ballot, shard) {
             return Ok(());
@@ -110,7 +112,7 @@ impl Sharding {
         ensures state { OnOk result (self.new ≡ (rules.on_shard_stopped around.now from.now ballot.now shard number self.old).0) }
         ensures actions { OnOk result (actions.new ≡ actions.old ++ (rules.on_shard_stopped around.now from.now ballot.now shard number self.old).1) }
         ensures lost { OnErr result (self.new ≡ rules.ends_table self.old) }
-        ensures memory { OnErr result (rules.Coordinates around.now ballot.now shard self.old) }
+        ensures memory { OnErr result (rules.Coordinates around.now ballot.now shard (rules.StopTakesRoom around.now from.now shard number) self.old) }
     {
         if !self.coordinates_shard(around, ballot, shard) {
             return Ok(());
@@ -127,7 +129,8 @@ impl Sharding {
 
     /// In a tick of a node that is active: shards whose home is finished are free, at most one begins to move, and what the
     /// table asks for is ordered (Akka's Cluster Sharding, "Shard rebalancing"). Adds what it does; only memory can fail, and only
-    /// of a node that is active and has a table, and then there is no table any more, and the rest is as it was.
+    /// of a node that is active and has a table, where nodes are still waited for, where one more shard may move and there is a
+    /// load, or where something is ordered; and then there is no table any more, and the rest is as it was.
     pub fn coordinate(
         &mut self,
         alloc: Global,
@@ -137,7 +140,7 @@ impl Sharding {
         ensures state { OnOk result (self.new ≡ (rules.coordinates around.now self.old).0) }
         ensures actions { OnOk result (actions.new ≡ actions.old ++ (rules.coordinates around.now self.old).1) }
         ensures lost { OnErr result (self.new ≡ rules.ends_table self.old) }
-        ensures memory { OnErr result (IsTrue (rules.is_active around.now.singleton.phase) × IsSome self.old.table) }
+        ensures memory { OnErr result (IsTrue (rules.is_active around.now.singleton.phase) × ((table : ShardTable) × (self.old.table ≡ Some table) × rules.TickTakesRoom around.now table)) }
     {
         if !around.is_active() {
             return Ok(());
@@ -158,7 +161,7 @@ impl Sharding {
         ensures state { OnOk result (self.new ≡ (rules.coordinates_with around.now (Some live.now) self.old).0) }
         ensures actions { OnOk result (actions.new ≡ actions.old ++ (rules.coordinates_with around.now (Some live.now) self.old).1) }
         ensures lost { OnErr result (self.new ≡ rules.ends_table self.old) }
-        ensures memory { OnErr result (IsSome self.old.table) }
+        ensures memory { OnErr result ((table : ShardTable) × (self.old.table ≡ Some table) × rules.TickTakesRoom around.now table) }
     {
         let Some(mut table) = self.coordinator.take() else {
             return Ok(());
@@ -166,6 +169,24 @@ impl Sharding {
         ticks(alloc, around, live, &mut table, actions)?;
         self.coordinator = Some(table);
         Ok(())
+    }
+}
+
+// The loads by which a shard is placed. Where it has a home already nobody is counted, since none is asked for.
+fn loads_if_free(
+    alloc: Global,
+    around: &Around,
+    shard: u32,
+    table: &Coordinator,
+) -> Result<Vec<Load>, AllocError>
+    requires { shard < length table.now }
+    ensures answer { IfOk result (λ loads. homing loads.items (entry_of table.now shard) ≡ homing (rules.loads around.now table.now) (entry_of table.now shard)) }
+    ensures after { IfOk result (λ loads. after_get_home loads.items (entry_of table.now shard) ≡ after_get_home (rules.loads around.now table.now) (entry_of table.now shard)) }
+    ensures memory { OnErr result (((entry_of table.now shard).home ≡ None) × (rules.loads around.now table.now ≢ [])) }
+{
+    match table.home(shard) {
+        Some(_) => Ok(Vec::new(alloc)),
+        None => around.loads(alloc, table),
     }
 }
 
@@ -182,8 +203,9 @@ fn gives_home(
     requires { shard < length table.old }
     ensures table { OnOk result (table.new ≡ with_entry table.old shard (after_get_home (rules.loads around.now table.old) (entry_of table.old shard))) }
     ensures actions { OnOk result (actions.new ≡ actions.old ++ rules.tells_home around.now from.now ballot.now shard (homing (rules.loads around.now table.old) (entry_of table.old shard))) }
+    ensures memory { OnErr result (rules.HomeTakesRoom around.now shard table.old) }
 {
-    let loads = around.loads(alloc, table)?;
+    let loads = loads_if_free(alloc, around, shard, table)?;
     let homing = table.on_get_home(alloc, shard, &loads)?;
     tells_home(alloc, around, from, ballot, shard, &homing, actions)
 }
@@ -197,7 +219,8 @@ fn tells_home(
     homing: &Homing,
     actions: &mut Actions,
 ) -> Result<(), AllocError>
-    ensures { OnOk result (actions.new ≡ actions.old ++ rules.tells_home around.now from.now ballot.now shard homing.now) }
+    ensures ok { OnOk result (actions.new ≡ actions.old ++ rules.tells_home around.now from.now ballot.now shard homing.now) }
+    ensures memory { OnErr result (NamesHome homing.now) }
 {
     match homing {
         Homing::Known(owner) => tell_home(alloc, around.me, from, ballot, shard, owner, actions),
@@ -224,6 +247,7 @@ fn takes_ack(
     requires { shard < length table.old }
     ensures table { OnOk result (table.new ≡ with_entry table.old shard (after_ack from.now number (entry_of table.old shard))) }
     ensures actions { OnOk result (actions.new ≡ actions.old ++ rules.orders_hand_off around.now ballot.now shard (is_last_ack from.now number (entry_of table.old shard)) (entry_of table.old shard).home) }
+    ensures memory { OnErr result (rules.AckTakesRoom from.now shard number table.old) }
 {
     let is_last = table.on_ack(from, shard, number);
     orders_hand_off(
@@ -246,7 +270,8 @@ fn orders_hand_off(
     home: Option<&Placed>,
     actions: &mut Actions,
 ) -> Result<(), AllocError>
-    ensures { OnOk result (actions.new ≡ actions.old ++ rules.orders_hand_off around.now ballot.now shard is_last (option_copied home.entry)) }
+    ensures ok { OnOk result (actions.new ≡ actions.old ++ rules.orders_hand_off around.now ballot.now shard is_last (option_copied home.entry)) }
+    ensures memory { OnErr result (IsTrue is_last) }
 {
     if !is_last {
         return Ok(());
@@ -279,7 +304,12 @@ fn places_again(
     requires { shard < length table.old }
     ensures table { OnOk result (table.new ≡ with_entry table.old shard (after_stopped from.now number (rules.loads around.now table.old) (entry_of table.old shard))) }
     ensures actions { OnOk result (actions.new ≡ actions.old ++ rules.orders_placed around.now ballot.now shard (stopped_placed from.now number (rules.loads around.now table.old) (entry_of table.old shard))) }
+    ensures memory { OnErr result (rules.StopTakesRoom around.now from.now shard number table.old) }
 {
+    // From any other node it means nothing, and nobody is counted.
+    if !table.awaits_stop(from, shard, number) {
+        return Ok(());
+    }
     let loads = around.loads(alloc, table)?;
     match table.on_stopped(alloc, from, shard, number, &loads)? {
         Some(home) => order_host(
@@ -305,6 +335,7 @@ fn ticks(
 ) -> Result<(), AllocError>
     ensures table { OnOk result (table.new ≡ rules.ticked_table around.now table.old) }
     ensures actions { OnOk result (actions.new ≡ actions.old ++ map (rules.gives_order around.now live.now) (orders_from 0 (rules.ticked_table around.now table.old))) }
+    ensures memory { OnErr result (rules.TickTakesRoom around.now table.old) }
 {
     let orders = table.on_tick(
         alloc,
@@ -322,7 +353,8 @@ fn give_each(
     orders: &[Order],
     actions: &mut Actions,
 ) -> Result<(), AllocError>
-    ensures { OnOk result (actions.new ≡ actions.old ++ map (rules.gives_order around.now live.now) orders.now) }
+    ensures ok { OnOk result (actions.new ≡ actions.old ++ map (rules.gives_order around.now live.now) orders.now) }
+    ensures memory { OnErr result (orders.now ≢ []) }
 {
     'orders: for order in orders {
         give(alloc, around, live, order, actions)?;

@@ -12,7 +12,8 @@ impl Sharding {
     /// home, an order to host, to hold or to hand off; to the coordinator, with the ballot with which it is active, that a home
     /// is asked for, or that a node hosts, holds or has handed off; or it is a payload for an entity (Akka's Cluster Sharding,
     /// "How it works"). A message about a shard that the node has not, with another ballot, and any other, changes nothing and takes
-    /// no memory. Adds what it does; only memory can fail.
+    /// no memory; nor does the coordinator where it tells nobody anything, and has no load by which it could place the shard.
+    /// Adds what it does; only memory can fail.
     pub fn on_message(
         &mut self,
         alloc: Global,
@@ -23,7 +24,7 @@ impl Sharding {
     ) -> Result<(), AllocError>
         ensures state { OnOk result (self.new ≡ (rules.on_shard_message around.now from.now message.now self.old).0) }
         ensures actions { OnOk result (actions.new ≡ actions.old ++ (rules.on_shard_message around.now from.now message.now self.old).1) }
-        ensures memory { OnErr result (rules.TakesRoom around.now message.now self.old) }
+        ensures memory { OnErr result (rules.TakesRoom around.now from.now message.now self.old) }
     {
         match message {
             Message::GetHome(ballot, shard) => self.on_get_home(

@@ -1,4 +1,4 @@
-ghost use Rattle.std.specs.Prelude.{◌≡◌, IfOk};
+ghost use Rattle.std.specs.Prelude.{◌≡◌, ◌≢◌, [], IfOk, OnErr};
 ghost use Rattle.ak_promise.specs.Promise.{is_some_ballot};
 ghost use Rattle.ak_singleton.specs.Singleton.{is_asking};
 ghost use Rattle.ak_sharding.specs.Hosts as hosts;
@@ -86,9 +86,11 @@ impl<'a> Around<'a> {
         }
     }
 
-    // How many shards have their home at each Up member of the settled view that has granted.
+    // How many shards have their home at each Up member of the settled view that has granted. Takes memory only where there is
+    // one.
     pub(crate) fn loads(&self, alloc: Global, table: &Coordinator) -> Result<Vec<Load>, AllocError>
-        ensures { IfOk result (λ loads. loads.items ≡ coordinates.loads self.now table.now) }
+        ensures ok { IfOk result (λ loads. loads.items ≡ coordinates.loads self.now table.now) }
+        ensures memory { OnErr result (coordinates.loads self.now table.now ≢ []) }
     {
         table.loads(alloc, self.singleton.granted(), self.settled)
     }
