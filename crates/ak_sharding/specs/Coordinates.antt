@@ -103,7 +103,7 @@ on_shard_stopped around from b shard number s =
 abbrev pub HomeTakesRoom : Around → ℕ → ShardTable → Type 0
 HomeTakesRoom around shard table = NamesHome (homing (loads around table) (entry_of table shard)) ⊎ (((entry_of table shard).home ≡ None) × (loads around table ≢ []))
 
--- nobody else is waited for
+-- it is the last one that is waited for
 abbrev pub AckTakesRoom : UniqueModel → ℕ → ℕ → ShardTable → Type 0
 AckTakesRoom from shard number table = IsTrue (is_last_ack from number (entry_of table shard))
 

@@ -172,7 +172,7 @@ impl Sharding {
     }
 }
 
-// The loads by which a shard is placed. Where it has a home already nobody is counted, since none is asked for.
+// The loads by which a free shard is placed. Where the shard has a home they decide nothing, and none is counted.
 fn loads_if_free(
     alloc: Global,
     around: &Around,
@@ -306,7 +306,7 @@ fn places_again(
     ensures actions { OnOk result (actions.new ≡ actions.old ++ rules.orders_placed around.now ballot.now shard (stopped_placed from.now number (rules.loads around.now table.old) (entry_of table.old shard))) }
     ensures memory { OnErr result (rules.StopTakesRoom around.now from.now shard number table.old) }
 {
-    // From any other node it means nothing, and nobody is counted.
+    // A stop that is not awaited changes nothing, and no home is counted for it.
     if !table.awaits_stop(from, shard, number) {
         return Ok(());
     }

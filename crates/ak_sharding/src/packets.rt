@@ -12,8 +12,8 @@ impl Sharding {
     /// home, an order to host, to hold or to hand off; to the coordinator, with the ballot with which it is active, that a home
     /// is asked for, or that a node hosts, holds or has handed off; or it is a payload for an entity (Akka's Cluster Sharding,
     /// "How it works"). A message about a shard that the node has not, with another ballot, and any other, changes nothing and takes
-    /// no memory; nor does the coordinator where it tells nobody anything, and has no load by which it could place the shard.
-    /// Adds what it does; only memory can fail.
+    /// no memory; as coordinator the node takes it only where somebody is told something, or where the shard is to be placed and
+    /// there is a load. Adds what it does; only memory can fail.
     pub fn on_message(
         &mut self,
         alloc: Global,
