@@ -1,5 +1,5 @@
 -- Keys are equal exactly where the addresses and processes are.
-use Rattle.std.proofs.Common.{◌≡◌, ◌∙◌, ◌↔◌, ℕ, Bool, true, false, List, [], ◌∷◌, IsTrue, nat_eq, refl, sym, ap}
+use Rattle.std.proofs.Common.{◌≡◌, ◌↔◌, ℕ, Bool, true, false, List, [], ◌∷◌, IsTrue, nat_eq, refl, sym, ap}
 use Rattle.std.specs.Cmp.Lexicographic.{pointwise, bytes_decides}
 use Rattle.ak_address.specs.Keys.{address_key, unique_key}
 use Rattle.ak_address.specs.Unique.{AddressModel, UniqueModel}

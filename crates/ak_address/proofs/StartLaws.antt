@@ -1,6 +1,6 @@
 -- Where the first bytes differ as numbers, the texts stand in the order of these; short texts of one length with the same number
 -- are the same.
-use Rattle.std.proofs.Common.{◌≡◌, ◌≢◌, ◌+◌, ◌-◌, ◌*◌, ◌^◌, ◌<◌, ◌≤◌, ◌∙◌, ℕ, zero, suc, true, nat_eq, List, [], ◌∷◌, length, get_or, refl, sym, ap, subst, arith, le_refl, le_trans, mul-le-mul_right}
+use Rattle.std.proofs.Common.{◌≡◌, ◌≢◌, ◌+◌, ◌-◌, ◌*◌, ◌%◌, ◌^◌, min, ◌<◌, ◌≤◌, ◌∙◌, ℕ, zero, suc, true, nat_eq, List, [], ◌∷◌, length, get_or, refl, sym, ap, subst, arith, le_refl, le_trans, mul-le-mul_right}
 use Rattle.std.proofs.Math.Nat.{mul_left_comm}
 use Rattle.std.specs.declared.cmp.Ordering.{Ordering}
 use Rattle.std.specs.declared.cmp.Ordering.TheVariants.{Less, Equal, Greater}
@@ -124,6 +124,33 @@ same zero (x ∷ a) (y ∷ b) _ _ short _ _ = absurd (omega arith)
 same (suc n) (x ∷ a) (y ∷ b) are_a are_b short long tie =
     then_tied (nat_cmp x y) (same n a b (λ i. are_a (suc i)) (λ i. are_b (suc i)) (omega arith) (omega arith)) (sym (of_both n x y a b (λ i. are_a (suc i)) (λ i. are_b (suc i))) ∙ tie)
 
+then_less : {p q : Ordering} (o : Ordering) → (p ≡ Equal → q ≡ Less) → ordering_then o p ≡ Equal → ordering_then o q ≡ Less
+then_less Less _ tie = absurd (false≢true (ap is_eq tie))
+then_less Equal so tie = so tie
+then_less Greater _ tie = absurd (false≢true (ap is_eq tie))
+
+then_greater : {p q : Ordering} (o : Ordering) → (p ≡ Equal → q ≡ Greater) → ordering_then o p ≡ Equal → ordering_then o q ≡ Greater
+then_greater Less _ tie = absurd (false≢true (ap is_eq tie))
+then_greater Equal so tie = so tie
+then_greater Greater _ tie = absurd (false≢true (ap is_eq tie))
+
+-- where they do not, a text that ends among them comes before a longer one
+shorter : (n : ℕ) (a b : List ℕ) → AreBytes a → AreBytes b → length a ≤ n → length a < length b → nat_cmp (first_bytes n a) (first_bytes n b) ≡ Equal → slice_cmp nat_cmp a b ≡ Less
+shorter n [] [] _ _ _ less _ = absurd (omega arith)
+shorter n [] (y ∷ b) _ _ _ _ _ = refl
+shorter n (x ∷ a) [] _ _ _ less _ = absurd (omega arith)
+shorter zero (x ∷ a) (y ∷ b) _ _ short _ _ = absurd (omega arith)
+shorter (suc n) (x ∷ a) (y ∷ b) are_a are_b short less tie =
+    then_less (nat_cmp x y) (shorter n a b (λ i. are_a (suc i)) (λ i. are_b (suc i)) (omega arith) (omega arith)) (sym (of_both n x y a b (λ i. are_a (suc i)) (λ i. are_b (suc i))) ∙ tie)
+
+longer : (n : ℕ) (a b : List ℕ) → AreBytes a → AreBytes b → length b ≤ n → length b < length a → nat_cmp (first_bytes n a) (first_bytes n b) ≡ Equal → slice_cmp nat_cmp a b ≡ Greater
+longer n [] [] _ _ _ less _ = absurd (omega arith)
+longer n (x ∷ a) [] _ _ _ _ _ = refl
+longer n [] (y ∷ b) _ _ _ less _ = absurd (omega arith)
+longer zero (x ∷ a) (y ∷ b) _ _ short _ _ = absurd (omega arith)
+longer (suc n) (x ∷ a) (y ∷ b) are_a are_b short less tie =
+    then_greater (nat_cmp x y) (longer n a b (λ i. are_a (suc i)) (λ i. are_b (suc i)) (omega arith) (omega arith)) (sym (of_both n x y a b (λ i. are_a (suc i)) (λ i. are_b (suc i))) ∙ tie)
+
 -- ---- at a text
 is_tie : (m n : ℕ) → m ≡ n → nat_cmp m n ≡ Equal
 is_tie m n e = ap (nat_cmp m) (sym e) ∙ nat_cmp_same m
@@ -136,23 +163,50 @@ no_tie m n other = by (nat_cmp m n) (ranks m n)
     by Equal tied _ = other tied
     by Greater gt e = false≢true (ap is_eq e)
 
+module _ (a b : List ℕ) (are_a : AreBytes a) (are_b : AreBytes b) where
+  by_length : (o : Ordering) → nat_cmp (first_bytes 7 a) (first_bytes 7 b) ≡ Equal → MatchOrdering o (min (length a) 8 < min (length b) 8) (min (length a) 8 ≡ min (length b) 8) (min (length b) 8 < min (length a) 8) → (o ≢ Equal)
+      → o ≡ slice_cmp nat_cmp a b
+  by_length Less tie lt _ = sym (shorter 7 a b are_a are_b (omega arith) (omega arith) tie)
+  by_length Equal tie _ other = absurd (other refl)
+  by_length Greater tie gt _ = sym (longer 7 a b are_a are_b (omega arith) (omega arith) tie)
+
+  by_first : (o : Ordering) → o ≡ nat_cmp (first_bytes 7 a) (first_bytes 7 b) → (ordering_then o (nat_cmp (min (length a) 8) (min (length b) 8)) ≢ Equal) → ordering_then o (nat_cmp (min (length a) 8) (min (length b) 8)) ≡ slice_cmp nat_cmp a b
+  by_first Less is other = is ∙ tells 7 a b are_a are_b (λ e. false≢true (ap is_eq (is ∙ e)))
+  by_first Equal is other = by_length (nat_cmp (min (length a) 8) (min (length b) 8)) (sym is) (ranks (min (length a) 8) (min (length b) 8)) other
+  by_first Greater is other = is ∙ tells 7 a b are_a are_b (λ e. false≢true (ap is_eq (is ∙ e)))
+
+  -- a start in its two digits
+  two_digits : nat_cmp (first_bytes 7 a * 256 + min (length a) 8) (first_bytes 7 b * 256 + min (length b) 8) ≡ ordering_then (nat_cmp (first_bytes 7 a) (first_bytes 7 b)) (nat_cmp (min (length a) 8) (min (length b) 8))
+  two_digits = digits 256 (first_bytes 7 a) (first_bytes 7 b) (min (length a) 8) (min (length b) 8) (omega arith) (omega arith)
+
 -- the starts differ, and so the texts do
 pub starts_differ : {m n : ℕ} {a b : List ℕ} → IsKept m a → IsKept n b → (m ≢ n) → nat_cmp m n ≡ slice_cmp nat_cmp a b
 unfolding start_of
 starts_differ {m} {n} {a} {b} at_a at_b other =
-    let first : m ≡ first_bytes 8 a = at_a.told in
-    let second : n ≡ first_bytes 8 b = at_b.told in
-    let both : nat_cmp m n ≡ nat_cmp (first_bytes 8 a) (first_bytes 8 b) = λ i. nat_cmp (first i) (second i) in
-    both ∙ tells 8 a b at_a.are_bytes at_b.are_bytes (λ e. no_tie m n other (both ∙ e))
+    let first : m ≡ first_bytes 7 a * 256 + min (length a) 8 = at_a.told in
+    let second : n ≡ first_bytes 7 b * 256 + min (length b) 8 = at_b.told in
+    let both : nat_cmp m n ≡ ordering_then (nat_cmp (first_bytes 7 a) (first_bytes 7 b)) (nat_cmp (min (length a) 8) (min (length b) 8)) = (λ i. nat_cmp (first i) (second i)) ∙ two_digits a b at_a.are_bytes at_b.are_bytes in
+    both ∙ by_first a b at_a.are_bytes at_b.are_bytes (nat_cmp (first_bytes 7 a) (first_bytes 7 b)) refl (λ e. no_tie m n other (both ∙ e))
 
--- the starts are the same, and tell all of two texts as long
-pub starts_tell_all : {m n : ℕ} {a b : List ℕ} → IsKept m a → IsKept n b → length a ≤ 8 → length a ≡ length b → m ≡ n → slice_cmp nat_cmp a b ≡ Equal
+-- a start says whether it tells all
+pub start_counts : {m : ℕ} {a : List ℕ} → IsKept m a → m % 256 ≡ min (length a) 8
 unfolding start_of
-starts_tell_all {m} {n} {a} {b} at_a at_b short long tied =
-    same 8 a b at_a.are_bytes at_b.are_bytes short long (is_tie (first_bytes 8 a) (first_bytes 8 b) (sym at_a.told ∙ tied ∙ at_b.told))
+start_counts {m} {a} at_a =
+    let first : m ≡ first_bytes 7 a * 256 + min (length a) 8 = at_a.told in
+    omega arith
 
-pub starts_are_same : {m n : ℕ} {a b : List ℕ} → IsKept m a → IsKept n b → length a ≤ 8 → length a ≡ length b → m ≡ n → a ≡ b
-starts_are_same {m} {n} {a} {b} at_a at_b short long tied = exact_bytes a b (starts_tell_all at_a at_b short long tied)
+-- the starts are the same, and tell all
+pub starts_tell_all : {m n : ℕ} {a b : List ℕ} → IsKept m a → IsKept n b → length a ≤ 7 → m ≡ n → slice_cmp nat_cmp a b ≡ Equal
+unfolding start_of
+starts_tell_all {m} {n} {a} {b} at_a at_b short tied =
+    let first : m ≡ first_bytes 7 a * 256 + min (length a) 8 = at_a.told in
+    let second : n ≡ first_bytes 7 b * 256 + min (length b) 8 = at_b.told in
+    let alike : first_bytes 7 a ≡ first_bytes 7 b = omega arith in
+    let long : length a ≡ length b = omega arith in
+    same 7 a b at_a.are_bytes at_b.are_bytes short long (is_tie (first_bytes 7 a) (first_bytes 7 b) alike)
+
+pub starts_are_same : {m n : ℕ} {a b : List ℕ} → IsKept m a → IsKept n b → length a ≤ 7 → m ≡ n → a ≡ b
+starts_are_same {m} {n} {a} {b} at_a at_b short tied = exact_bytes a b (starts_tell_all at_a at_b short tied)
 
 pub pointwise_same : (a b : List ℕ) → a ≡ b → true ≡ pointwise nat_eq a b
 pointwise_same a b e = sym (ap (pointwise nat_eq a) (sym e) ∙ nat_list_eq_equiv.refl a)

@@ -8,8 +8,8 @@ use std::alloc::{AllocError, Global};
 use std::cmp::Ordering;
 use std::marker::Model;
 
-// As many bytes as a number of 64 bits holds.
-const START_BYTES: usize = 8;
+// As many bytes as a number of 64 bits holds beside how many there are.
+const START_BYTES: usize = 7;
 
 /// A list of bytes: a host, an entity's id, the content of a file. Up to 16 bytes, as most hosts have, stand in the value
 /// itself, so that a copy of them takes no memory.
@@ -56,7 +56,7 @@ impl Text {
         if self.start != other.start {
             return false;
         }
-        self.is_as_short(other) || self.bytes() == other.bytes()
+        self.is_short() || self.bytes() == other.bytes()
     }
 
     /// The order of bytes: the first one that differs decides, and else a text comes before what it begins. Takes no memory.
@@ -66,18 +66,17 @@ impl Text {
         if self.start != other.start {
             return self.start.cmp(&other.start);
         }
-        if self.is_as_short(other) {
+        if self.is_short() {
             return Ordering::Equal;
         }
         self.bytes().cmp(other.bytes())
     }
 
-    // Both have as many bytes, and no more than their starts tell.
-    fn is_as_short(&self, other: &Text) -> bool
-        ensures { IsTrue result ↔ (length self.now ≤ 8) × (length self.now ≡ length other.now) }
+    // Its start tells all of it.
+    fn is_short(&self) -> bool
+        ensures { IsTrue result ↔ length self.now ≤ 7 }
     {
-        let many = self.letters.len();
-        many <= START_BYTES && many == other.letters.len()
+        self.start % 256 <= START_BYTES as u64
     }
 
     /// An equal text. Only memory can fail.
@@ -101,7 +100,7 @@ impl Drop for Text {
     }
 }
 
-// The first bytes as one number, the first of them weighing most; past the end each is 0.
+// The first bytes as one number, the first of them weighing most, and after them how many bytes there are.
 fn start_of(bytes: &[u8]) -> u64
     ensures { result ≡ start_of bytes.now }
 {
@@ -109,7 +108,7 @@ fn start_of(bytes: &[u8]) -> u64
     'places: for place in 0..START_BYTES {
         start = start * 256 + u64::from(byte_at(bytes, place));
     }
-    start
+    start * 256 + bytes.len().min(START_BYTES + 1) as u64
 }
 
 fn byte_at(bytes: &[u8], place: usize) -> u8
