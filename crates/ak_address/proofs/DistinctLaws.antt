@@ -1,12 +1,12 @@
 -- How many addresses processes have, along a list of them in their order: those of one address stand side by side, so
 -- each that is not at the address of the last one is at another.
-use Rattle.std.proofs.Common.{◌≡◌, ℕ, ◌+◌, Bool, true, false, cond, ◌||◌, List, [], ◌∷◌, ◌++◌, Option, Some, None, option_to_list, refl, sym, ap, ◌∙◌, subst, arith, true≢false}
+use Rattle.std.proofs.Common.{◌≡◌, ℕ, ◌+◌, ◌≤◌, Bool, true, false, cond, ◌||◌, List, [], ◌∷◌, ◌++◌, Option, Some, None, option_to_list, refl, sym, ap, ◌∙◌, subst, arith, true≢false}
 use Rattle.std.specs.declared.cmp.Ordering.TheVariants.{Less, Equal, Greater}
 use Rattle.std.specs.List.{list_any}
 use Rattle.std.specs.Ordering.{is_eq, nat_cmp, ordering_then}
 use Rattle.std.specs.Cmp.{alike_right}
 use Rattle.ak_address.specs.Unique.{AddressModel, UniqueModel, address_cmp, unique_cmp}
-use Rattle.ak_address.specs.Distinct.{distinct, addresses_of, is_at_address}
+use Rattle.ak_address.specs.Distinct.{AddressCountModel, none_counted, counted_with, distinct, addresses_of, is_at_address}
 use Rattle.ak_address.proofs.OrderLemmas.{address_total}
 
 -- ---- processes in order
@@ -31,10 +31,10 @@ abbrev pub again : Option UniqueModel → List AddressModel → ℕ
 again None rest = 0
 again (Some u) rest = cond (shares u.address rest) 1 0
 
--- a count so far, after this last process, and the processes that are left
-pub record Counting (last : Option UniqueModel) (count : ℕ) (left : List UniqueModel) (total : ℕ) : Type 0 where
-  pub rising : AreRising (option_to_list last ++ left)
-  pub so_far : count + distinct (addresses_of left) ≡ total + again last (addresses_of left)
+-- a count so far, and the processes that are left
+pub record Counting (c : AddressCountModel) (left : List UniqueModel) (total : ℕ) : Type 0 where
+  pub rising : AreRising (option_to_list c.last ++ left)
+  pub so_far : c.count + distinct (addresses_of left) ≡ total + again c.last (addresses_of left)
 
 -- ---- addresses
 above_address : (l u q : UniqueModel) → address_cmp l.address u.address ≡ Less → unique_cmp u q ≡ Less → address_cmp l.address q.address ≡ Less
@@ -63,54 +63,53 @@ no_more None who rest r other = refl
 no_more (Some l) who rest r other = ap (λ b. cond b 1 0) (apart l who (below_address l who r.0.0 other) rest r.1.0)
 
 -- ---- one process more
-counted_once : (b : Bool) (n d total : ℕ) → n + cond b d (d + 1) ≡ total → n + 1 + d ≡ total + cond b 1 0
+counted_once : (b : Bool) (n d total : ℕ) → n + cond b d (d + 1) ≡ total + 0 → n + 1 + d ≡ total + cond b 1 0
 counted_once true n d total is = omega arith
 counted_once false n d total is = omega arith
 
-counted_again : (b : Bool) (n d total : ℕ) → n + cond b d (d + 1) ≡ total + 1 → n + 0 + d ≡ total + cond b 1 0
+counted_again : (b : Bool) (n d total : ℕ) → n + cond b d (d + 1) ≡ total + 1 → n + d ≡ total + cond b 1 0
 counted_again true n d total is = omega arith
 counted_again false n d total is = omega arith
 
 counted_next : (last : Option UniqueModel) (who : UniqueModel) (rest : List AddressModel) (n total : ℕ)
     → (is_at_address last who ≡ false → again last rest ≡ 0)
     → n + distinct (who.address ∷ rest) ≡ total + again last (who.address ∷ rest)
-    → n + cond (is_at_address last who) 0 1 + distinct rest ≡ total + again (Some who) rest
-counted_next None who rest n total none so_far = counted_once (shares who.address rest) n (distinct rest) total (so_far ∙ omega arith)
+    → (counted_with (record { count = n; last = last }) who).count + distinct rest ≡ total + again (Some who) rest
+counted_next None who rest n total none so_far = counted_once (shares who.address rest) n (distinct rest) total so_far
 counted_next (Some l) who rest n total none so_far =
     elim (is_eq (address_cmp l.address who.address)) as (λ b.
-    (b ≡ false → again (Some l) rest ≡ 0) → n + distinct (who.address ∷ rest) ≡ total + cond (b || shares l.address rest) 1 0 → n + cond b 0 1 + distinct rest ≡ total + again (Some who) rest) [
+    (b ≡ false → again (Some l) rest ≡ 0) → n + distinct (who.address ∷ rest) ≡ total + cond (b || shares l.address rest) 1 0 → cond b n (n + 1) + distinct rest ≡ total + again (Some who) rest) [
       | true ↦ λ none so_far. counted_again (shares who.address rest) n (distinct rest) total so_far
       | false ↦ λ none so_far. counted_once (shares who.address rest) n (distinct rest) total (so_far ∙ (let no_more = none refl in omega arith))
     ] none so_far
 
-pub counting_start : (us : List UniqueModel) → AreRising us → Counting None 0 us (distinct (addresses_of us))
+pub counting_start : (us : List UniqueModel) → AreRising us → Counting none_counted us (distinct (addresses_of us))
 counting_start us rising = record { rising = rising; so_far = omega arith }
 
-pub counting_one : (last next : Option UniqueModel) (who : UniqueModel) (left rest : List UniqueModel) (count counted total : ℕ) (same : Bool)
-    → left ≡ who ∷ rest → same ≡ is_at_address last who → next ≡ Some who → counted ≡ count + cond same 0 1
-    → Counting last count left total → Counting next counted rest total
-counting_one last next who left rest count counted total same is known next_is counted_is c =
-    let here : Counting last count (who ∷ rest) total = subst (λ us. Counting last count us total) is c in
-    let one : counted ≡ count + cond (is_at_address last who) 0 1 = counted_is ∙ ap (λ b. count + cond b 0 1) known in
-    subst (λ l. Counting l counted rest total) (sym next_is)
-    (subst (λ n. Counting (Some who) n rest total) (sym one) (record {
-      rising = rising_rest last (who ∷ rest) here.rising;
-      so_far = counted_next last who (addresses_of rest) count total (no_more last who rest here.rising) here.so_far;
-    }))
-
-pub counting_passed : (last next : Option UniqueModel) (left rest : List UniqueModel) (count counted total : ℕ)
-    → left ≡ rest → next ≡ last → counted ≡ count → Counting last count left total → Counting next counted rest total
-counting_passed last next left rest count counted total is next_is counted_is c =
-    subst (λ l. Counting l counted rest total) (sym next_is)
-    (subst (λ n. Counting last n rest total) (sym counted_is) (subst (λ us. Counting last count us total) is c))
+pub counting_one : (c : AddressCountModel) (who : UniqueModel) (left rest : List UniqueModel) (total : ℕ)
+    → left ≡ who ∷ rest → Counting c left total → Counting (counted_with c who) rest total
+counting_one c who left rest total is counting =
+    let here : Counting c (who ∷ rest) total = subst (λ us. Counting c us total) is counting in
+    record {
+      rising = rising_rest c.last (who ∷ rest) here.rising;
+      so_far = counted_next c.last who (addresses_of rest) c.count total (no_more c.last who rest here.rising) here.so_far;
+    }
 
 none_again : (last : Option UniqueModel) → again last [] ≡ 0
 none_again None = refl
 none_again (Some u) = refl
 
-pub counting_end : (last : Option UniqueModel) (left : List UniqueModel) (count total : ℕ) → left ≡ [] → Counting last count left total → count ≡ total
-counting_end last left count total is c =
-    let end : Counting last count [] total = subst (λ us. Counting last count us total) is c in
+pub counting_end : (c : AddressCountModel) (left : List UniqueModel) (total : ℕ) → left ≡ [] → Counting c left total → c.count ≡ total
+counting_end c left total is counting =
+    let end : Counting c [] total = subst (λ us. Counting c us total) is counting in
     let so_far = end.so_far in
-    let none = none_again last in
+    let none = none_again c.last in
     omega arith
+
+-- the count rises by one at most
+pub counted_few : (c : AddressCountModel) (who : UniqueModel) → (counted_with c who).count ≤ c.count + 1
+counted_few c who = by_test (is_at_address c.last who)
+  where
+    by_test : (b : Bool) → cond b c.count (c.count + 1) ≤ c.count + 1
+    by_test true = omega arith
+    by_test false = omega arith

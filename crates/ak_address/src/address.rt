@@ -129,8 +129,8 @@ impl Unique {
     }
 }
 
-/// Whether the first process, where there is one, is at the address of the second. Takes no memory.
-pub fn shares_address(first: Option<&Unique>, second: &Unique) -> bool
+// The first process, where there is one, is at the address of the second.
+pub(crate) fn shares_address(first: Option<&Unique>, second: &Unique) -> bool
     ensures { result ≡ is_at_address (option_copied first.entry) second.now }
 {
     match first {

@@ -3,6 +3,7 @@
 #![tactic(auto)]
 
 mod address;
+mod counting;
 mod keys;
 mod laws;
 mod parse;
@@ -12,7 +13,8 @@ mod text;
 mod uniques;
 mod values;
 
-pub use address::{Address, Unique, shares_address};
+pub use address::{Address, Unique};
+pub use counting::AddressCount;
 pub use laws::{
     merges_are_pointwise, orders_are_total, quorums_share_an_address, spellings_are_words,
     spellings_have_one_value, texts_are_spellings,

@@ -8,7 +8,7 @@ ghost use Rattle.ak_reach.specs.Unreachable.{unreachable_members};
 ghost use Rattle.ak_downing.specs.Downing.{is_beside, counted_beside, counted_apart, reachable_addresses};
 ghost use Rattle.ak_downing.specs.Sides.{seen_with};
 
-use ak_address::{Unique, shares_address};
+use ak_address::{AddressCount, Unique};
 use ak_member::Members;
 use ak_reach::{Rows, is_unreachable};
 
@@ -19,17 +19,13 @@ pub fn reachable_addresses(members: &Members, rows: &Rows, me: &Unique) -> u32
     requires { map.len members.now < 2 ^ 32 }
     ensures { result ≡ reachable_addresses (seen_with members.now rows.now) me.now }
 {
-    let mut count = 0;
-    let mut last = None;
+    let mut addresses = AddressCount::none();
     'pairs: for pair in 0..members.uniques() {
         if let Some((unique, _)) = beside_at_pair(members, rows, me, pair) {
-            if !shares_address(last, unique) {
-                count += 1;
-            }
-            last = Some(unique);
+            addresses.add(unique);
         }
     }
-    count
+    addresses.count()
 }
 
 // The process and the up number of the member at a pair, where there is one, it counts, and it is on the node's side.

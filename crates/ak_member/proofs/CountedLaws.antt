@@ -1,10 +1,10 @@
 -- How many addresses some of the counted members have, along the pairs.
-use Rattle.std.proofs.Common.{◌≡◌, ℕ, ◌+◌, ◌≤◌, Bool, true, false, cond, T, List, [], ◌∷◌, map, length, drop, slice_get, Option, Some, None, option_to_list, ◌⊎◌, inl, inr, refl, ap, subst}
+use Rattle.std.proofs.Common.{◌≡◌, ℕ, ◌+◌, ◌≤◌, Bool, true, false, cond, T, List, [], ◌∷◌, map, length, drop, slice_get, Some, None, option_to_list, ◌⊎◌, inl, inr, refl, sym, ap, subst, arith}
 use Rattle.std.specs.FinMap.{is_sorted}
 use Rattle.std.specs.List.{filter}
 use Rattle.ak_address.specs.Unique.{UniqueModel, unique_cmp}
-use Rattle.ak_address.specs.Distinct.{distinct, addresses_of, is_at_address}
-use Rattle.ak_address.proofs.DistinctLaws.{Counting, counting_start, counting_one, counting_passed, counting_end}
+use Rattle.ak_address.specs.Distinct.{AddressCountModel, none_counted, counted_with, distinct, addresses_of}
+use Rattle.ak_address.proofs.DistinctLaws.{Counting, counting_start, counting_one, counting_end, counted_few}
 use Rattle.ak_member.specs.declared.standing.Standing.{Standing}
 use Rattle.ak_member.specs.declared.standing.Standing.TheVariants.{Member, Buried}
 use Rattle.ak_member.specs.Age.{counts}
@@ -41,15 +41,24 @@ module _ (kept : List (UniqueModel × Standing) → List (UniqueModel × ℕ)) w
   abbrev pub processes_among : List (UniqueModel × Standing) → List UniqueModel
   processes_among pairs = map (λ (pair : UniqueModel × ℕ). pair.0) (kept pairs)
 
+  -- a count of those before this pair, that comes to the total at the end
+  pub record CountedTo (c : AddressCountModel) (es : List (UniqueModel × Standing)) (i total : ℕ) : Type 0 where
+    pub few : c.count ≤ i
+    pub counting : Counting c (processes_among (drop i es)) total
+
   module _ (k : KeepsPairs kept) where
     keeps_processes : KeepsPairs processes_among
     keeps_processes = keeps_mapped kept k (λ (pair : UniqueModel × ℕ). pair.0)
 
-    pub counted_start : KeepsProcess kept → (es : List (UniqueModel × Standing)) → T (is_sorted unique_cmp es)
-        → Counting None 0 (processes_among es) (distinct (map (λ (pair : UniqueModel × ℕ). pair.0.address) (kept es)))
-    counted_start own es sorted =
-        subst (Counting None 0 (processes_among es)) (ap distinct (same_addresses (kept es)))
-        (counting_start (processes_among es) (kept_rising processes_among keeps_processes own_process es sorted))
+    pub counted_start : KeepsProcess kept → (c : AddressCountModel) (es : List (UniqueModel × Standing)) → T (is_sorted unique_cmp es) → c ≡ none_counted
+        → CountedTo c es 0 (distinct (map (λ (pair : UniqueModel × ℕ). pair.0.address) (kept es)))
+    counted_start own c es sorted is =
+        subst (λ c. CountedTo c es 0 (distinct (map (λ (pair : UniqueModel × ℕ). pair.0.address) (kept es)))) (sym is) (record {
+          few = omega arith;
+          counting =
+              subst (Counting none_counted (processes_among es)) (ap distinct (same_addresses (kept es)))
+              (counting_start (processes_among es) (kept_rising processes_among keeps_processes own_process es sorted));
+        })
       where
         own_process : (pair : UniqueModel × Standing) → (processes_among (pair ∷ []) ≡ []) ⊎ (processes_among (pair ∷ []) ≡ pair.0 ∷ [])
         own_process pair = elim (own pair) [
@@ -57,19 +66,21 @@ module _ (kept : List (UniqueModel × Standing) → List (UniqueModel × ℕ)) w
           | inr one ↦ inr (ap (map (λ (pair : UniqueModel × ℕ). pair.0)) one.1)
         ]
 
-    pub counted_one : (r : UniqueModel × ℕ) (last next : Option UniqueModel) (es : List (UniqueModel × Standing)) (i count counted total : ℕ) (same : Bool)
-        → r ∷ [] ≡ kept (option_to_list (slice_get es i)) → same ≡ is_at_address last r.0 → next ≡ Some r.0 → counted ≡ count + cond same 0 1
-        → Counting last count (processes_among (drop i es)) total → Counting next counted (processes_among (drop (i + 1) es)) total
-    counted_one r last next es i count counted total same is told next_is counted_is c =
-        counting_one last next r.0 (processes_among (drop i es)) (processes_among (drop (i + 1) es)) count counted total same
-        (ap (map (λ (pair : UniqueModel × ℕ). pair.0)) (kept_pair kept k es i (Some r) is)) told next_is counted_is c
+    pub counted_one : (r : UniqueModel × ℕ) (c next : AddressCountModel) (es : List (UniqueModel × Standing)) (i total : ℕ)
+        → r ∷ [] ≡ kept (option_to_list (slice_get es i)) → next ≡ counted_with c r.0 → CountedTo c es i total → CountedTo next es (i + 1) total
+    counted_one r c next es i total is next_is so_far =
+        subst (λ c. CountedTo c es (i + 1) total) (sym next_is) (record {
+          few = let more = counted_few c r.0 in let few = so_far.few in omega arith;
+          counting = counting_one c r.0 (processes_among (drop i es)) (processes_among (drop (i + 1) es)) total (ap (map (λ (pair : UniqueModel × ℕ). pair.0)) (kept_pair kept k es i (Some r) is)) so_far.counting;
+        })
 
-    pub counted_passed : (last next : Option UniqueModel) (es : List (UniqueModel × Standing)) (i count counted total : ℕ)
-        → [] ≡ kept (option_to_list (slice_get es i)) → next ≡ last → counted ≡ count
-        → Counting last count (processes_among (drop i es)) total → Counting next counted (processes_among (drop (i + 1) es)) total
-    counted_passed last next es i count counted total is next_is counted_is c =
-        counting_passed last next (processes_among (drop i es)) (processes_among (drop (i + 1) es)) count counted total
-        (ap (map (λ (pair : UniqueModel × ℕ). pair.0)) (kept_pair kept k es i None is)) next_is counted_is c
+    pub counted_passed : (c next : AddressCountModel) (es : List (UniqueModel × Standing)) (i total : ℕ)
+        → [] ≡ kept (option_to_list (slice_get es i)) → next ≡ c → CountedTo c es i total → CountedTo next es (i + 1) total
+    counted_passed c next es i total is next_is so_far =
+        subst (λ c. CountedTo c es (i + 1) total) (sym next_is) (record {
+          few = let few = so_far.few in omega arith;
+          counting = subst (λ us. Counting c us total) (ap (map (λ (pair : UniqueModel × ℕ). pair.0)) (kept_pair kept k es i None is)) so_far.counting;
+        })
 
-    pub counted_end : (last : Option UniqueModel) (es : List (UniqueModel × Standing)) (i count total : ℕ) → length es ≤ i → Counting last count (processes_among (drop i es)) total → count ≡ total
-    counted_end last es i count total past c = counting_end last (processes_among (drop i es)) count total (kept_at_end processes_among keeps_processes es i past) c
+    pub counted_end : (c : AddressCountModel) (es : List (UniqueModel × Standing)) (i total : ℕ) → length es ≤ i → CountedTo c es i total → c.count ≡ total
+    counted_end c es i total past so_far = counting_end c (processes_among (drop i es)) total (kept_at_end processes_among keeps_processes es i past) so_far.counting

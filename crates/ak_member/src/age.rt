@@ -9,7 +9,7 @@ ghost use Rattle.ak_member.specs.Indices.{indexed_from};
 
 use crate::members::{Member, Members};
 use crate::standing::Standing;
-use ak_address::{Unique, shares_address};
+use ak_address::{AddressCount, Unique};
 use std::alloc::{AllocError, Global};
 
 impl Members {
@@ -69,17 +69,13 @@ fn count_in(pairs: &[(Unique, Standing)]) -> u32
     requires few { length pairs.now < 2 ^ 32 }
     ensures { result ≡ distinct (list.map (λ pair. pair.0.address) (counted_pairs (member_pairs pairs.now))) }
 {
-    let mut count = 0;
-    let mut last = None;
+    let mut addresses = AddressCount::none();
     'pairs: for pair in 0..pairs.len() {
         if let Some((unique, _)) = counted_at(pairs, pair) {
-            if !shares_address(last, unique) {
-                count += 1;
-            }
-            last = Some(unique);
+            addresses.add(unique);
         }
     }
-    count
+    addresses.count()
 }
 
 // The process and the up number at an index among these, where there is a member that counts.

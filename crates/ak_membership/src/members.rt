@@ -12,7 +12,7 @@ ghost use Rattle.ak_downing.specs.Downing.{all_downed};
 ghost use Rattle.ak_membership.specs.Membership as rules;
 ghost use Rattle.ak_membership.specs.Tick as ticks;
 
-use ak_address::{Unique, shares_address};
+use ak_address::{AddressCount, Unique};
 use ak_member::{Effect, Effects, Members, Status};
 use std::alloc::{AllocError, Global};
 
@@ -124,15 +124,11 @@ pub(crate) fn joining_addresses(members: &Members) -> u32
     requires { map.len members.now < 2 ^ 32 }
     ensures { result ≡ distinct (ticks.joining_addresses members.now) }
 {
-    let mut count = 0;
-    let mut last = None;
+    let mut addresses = AddressCount::none();
     'pairs: for pair in 0..members.uniques() {
         if let Some((unique, _)) = joining_at(members, pair) {
-            if !shares_address(last, unique) {
-                count += 1;
-            }
-            last = Some(unique);
+            addresses.add(unique);
         }
     }
-    count
+    addresses.count()
 }

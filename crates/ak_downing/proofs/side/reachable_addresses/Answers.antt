@@ -1,44 +1,31 @@
 use Rattle.std.specs.FinMap as map
-use Rattle.std.proofs.Common.{false, true, ap, ◌∙◌, arith, option_copied}
+use Rattle.std.proofs.Common.{◌∙◌, arith}
 use Rattle.ak_member.proofs.CountedLaws.{counted_start, counted_one, counted_passed, counted_end}
 use Rattle.ak_downing.specs.Sides.{seen_with}
 use Rattle.ak_downing.proofs.SideLemmas.{beside_among, keeps_beside, beside_process}
 use Rattle.ak_downing.proofs.side.reachable_addresses.Goals as goal
-use Rattle.ak_downing.proofs.side.reachable_addresses.Goals.{in-Some, then-not-shares_address, else-not-shares_address, in_default}
+use Rattle.ak_downing.proofs.side.reachable_addresses.Goals.{in-Some, in_default}
 
 pub pairs-init : goal.pairs-init
 pairs-init c =
     let v = seen_with c.args.members.now c.args.rows.now in
     let me = c.args.me.now in
-    record { few = omega arith; counting = counted_start (beside_among v me) (keeps_beside v me) (beside_process v me) (map.entries c.args.members.now) (map.entries_sorted c.args.members.now) }
+    counted_start (beside_among v me) (keeps_beside v me) (beside_process v me) c.none-addresses.result (map.entries c.args.members.now) (map.entries_sorted c.args.members.now) c.none-addresses.ensures
 
 pub pairs-preserved : goal.pairs-preserved
 pairs-preserved c =
     let v = seen_with c.args.members.now c.args.rows.now in
     let me = c.args.me.now in
     let es = map.entries c.args.members.now in
-    let before = c.pairs.invariant.counting in
+    let next = c.match-beside_at_pair.addresses in
     elim c.match-beside_at_pair.branch [
-      | in-Some w ↦
-          let last = ap option_copied w.last-is in
-          elim w.if-not-shares_address.branch [
-            | then-not-shares_address w' ↦ record {
-              few = omega arith;
-              counting = counted_one (beside_among v me) (keeps_beside v me) (w.in-Some.unique.now, w.in-Some.field-0-1) (option_copied c.pairs.last) (option_copied c.match-beside_at_pair.last) es c.pairs.pair c.pairs.count c.match-beside_at_pair.count _ false w.in-Some.ensures w'.if-not-shares_address.ensures last (w.count-is ∙ w'.count-is) before;
-            }
-            | else-not-shares_address w' ↦ record {
-              few = omega arith;
-              counting = counted_one (beside_among v me) (keeps_beside v me) (w.in-Some.unique.now, w.in-Some.field-0-1) (option_copied c.pairs.last) (option_copied c.match-beside_at_pair.last) es c.pairs.pair c.pairs.count c.match-beside_at_pair.count _ true w.in-Some.ensures w'.if-not-shares_address.ensures last (w.count-is ∙ w'.count-is ∙ omega arith) before;
-            }
-          ]
-      | in_default w ↦ record {
-        few = omega arith;
-        counting = counted_passed (beside_among v me) (keeps_beside v me) (option_copied c.pairs.last) (option_copied c.match-beside_at_pair.last) es c.pairs.pair c.pairs.count c.match-beside_at_pair.count _ w.in_default.ensures (ap option_copied w.last-is) w.count-is before;
-      }
+      | in-Some w ↦ counted_one (beside_among v me) (keeps_beside v me) (w.in-Some.unique.now, w.in-Some.field-0-1) c.pairs.addresses next es c.pairs.pair _ w.in-Some.ensures (w.addresses-is ∙ w.add.ensures) c.pairs.invariant
+      | in_default w ↦ counted_passed (beside_among v me) (keeps_beside v me) c.pairs.addresses next es c.pairs.pair _ w.in_default.ensures w.addresses-is c.pairs.invariant
     ]
 
 pub returns : goal.returns
 returns c =
     let v = seen_with c.args.members.now c.args.rows.now in
     let me = c.args.me.now in
-    counted_end (beside_among v me) (keeps_beside v me) (option_copied c.pairs.last) (map.entries c.args.members.now) c.pairs.pair c.pairs.count _ (let past = map.len-entries c.args.members.now in omega arith) c.pairs.invariant.counting
+    c.count.ensures
+    ∙ counted_end (beside_among v me) (keeps_beside v me) c.pairs.addresses (map.entries c.args.members.now) c.pairs.pair _ (let past = map.len-entries c.args.members.now in omega arith) c.pairs.invariant
