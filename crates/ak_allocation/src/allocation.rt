@@ -56,6 +56,7 @@ fn first_by(side: Side, loads: &[Load]) -> Option<usize>
     ensures { IsIndexOf loads.now result (first_of side loads.now) }
 {
     let mut first = None;
+    // From the last one on: what was passed is then the rest of the list, as the definition takes it.
     'loads: for index in (0..loads.len()).rev() {
         first = Some(first_with(side, loads, index, first));
     }

@@ -2,6 +2,7 @@ pub mod AskedCommands
 pub mod Completeness
 pub mod TextParts
 pub mod FinishLemmas
+pub mod FirstSteps
 pub mod HeadlineLemmas
 pub mod LongLines
 pub mod NamedCommands

@@ -113,6 +113,13 @@ abbrev code_in : Verdict → Code
 code_in (Accepts judgement) = Malformed
 code_in (Refuses code) = code
 
+-- an accepted line is accepted as one thing, and is not refused
+pub one_judgement : (p : Progress) (line : List ℕ) (one other : Judgement) → Judged p line one → Judged p line other → one ≡ other
+one_judgement p line one other h g = ap judgement_in (one_verdict p line (Accepts one) (Accepts other) h g)
+
+pub not_refused : (p : Progress) (line : List ℕ) (judgement : Judgement) (code : Code) → Judged p line judgement → IsRefused p line code → ⊥
+not_refused p line judgement code h g = let same = one_verdict p line (Accepts judgement) (Refuses code) h g in cc
+
 -- ---- a whole replay
 abbrev Same : List (List ℕ) → Ending → List (List ℕ) → Ending → Type 0
 Same s x t y = (s ≡ t) × (x ≡ y)
@@ -131,10 +138,10 @@ one_from [] p s t x y h g = (h.0 ∙ sym g.0, one_end p x y h.1 g.1)
 one_from (line ∷ others) p s t x y (inl h) (inl g) =
     let same = ap code_in (one_verdict p line (Refuses h.0) (Refuses g.0) h.1 g.1) in
     (h.2 ∙ sym g.2, h.3 ∙ ap (λ (c : Code). Stopped c p.line) same ∙ sym g.3)
-one_from (line ∷ others) p s t x y (inl h) (inr g) = absurd (let same = one_verdict p line (Refuses h.0) (Accepts g.0) h.1 g.1 in cc)
-one_from (line ∷ others) p s t x y (inr h) (inl g) = absurd (let same = one_verdict p line (Accepts h.0) (Refuses g.0) h.1 g.1 in cc)
+one_from (line ∷ others) p s t x y (inl h) (inr g) = absurd (not_refused p line g.0 h.0 g.1 h.1)
+one_from (line ∷ others) p s t x y (inr h) (inl g) = absurd (not_refused p line h.0 g.0 h.1 g.1)
 one_from (line ∷ others) p s t x y (inr h) (inr g) =
-    let same = ap judgement_in (one_verdict p line (Accepts h.0) (Accepts g.0) h.1 g.1) in
+    let same = one_judgement p line h.0 g.0 h.1 g.1 in
     let rest = one_from others (turn p g.0).0 h.2 g.2 x y (subst (λ (j : Judgement). Replays (turn p j).0 others h.2 x) same h.3) g.3 in
     (h.4 ∙ (λ i. (turn p (same i)).1 ++ rest.0 i) ∙ sym g.4, rest.1)
 

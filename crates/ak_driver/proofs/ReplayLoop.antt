@@ -5,7 +5,7 @@ use Rattle.std.proofs.lemmas.List.Folds.{concat-append}
 use Rattle.std.specs.Io.KnownBytes.{Appends}
 use Rattle.std.proofs.Math.Seq.{take-append_seam}
 use Rattle.std.proofs.KnownBytes.{Appends-trans, Appends-nil}
-use Rattle.ak_outside.specs.Outside.{Rose, AppendsPrefix}
+use Rattle.ak_outside.specs.Outside.{AppendsPrefix}
 use Rattle.ak_outside.specs.declared.status.Status.{Status}
 use Rattle.ak_outside.specs.declared.status.Status.TheVariants.{Done, Double, Schedule, Write, Memory}
 use Rattle.ak_outside.proofs.Prefixes.{AppendsPrefix-after, AppendsPrefix-more}
@@ -25,13 +25,6 @@ use Rattle.ak_driver.specs.ReplayText.{Progress, Ending, Finished, Stopped, Repl
 use Rattle.ak_driver.specs.ReplayPromise.{Prints}
 use Rattle.ak_driver.specs.ReplayContracts.{progress, progress_of, Turns, TurnAnswers, FinishAnswers, finished_status, Ended}
 use Rattle.ak_driver.proofs.SomeReplay.{some_from}
-
--- one whole text, and then the last one
-pub written_after : (a b d : Option (List ℕ)) (text last : List ℕ) (ends answer : Status) (f0 f1 f2 : ℕ) → f1 ≡ f0 → Appends a b text
-    → Written ends last answer f1 f2 b d → Written ends (text ++ last) answer f0 f2 a d
-written_after a b d text last ends answer f0 f1 f2 same p (inl w) = inl (w.0, w.1 ∙ same, Appends-trans a b d text last p w.2)
-written_after a b d text last ends answer f0 f1 f2 same p (inr w) =
-    inr (w.0, subst (λ (n : ℕ). Rose n f2) same w.1, AppendsPrefix-after a b d text last p w.2)
 
 -- a refusal that could not be printed
 pub refusal_starved : (text same refusal : List ℕ) (answer : Status) (w0 w1 : ℕ) (old new : Option (List ℕ)) → same ≡ text

@@ -1,5 +1,5 @@
-ghost use Rattle.std.specs.Prelude.{◌≡◌, ℕ, ◌⊎◌, List, Option};
-ghost use Rattle.ak_driver.specs.ReplayText.{IsReplay, ReplaysAs, Progress, Finished};
+ghost use Rattle.std.specs.Prelude.{◌≡◌, ℕ, ◌⊎◌, ◌++◌, List, Option};
+ghost use Rattle.ak_driver.specs.ReplayText.{IsReplay, IsFirstSteps, IsTextOfEnded, ReplaysAs, Replays, Accepts, Progress, Ending, Finished};
 ghost use Rattle.ak_world.specs.declared.margin.Margin.{Margin};
 ghost use Rattle.ak_world.specs.Double.{Doubled};
 ghost use Rattle.ak_world.specs.World.{run};
@@ -16,6 +16,15 @@ pub fn replays_are_determined()
 /// The world that a replay has reached after its last line is the run of the settings over the events that it accepted.
 pub fn replays_reach_runs()
     ensures { (bytes : List ℕ) (steps : List (List ℕ)) (end : Progress) (margin : Margin) (double : Option Doubled) → ReplaysAs bytes steps (Finished end margin double) → end.world ≡ run end.settings end.events }
+{}
+
+/// What a replay has printed when its source fails is how the replay of the whole schedule begins, whatever bytes were still to come:
+/// the texts of its first steps, each whole. For the steps of accepted lines are the first ones of each replay that begins with these
+/// lines, and the others are those of the lines that are left.
+pub fn failed_reads_print_first_steps()
+    ensures steps { (p q : Progress) (ended others steps all : List (List ℕ)) (ending : Ending) → Accepts p ended steps q → Replays p (ended ++ others) all ending
+        → (rest : List (List ℕ)) × (all ≡ steps ++ rest) × Replays q others rest ending }
+    ensures text { (given more text : List ℕ) → IsTextOfEnded given text → IsFirstSteps (given ++ more) text }
 {}
 
 /// What the definitions say that two small schedules print: one without an event, and one in which two nodes start and

@@ -26,7 +26,9 @@ pub use ak_outside::Status;
 use ak_outside::{Arguments, Clock, Folder, Link, Sink, Source, written};
 use ak_sweeps::run_sweep;
 use ak_turns::{run_ctl, run_node};
-pub use laws::{replays_are_determined, replays_reach_runs, worked_schedules};
+pub use laws::{
+    failed_reads_print_first_steps, replays_are_determined, replays_reach_runs, worked_schedules,
+};
 use replay::replay_with_notes;
 pub use replay::run_replay;
 use std::alloc::Global;

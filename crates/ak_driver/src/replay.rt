@@ -16,7 +16,7 @@ ghost use Rattle.ak_outside.specs.declared.status.Status.TheVariants.{Schedule, 
 use crate::explain::explain;
 use ak_address::print_number;
 use ak_notes::{NoNotes, Notes, warn_of_quorum};
-use ak_outside::{LineReader, Next, Sink, Source, Status, write_all, written};
+use ak_outside::{LineReader, Next, Sink, Source, Status, out_of_memory, write_all, written};
 use ak_report::print_bytes;
 use ak_schedule::{Draft, LineFault, is_passed_over, read_line};
 use ak_world::{Reason, Refused, World, append_step, print_summary};
@@ -148,6 +148,7 @@ impl Replay {
         if self.line > u64::from(MOST_LINES) {
             return Err(Stop::Refused(Code::PastLimit));
         }
+        // A line counts once it is accepted, since a refusal names it.
         match &mut self.stage {
             Stage::Heading(draft) => {
                 if heading(alloc, draft, line)? {
@@ -171,6 +172,7 @@ impl Replay {
         requires { IsWhole self.old.stage }
         ensures { self.new ≡ record { stage = opened self.old.stage; line = self.old.line; steps = self.old.steps } }
     {
+        // The stage is taken out first, since the draft is used up by its settings.
         let stage = mem::replace(&mut self.stage, Stage::Heading(Draft::new(alloc)));
         self.stage = match stage {
             Stage::Heading(draft) => match draft.finish() {
@@ -306,6 +308,7 @@ fn running(
         Ok(step) => step,
         Err(why) => return Err(stop_of(why)),
     };
+    // Emptied before the step and not after it: one that found no memory may have left a part.
     text.clear();
     append_step(alloc, world, steps + 1, &event, &step, text)?;
     print_bytes(text, out)?;
@@ -327,6 +330,7 @@ fn print_refusal(alloc: Global, code: Code, line: u64, out: &mut Vec<u8>) -> Res
     ensures ok { OnOk result (out.new.items ≡ out.old.items ++ refusal_text code line) }
     ensures err { OnErr result (out.new.items ≡ out.old.items) }
 {
+    // Made aside, since the steps are still to be written where it finds no memory.
     let mut text = Vec::new(alloc);
     print_bytes(b"error 4 ", &mut text)?;
     print_bytes(code.text(), &mut text)?;
@@ -334,18 +338,6 @@ fn print_refusal(alloc: Global, code: Code, line: u64, out: &mut Vec<u8>) -> Res
     print_number(line, &mut text)?;
     print_bytes(b"\n", &mut text)?;
     print_bytes(&text, out)
-}
-
-// Whole steps stand in the output, and then the line on memory.
-fn out_of_memory<W: Sink>(output: &mut W, text: &[u8]) -> Status
-    ensures count { W.faults output.old ≤ W.faults output.new }
-    ensures cause { ReplayCause result 0 0 (W.faults output.old) (W.faults output.new) }
-    ensures written { Written Memory (text.now ++ memory_line) result (W.faults output.old) (W.faults output.new) (W.written output.old) (W.written output.new) }
-{
-    if !write_all(output, text) {
-        return Status::Write;
-    }
-    written(output, b"error 7 memory\n", Status::Memory)
 }
 
 // Writes what was printed and the line on a refusal, or the line on memory where there is none for that.

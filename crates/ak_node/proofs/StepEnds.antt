@@ -29,9 +29,9 @@ use Rattle.ak_membership.specs.declared.change.Closing.{Closing}
 use Rattle.ak_membership.specs.declared.change.Reply.TheVariants as reply
 use Rattle.ak_membership.specs.declared.state.MembershipState.{MembershipState}
 use Rattle.ak_membership.specs.Membership as membership
-use Rattle.ak_membership.specs.Membership.{unchanged, made, update, update_any, may_count, replying, has_member_beside, replaced, admitted, on_received, most_at_join}
+use Rattle.ak_membership.specs.Membership.{unchanged, made, update_any, may_count, replying, has_member_beside, replaced, admitted, on_received, most_at_join}
 use Rattle.ak_membership.specs.Closing as closing
-use Rattle.ak_membership.specs.Closing.{stops, notes, is_viewed}
+use Rattle.ak_membership.specs.Closing.{stops, notes}
 use Rattle.ak_membership.specs.Knowledge.{Learns, Given, nothing_given}
 use Rattle.ak_membership.specs.Tick as ticks
 use Rattle.ak_membership.proofs.Walk.{found_learns, leave_learns, down_learns, tick_learns, join_learns, gossip_learns}
@@ -64,7 +64,7 @@ use Rattle.ak_node.specs.declared.node.State.{State}
 use Rattle.ak_node.specs.declared.node.NodeEvent.{NodeEvent}
 use Rattle.ak_node.specs.declared.node.NodeEvent.TheVariants as event
 use Rattle.ak_node.specs.Node as node
-use Rattle.ak_node.specs.Node.{around, sharing, shards_do, takes, rest, may_leave, forgets, Outcome, known, me_of, settled_of, margin_of, is_member, is_gone, nothing, refused, number_of, and_then, to_process, to_each, to_address, answer, update_by, does, does_for, unless_refused, join, leave, down, stop, asks_at, counted_members, exits, gossips_to, gossips, status_of, asks_as, ends_phase, becomes_active, activates, told_active, keeping, promising, told_its_own, needed_others, is_asked, answers_ask, takes_grant, has_handed_over, goes_on, ends, beats, tick, on_message, rule, if_so, due, closes, concludes, is_dead, running_step, step}
+use Rattle.ak_node.specs.Node.{around, sharing, shards_do, takes, rest, may_leave, forgets, Outcome, known, me_of, settled_of, margin_of, is_member, is_gone, nothing, number_of, and_then, to_process, to_each, to_address, update_by, does, does_for, unless_refused, join, leave, down, stop, asks_at, counted_members, exits, gossips_to, gossips, status_of, asks_as, ends_phase, becomes_active, activates, told_active, keeping, promising, told_its_own, needed_others, is_asked, answers_ask, takes_grant, has_handed_over, goes_on, ends, beats, tick, on_message, rule, due, closes, concludes, is_dead, running_step}
 use Rattle.ak_node.specs.Said.{said_to, said_in}
 use Rattle.ak_node.proofs.StepChanges.{ended_sent, due_sent}
 use Rattle.ak_node.proofs.MarginEnds.{Leaves, leaves_if, update_leaves, update_any_leaves, updates_leave}

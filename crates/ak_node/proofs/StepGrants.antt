@@ -11,11 +11,9 @@ use Rattle.ak_membership.specs.declared.change.MemberFault.{MemberFault}
 use Rattle.ak_membership.specs.declared.change.Reply.{Reply}
 use Rattle.ak_membership.specs.declared.change.Reply.TheVariants as reply
 use Rattle.ak_membership.specs.Membership as membership
-use Rattle.ak_membership.specs.Membership.{may_count, made, update, update_any, unchanged}
 use Rattle.ak_membership.specs.Closing as closing
 use Rattle.ak_membership.specs.declared.change.Closing.{Closing}
 use Rattle.ak_membership.specs.Tick as ticks
-use Rattle.ak_membership.specs.Tick.{observes, silent, decides, decided, founds, leads, updates, counted}
 use Rattle.ak_promise.specs.declared.promise.Answer.{Answer}
 use Rattle.ak_promise.specs.declared.promise.Answer.TheVariants as given
 use Rattle.ak_sharding.specs.Hosts as hosts

@@ -1,4 +1,5 @@
 pub mod Prefixes
+pub mod Endings
 pub mod Interruptions
 pub mod FileLemmas
 mod Copied

@@ -27,7 +27,7 @@ mod writer;
 
 pub use arguments::{Arguments, MemoryArguments, StdArguments};
 pub use clock::{Clock, MemoryClock};
-pub use ending::written;
+pub use ending::{out_of_memory, written};
 pub use folder::{Folder, Loaded, MemoryFile};
 pub use lines::{LineReader, Next};
 pub use link::{Bound, Heard, Link, Sent, Taken};

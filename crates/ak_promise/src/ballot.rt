@@ -23,6 +23,7 @@ impl Model for Ballot {
 
     ghost view = { λ b. record { term = b.term; unique = b.unique } };
 
+    // A packet can spell each ballot in these ranges, and the term after the greatest one still fits a `u64`.
     ghost invariant = { λ b. IsBallot (record { term = b.term; unique = b.unique }) };
 }
 

@@ -85,6 +85,7 @@ impl Promise {
     {
         let answer = answer_after(self.last.as_ref(), self.released, &ballot, holder_finished);
         if answer == Answer::Granted {
+            // Both at once: a release of the ballot before does not release this one.
             self.last = Some(ballot);
             self.released = false;
         }
@@ -95,6 +96,7 @@ impl Promise {
     pub fn bind(&mut self, ballot: Ballot)
         ensures { self.new ≡ bound ballot self.old }
     {
+        // Both at once, as where it is asked for.
         self.last = Some(ballot);
         self.released = false;
     }
@@ -137,6 +139,7 @@ impl Promise {
         ensures ok { OnOk result (self.new ≡ after_release true version.now self.old) }
         ensures err { OnErr result (self.new ≡ self.old) }
     {
+        // The floor first: it alone may find no memory, and then nothing is released without it.
         self.floor.merge(alloc, version)?;
         self.released = true;
         Ok(())

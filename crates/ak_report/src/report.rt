@@ -383,6 +383,7 @@ pub fn print_actions(
     ensures ok { OnOk result (out.new.items ≡ out.old.items ++ text.actions_text gossip.now first_packet actions.now) }
     ensures err { OnErr result (out.new.items ≡ out.old.items) }
 {
+    // Aside first, so that nothing of the items stands in the text where memory ends among them.
     let mut items = Vec::with_capacity(alloc, actions.len().saturating_mul(ITEM_BYTES))?;
     append_actions(gossip, first_packet, actions, &mut items)?;
     print_bytes(&items, out)
@@ -401,6 +402,7 @@ pub fn append_actions(
 {
     let mut number = first_packet;
     'actions: for action in actions.as_slice() {
+        // Printed before it counts: a send is printed with its own number.
         append_action(gossip, number, action, out)?;
         number = next_packet(action, number);
     }

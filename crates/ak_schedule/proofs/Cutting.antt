@@ -1,15 +1,15 @@
 -- A text cut at a byte, and a line cut at the end of its first word.
-use Rattle.std.proofs.Common.{◌≡◌, ℕ, ◌+◌, ◌-◌, ◌<◌, Bool, true, false, cond, not, ◌==◌, List, [], ◌∷◌, ◌++◌, inl, inr, All, length, take, drop, refl, sym, ◌≢◌, zero, suc, one-add, ◌∙◌, ap, get_or, Some, None, arith, drop-cons, length-drop}
-use Rattle.std.specs.Prelude.{filter, position, map}
+use Rattle.std.proofs.Common.{◌≡◌, ℕ, ◌+◌, ◌-◌, ◌<◌, Bool, true, false, cond, not, ◌==◌, List, [], ◌∷◌, ◌++◌, inl, inr, All, length, take, drop, refl, sym, suc, one-add, ◌∙◌, ap, get_or, Some, None, arith, drop-cons, length-drop}
+use Rattle.std.specs.Prelude.{filter, position}
 use Rattle.std.specs.List.{slice_split, onto_first, position_or_len}
 use Rattle.std.proofs.lemmas.List.{take_rest, length-take-le, take-append-drop, get_or-take}
 use Rattle.std.proofs.Math.Seq.{drop-length}
-use Rattle.std.proofs.lemmas.List.Splits.{length-slice_split, slice_split_first, slice_split_none, slice_split-cons_yes, slice_split-cons_no}
+use Rattle.std.proofs.lemmas.List.Splits.{slice_split_first, slice_split_none, slice_split-cons_yes, slice_split-cons_no}
 use Rattle.std.proofs.lemmas.List.Sums.{fails_before_first, passes_at_first, prefix_len-le-length}
 use Rattle.std.proofs.lemmas.List.Elements.{All-from_get_or}
 use Rattle.std.proofs.lemmas.Bool.{eqb-true}
 use Rattle.std.proofs.lemmas.Bool.Decides.{nat_tests}
-use Rattle.ak_schedule.specs.Line.{words, begins, without_cr, begun, IsFirstPart, IsFirstWord}
+use Rattle.ak_schedule.specs.Line.{words, begins, begun, IsFirstPart, IsFirstWord}
 
 -- what `position` answers, as a number
 position_at : (p : ℕ → Bool) (xs : List ℕ) (i : ℕ) → Some i ≡ position p xs → (i ≡ position_or_len p xs) × (i < length xs)

@@ -15,7 +15,7 @@ use Rattle.ak_node.specs.declared.node.NodeEvent.{NodeEvent}
 use Rattle.ak_node.specs.Node.{me_of, started, step}
 use Rattle.ak_node.proofs.StepChanges.{step_changes}
 use Rattle.ak_generate.specs.Fixed.{fixed}
-use Rattle.ak_generate.specs.Census.{Census, MayHappen, MayStart, started_by, founded_by, Starts, IsGiven, Follows}
+use Rattle.ak_generate.specs.Census.{Census, started_by, founded_by, Starts, IsGiven, Follows}
 use Rattle.ak_generate.specs.Census as census
 use Rattle.ak_world.specs.Margin.{Runs}
 use Rattle.ak_world.specs.World.{WorldState, stepped, starts, is_process}

@@ -10,18 +10,12 @@ use Rattle.ak_outside.specs.Outside.{Rose, AppendsPrefix}
 use Rattle.ak_outside.specs.declared.status.Status.{Status}
 use Rattle.ak_outside.specs.declared.status.Status.TheVariants.{Write, Memory}
 use Rattle.ak_outside.proofs.Prefixes.{AppendsPrefix-after, AppendsPrefix-more}
+use Rattle.ak_outside.proofs.Endings.{written_after}
 use Rattle.ak_sweep.specs.declared.line.Line.{Line}
 use Rattle.ak_sweeps.specs.RunContracts.{WritesLines}
 use Rattle.ak_outside.specs.Endings.{Written, memory_line}
 use Rattle.ak_sweeps.specs.SweepPromise.{status_of, Ends, RunsOut, Sweeps, IsCompleted}
 use Rattle.ak_sweeps.specs.SweepText.{AreLines, line_text, lines_text, totals_text, sweep_text}
-
--- one whole text, and then the last one
-pub written_after : (a b d : Option (List ℕ)) (text last : List ℕ) (ends answer : Status) (f0 f1 f2 : ℕ) → f1 ≡ f0 → Appends a b text
-    → Written ends last answer f1 f2 b d → Written ends (text ++ last) answer f0 f2 a d
-written_after a b d text last ends answer f0 f1 f2 same p (inl w) = inl (w.0, w.1 ∙ same, Appends-trans a b d text last p w.2)
-written_after a b d text last ends answer f0 f1 f2 same p (inr w) =
-    inr (w.0, subst (λ (n : ℕ). Rose n f2) same w.1, AppendsPrefix-after a b d text last p w.2)
 
 -- the texts of these lines are written, since the start, or stand in what is printed
 pub record Along (old now : Option (List ℕ)) (lines : List Line) (out : List ℕ) : Type 0 where

@@ -91,6 +91,7 @@ pub(crate) fn print_line(
     ensures ok { OnOk result (out.new.items ≡ out.old.items ++ rules.line_text line.now) }
     ensures err { OnErr result (out.new.items ≡ out.old.items) }
 {
+    // Emptied before and not after, since an error may leave a part.
     text.clear();
     append_line(line, text)?;
     print_bytes(text, out)
@@ -105,6 +106,7 @@ pub(crate) fn print_totals(
     ensures ok { OnOk result (out.new.items ≡ out.old.items ++ rules.totals_text lines.now) }
     ensures err { OnErr result (out.new.items ≡ out.old.items) }
 {
+    // Emptied before and not after, since an error may leave a part.
     text.clear();
     append_totals(lines, text)?;
     print_bytes(text, out)

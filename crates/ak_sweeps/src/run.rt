@@ -33,6 +33,7 @@ fn follow(
     requires { sight.old.starts ≤ 64 }
     ensures { OnOk result (sight.new ≡ followed node world.now.state sight.old) }
 {
+    // Before all else: packets are sent by a node that stops, too.
     sight.packets = world.packets();
     let Some(number) = node else {
         return Ok(());
@@ -69,6 +70,7 @@ fn turn(
     };
     match world.apply(alloc, &event) {
         Ok(step) => {
+            // Seen after the event, since what comes next depends on the world as it is then.
             follow(alloc, sight, world, step.node)?;
             Ok(true)
         }

@@ -1,19 +1,17 @@
 //! Sweeps of generated runs.
 
-ghost use Rattle.std.specs.Prelude.{◌≡◌, ◌≤◌, ◌<◌, ◌^◌, ◌+◌, ◌++◌, ℕ, List, IfOk};
+ghost use Rattle.std.specs.Prelude.{◌≡◌, ◌≤◌, ◌<◌, ◌^◌, ◌+◌, ℕ, List, IfOk};
 ghost use Rattle.ak_outside.specs.Outside.{Rose};
-ghost use Rattle.ak_outside.specs.declared.status.Status.TheVariants.{Memory};
 ghost use Rattle.ak_sweep.specs.declared.line.Line.{Line};
 ghost use Rattle.ak_sweeps.specs.GeneratedRun.{IsLineOf, KeepsApart};
 ghost use Rattle.ak_sweeps.specs.RunContracts.{WritesLines};
-ghost use Rattle.ak_outside.specs.Endings.{Written, memory_line};
 ghost use Rattle.ak_sweeps.specs.SweepPromise.{Sweeps, IsCompleted, EachKeepsApart, status_of};
 ghost use Rattle.ak_sweeps.specs.SweepText.{AreLines};
 
 use crate::print::{is_doubled, print_line, print_totals};
 use crate::run::line_of;
 use ak_notes::Notes;
-use ak_outside::{Sink, Status, write_all, written};
+use ak_outside::{Sink, Status, out_of_memory, write_all, written};
 use ak_sweep::{Line, OpenGate, sweep};
 use std::alloc::{AllocError, Global};
 use std::thread::Threads;
@@ -23,17 +21,6 @@ const BLOCK: u32 = 1000;
 
 // Text is written in pieces of about this many bytes.
 const PIECE: usize = 1 << 16;
-
-// Whole lines stand in the output, and then the line on memory.
-fn out_of_memory<W: Sink>(output: &mut W, text: &[u8]) -> Status
-    ensures count { W.faults output.old ≤ W.faults output.new }
-    ensures written { Written Memory (text.now ++ memory_line) result (W.faults output.old) (W.faults output.new) (W.written output.old) (W.written output.new) }
-{
-    if !write_all(output, text) {
-        return Status::Write;
-    }
-    written(output, b"error 7 memory\n", Status::Memory)
-}
 
 // The status of a sweep with these lines.
 fn status_of(lines: &[Line]) -> Status
@@ -116,6 +103,7 @@ fn lines_of<R: Threads + Sync, N: Notes>(
         let size = (count - done).min(BLOCK);
         let block = lines_of_block(rt, alloc, first + u64::from(done), size, events, workers)?;
         lines.extend_from_slice(&block)?;
+        // Told once the block is kept, so that no more is told than is done.
         done += size;
         notes.progress(alloc, u64::from(done), u64::from(count));
     }

@@ -1,5 +1,5 @@
 -- How far a node has come before its first turn.
-use Rattle.std.proofs.Common.{◌≡◌, List, [], Option, Result, Ok, Err, refl, sym, ap, subst, ◌∙◌, arith, length, ◌≤◌}
+use Rattle.std.proofs.Common.{◌≡◌, List, [], Option, Result, Ok, Err, refl, sym, ap, subst, ◌∙◌, arith}
 use Rattle.ak_config.specs.declared.config.Config.{Config}
 use Rattle.ak_wire.specs.Wire.{put}
 use Rattle.ak_turns.specs.declared.end.End.{End}

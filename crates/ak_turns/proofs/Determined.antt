@@ -1,14 +1,13 @@
 -- What comes to a node is determined.
-use Rattle.std.proofs.Common.{◌≡◌, ℕ, ◌⊎◌, List, [], ◌∷◌, length, take, Option, None, Some, refl, sym, ap, subst, inl, inr, ◌∙◌, arith}
+use Rattle.std.proofs.Common.{◌≡◌, ℕ, List, [], ◌∷◌, Option, None, Some, sym, ap, ◌∙◌}
 use Rattle.ak_config.specs.declared.config.Config.{Config}
 use Rattle.ak_field.specs.Laws.{IsBytes}
-use Rattle.ak_wire.specs.Laws.{IsDecided}
 use Rattle.ak_wire.specs.Wire.{put}
 use Rattle.ak_wire.proofs.Decided.{decided}
 use Rattle.ak_turns.specs.declared.happening.Happening.{Happening}
 use Rattle.ak_turns.specs.declared.happening.Happening.TheVariants.{Found, Join, Tick, Packet, Bad}
 use Rattle.ak_turns.specs.Timer.{tick_at}
-use Rattle.ak_turns.specs.Turns.{Turn, Come, ComesAs, ComesBy, HearBytes, IsHeard, begins, tick_by, time_after, first_time}
+use Rattle.ak_turns.specs.Turns.{Turn, Come, ComesAs, ComesBy, HearBytes, IsHeard, tick_by, time_after, first_time}
 
 one_comes : (bytes : List ℕ) (g h : Happening) → IsBytes bytes → ComesAs bytes g → ComesAs bytes h → g ≡ h
 one_comes bytes (Packet e) (Packet f) is p q = ap Packet ((decided bytes is).one_envelope e f p q)

@@ -1,5 +1,5 @@
 -- How the turns of a node end.
-use Rattle.std.proofs.Common.{◌≡◌, ℕ, ◌+◌, ◌-◌, ◌*◌, ◌≤◌, ◌<◌, ◌⊎◌, Bool, true, false, List, [], Option, Some, None, Result, Ok, Err, sym, ap, subst, inl, inr, arith, append-nil, if◌then◌else◌, length}
+use Rattle.std.proofs.Common.{◌≡◌, ℕ, ◌+◌, ◌-◌, ◌*◌, ◌≤◌, ◌<◌, ◌⊎◌, Bool, true, false, List, [], Option, Some, None, Result, Ok, Err, sym, ap, subst, inl, inr, arith, append-nil, if◌then◌else◌}
 use Rattle.ak_config.specs.declared.config.Config.{Config}
 use Rattle.ak_turns.specs.declared.end.End.{End}
 use Rattle.ak_turns.specs.declared.end.End.TheVariants.{Memory, Write, Link, Turns}

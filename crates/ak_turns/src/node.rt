@@ -215,6 +215,7 @@ fn run_config<W: Sink, L: Link, C: Clock>(
     ensures cause { ConfigCause result (W.faults output.old) (W.faults output.new) (L.faults link.old) (L.faults link.new) }
     ensures runs { RunsConfig config.now ticks result (sink (W.written output.old) (W.faults output.old)) (sink (W.written output.new) (W.faults output.new)) (wire (L.bound link.old) (L.sends link.old) (L.losses link.old) (L.coming link.old)) (wire (L.bound link.new) (L.sends link.new) (L.losses link.new) (L.coming link.new)) (C.readings clock.old) }
 {
+    // The address first: a node that cannot have it takes no step, and prints none.
     match link.bind(Some(&config.me.address)) {
         Bound::Ready => run_bound(alloc, config, ticks, output, link, clock),
         Bound::Failed => written(output, b"error 8 link\n", Status::Link),

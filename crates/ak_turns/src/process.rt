@@ -3,11 +3,11 @@ ghost use Rattle.std.specs.Prelude.{◌≡◌, ◌≤◌, ◌<◌, ◌+◌, ◌*
 ghost use Rattle.std.specs.Fmt.{decimal};
 ghost use Rattle.ak_wire.specs.Datagram.{IsValid};
 ghost use Rattle.ak_wire.specs.Wire.{envelope_of, sent};
-ghost use Rattle.ak_node.specs.Node.{me_of};
 ghost use Rattle.ak_node.specs.NodeContracts.{Does};
 ghost use Rattle.ak_node.specs.Sends.{AreValid};
 ghost use Rattle.ak_turns.specs.Outside.{sink, wire};
 ghost use Rattle.ak_turns.specs.Steps as spec;
+ghost use Rattle.ak_turns.specs.declared.happening.Happening.TheVariants.{Packet};
 ghost use Rattle.ak_turns.specs.TurnsContracts.{SendsOne, TellsOne, TellsAll, TellsStep, TakesStep, IsCounted, progress_of};
 
 use crate::end::End;
@@ -81,32 +81,41 @@ fn print_packet(me: &Unique, envelope: &Envelope, out: &mut Vec<u8>) -> Result<(
     print_bytes(b"\n", out)
 }
 
-// A packet for another process, at a node that runs, is dead.
-fn is_dead(node: &Node, envelope: &Envelope) -> bool
-    ensures { result ≡ spec.is_dead node.now.state envelope.now }
+// Prints what a packet was, and gives it to the node; of a dead one the node's own action says that it is dead.
+fn receive(
+    alloc: Global,
+    node: &mut Node,
+    envelope: &Envelope,
+    out: &mut Vec<u8>,
+) -> Result<Actions, AllocError>
+    requires steps { node.old.state.steps < 2 ^ 62 }
+    requires comes { IsValid envelope.now }
+    ensures text { OnOk result (out.new.items ≡ out.old.items ++ spec.arrival_text node.old.state (Packet envelope.now)) }
+    ensures does { IfOk result (λ actions. Does (spec.outcome (Packet envelope.now) node.old.state) node.new.state actions) }
+    ensures valid { IfOk result (λ actions. AreValid actions) }
 {
-    !node.stopped() && !is_for(node.me(), envelope)
-}
-
-// What a packet was; of a dead one the node's own action says that it is dead.
-fn print_arrival(node: &Node, happening: &Happening, out: &mut Vec<u8>) -> Result<(), AllocError>
-    ensures { OnOk result (out.new.items ≡ out.old.items ++ spec.arrival_text node.now.state happening.now) }
-{
-    match happening {
-        Happening::Packet(envelope) => {
-            if is_dead(node, envelope) {
-                return Ok(());
-            }
-            print_packet(node.me(), envelope, out)
-        }
-        _ => Ok(()),
+    if is_for(node.me(), envelope) {
+        print_packet(node.me(), envelope, out)?;
+        return node.receive_own(alloc, envelope);
     }
+    // A node that has stopped says of no packet that it is dead.
+    if node.stopped() {
+        print_packet(node.me(), envelope, out)?;
+    }
+    node.receive(alloc, envelope)
 }
 
-// Gives the node the event of what came, where it gives one.
-fn give(alloc: Global, node: &mut Node, happening: &Happening) -> Result<Actions, AllocError>
+// Gives the node the event of what came, where it gives one. What a packet was is printed first, since whether it is dead goes by
+// the node before the step.
+fn give(
+    alloc: Global,
+    node: &mut Node,
+    happening: &Happening,
+    out: &mut Vec<u8>,
+) -> Result<Actions, AllocError>
     requires steps { node.old.state.steps < 2 ^ 62 }
     requires comes { spec.IsCome happening.now }
+    ensures text { OnOk result (out.new.items ≡ out.old.items ++ spec.arrival_text node.old.state happening.now) }
     ensures does { IfOk result (λ actions. Does (spec.outcome happening.now node.old.state) node.new.state actions) }
     ensures valid { IfOk result (λ actions. AreValid actions) }
 {
@@ -117,7 +126,7 @@ fn give(alloc: Global, node: &mut Node, happening: &Happening) -> Result<Actions
             node.step(alloc, NodeEvent::Join(target))
         }
         Happening::Tick(word) => node.step(alloc, NodeEvent::Tick(*word)),
-        Happening::Packet(envelope) => node.receive(alloc, envelope),
+        Happening::Packet(envelope) => receive(alloc, node, envelope, out),
         Happening::Bad(_) => Ok(Actions::empty(alloc)),
     }
 }
@@ -162,6 +171,7 @@ fn tell_one<L: Link>(
     ensures faults { L.faults link.new ≡ L.faults link.old }
     ensures tells { TellsOne result gossip.now number action.now out.old.items out.new.items (wire (L.bound link.old) (L.sends link.old) (L.losses link.old) (L.coming link.old)) (wire (L.bound link.new) (L.sends link.new) (L.losses link.new) (L.coming link.new)) }
 {
+    // Printed before it is sent, so that the line on a lost send stands behind its own action.
     append_action(gossip, number, action, out)?;
     match action {
         Action::Send(packet) => {
@@ -233,8 +243,7 @@ impl Process {
         ensures step { TellsStep result happening.now (progress_of self.old) (progress_of self.new) out.old.items out.new.items (wire (L.bound link.old) (L.sends link.old) (L.losses link.old) (L.coming link.old)) (wire (L.bound link.new) (L.sends link.new) (L.losses link.new) (L.coming link.new)) }
     {
         print_head(self.steps + 1, self.node.me(), happening, out)?;
-        print_arrival(&self.node, happening, out)?;
-        let actions = give(alloc, &mut self.node, happening)?;
+        let actions = give(alloc, &mut self.node, happening, out)?;
         let number = self.asked + 1;
         let after = tell_all(
             alloc,
@@ -244,6 +253,7 @@ impl Process {
             link,
             out,
         )?;
+        // Counted last: a step that memory cut off is not written, and has no number.
         self.steps += 1;
         self.asked = after - 1;
         Ok(())
@@ -265,6 +275,7 @@ impl Process {
         ensures faults { L.faults link.new ≡ L.faults link.old }
         ensures step { TakesStep result happening.now (progress_of self.old) (progress_of self.new) (sink (W.written output.old) (W.faults output.old)) (sink (W.written output.new) (W.faults output.new)) (wire (L.bound link.old) (L.sends link.old) (L.losses link.old) (L.coming link.old)) (wire (L.bound link.new) (L.sends link.new) (L.losses link.new) (L.coming link.new)) }
     {
+        // Printed aside and then written: where memory ends in a step, whole steps stand in the output.
         let mut text = Vec::new(alloc);
         self.tell(alloc, happening, link, &mut text)?;
         if write_all(output, &text) {

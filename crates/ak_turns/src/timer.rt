@@ -46,6 +46,7 @@ impl Timer {
         ensures timer { self.new ≡ timer_after reading self.old }
     {
         let time = self.latest.max(reading);
+        // Kept also where no tick is due, so that a clock which is set back takes no time away.
         self.latest = time;
         if time.saturating_sub(self.noted) < self.tick_ms {
             self.idle += 1;
@@ -61,6 +62,7 @@ impl Timer {
         ensures word { result ≡ next_word self.old }
         ensures timer { self.new ≡ ticked time self.old }
     {
+        // From now on and not from when it was due: a late tick is not made up for by the next ones.
         self.noted = time;
         self.ticks += 1;
         self.idle = 0;

@@ -108,6 +108,7 @@ fn begin<L: Link, W: Sink>(
     ensures faults { L.faults link.new ≡ L.faults link.old }
     ensures begins { Begins result config.now (progress_of process.new) (sink (W.written output.old) (W.faults output.old)) (sink (W.written output.new) (W.faults output.new)) (wire (L.bound link.old) (L.sends link.old) (L.losses link.old) (L.coming link.old)) (wire (L.bound link.new) (L.sends link.new) (L.losses link.new) (L.coming link.new)) }
 {
+    // It founds first: who is a member then asks nobody to let it join.
     take_some(alloc, process, founding(config), link, output)?;
     let join = joining(alloc, config)?;
     take_some(alloc, process, join, link, output)
@@ -134,10 +135,12 @@ pub(crate) fn take_turns<L: Link, C: Clock, W: Sink>(
     begin(alloc, config, process, link, output)?;
     let mut timer = Timer::start(config.tick_ms, config.seed, clock.now());
     'turns: while timer.ticks() < ticks {
+        // The clock is read after the receive, which may wait: a reading before it would be an old one.
         let heard = hear(alloc, link, &mut buffer)?;
         take_some(alloc, process, heard, link, output)?;
         let word = timer.read(clock.now());
         take_some(alloc, process, tick(word), link, output)?;
+        // Asked after the tick: one that is due in the last turn still counts.
         if timer.idle() == MOST_IDLE {
             return Err(End::Turns);
         }

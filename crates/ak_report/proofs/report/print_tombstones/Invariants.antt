@@ -5,7 +5,8 @@ use Rattle.ak_report.specs.ActionText.{listed_text, tombstone_text}
 use Rattle.ak_report.proofs.TextLemmas.{rest_text}
 use Rattle.ak_report.proofs.report.print_tombstones.Given as goal
 
--- what is printed so far, and the tombstones of the rows that are left
+-- what is printed so far, and the tombstones of the rows that are left; those printed are counted by themselves, since a row may have
+-- none, and a separator stands between two that are printed
 abbrev pub invariant-pairs : goal.invariant-pairs
 invariant-pairs l = record {
   few : l.printed ≤ l.pair;

@@ -4,6 +4,7 @@ use Rattle.ak_turns.specs.Outside.{wire}
 use Rattle.ak_turns.proofs.SendLemmas.{Told}
 use Rattle.ak_turns.proofs.process.tell_all.Given as goal
 
+-- by the actions that are left, since how the link answers their sends is known only once they are asked
 abbrev pub invariant-actions : goal.invariant-actions
 invariant-actions g l =
     Told l.gossip l.first l.actions l.initial.out.items

@@ -6,6 +6,8 @@ use Rattle.ak_turns.specs.TurnsContracts.{IsCounted, progress_of}
 use Rattle.ak_turns.proofs.RunLemmas.{Along}
 use Rattle.ak_turns.proofs.turns.take_turns.Given as goal
 
+-- no count of faults has risen, since a fault ends the run; and a turn takes two steps at most, so that no count comes to the end of
+-- its type
 abbrev pub invariant-turns : goal.invariant-turns
 invariant-turns g l =
     Along l.config l.ticks
@@ -24,5 +26,6 @@ invariant-turns g l =
     × (g.L.Link.faults l.link ≡ g.L.Link.faults l.fn.link)
     × (g.W.Sink.faults l.output ≡ g.W.Sink.faults l.fn.output)
 
+-- a turn ticks, or is one more of the 10,000,000 in a row that may make no tick
 abbrev pub decreases-turns : goal.decreases-turns
 decreases-turns g l = (l.ticks - l.timer.ticks) * 10000001 + (10000000 - l.timer.idle)

@@ -12,11 +12,6 @@ returns-in_err-print_head-clause-step g c =
     let p = err_from_is_err_and c.from_residual.result c.from_residual.ensures.1 in
     step_unsent c.from_residual.result p.0 c.args.happening.now _ _ _ _ _ p.1
 
-pub returns-in_err-print_arrival-clause-step : goal.returns-in_err-print_arrival-clause-step
-returns-in_err-print_arrival-clause-step g c =
-    let p = err_from_is_err_and c.from_residual-in_err-print_arrival.result c.from_residual-in_err-print_arrival.ensures.1 in
-    step_unsent c.from_residual-in_err-print_arrival.result p.0 c.args.happening.now _ _ _ _ _ p.1
-
 pub returns-in_err-actions-clause-step : goal.returns-in_err-actions-clause-step
 returns-in_err-actions-clause-step g c =
     let p = err_from_is_err_and c.from_residual-in_err-actions.result c.from_residual-in_err-actions.ensures.1 in

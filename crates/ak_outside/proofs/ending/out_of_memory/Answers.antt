@@ -1,5 +1,5 @@
-use Rattle.ak_driver.proofs.ReplayLoop.{written_after}
-use Rattle.ak_driver.proofs.replay.out_of_memory.Goals as goal
+use Rattle.ak_outside.proofs.Endings.{written_after}
+use Rattle.ak_outside.proofs.ending.out_of_memory.Goals as goal
 
 pub returns-clause-written : goal.returns-clause-written
 returns-clause-written g c =
