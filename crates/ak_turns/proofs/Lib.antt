@@ -2,6 +2,7 @@ pub mod SendLemmas
 pub mod StepLemmas
 pub mod RunLemmas
 pub mod Counting
+pub mod DeadPackets
 pub mod BeginLemmas
 pub mod TurnsLemmas
 pub mod ControlLemmas

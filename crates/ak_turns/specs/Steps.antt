@@ -1,6 +1,6 @@
 -- The numbered steps of a node on the network: what comes to it, what the node does, what is printed and which packets are sent. What
 -- the node does is its own step, as in a replay. The texts are this project's format.
-use Rattle.std.specs.Prelude.{◌≡◌, ℕ, ◌+◌, Bool, ◌&&◌, not, List, [], ◌∷◌, ◌++◌, length, drop, codes, Option, None, Some, if◌then◌else◌}
+use Rattle.std.specs.Prelude.{◌≡◌, ℕ, ◌+◌, Bool, true, false, ◌&&◌, not, List, [], ◌∷◌, ◌++◌, length, drop, codes, Option, None, Some, if◌then◌else◌}
 use Rattle.std.specs.Fmt.{decimal}
 use Rattle.ak_address.specs.Unique.{UniqueModel}
 use Rattle.ak_address.specs.Spelling.{address_text, unique_text}
@@ -8,6 +8,7 @@ use Rattle.ak_gossip.specs.Gossip.{GossipState}
 use Rattle.ak_settings.specs.Settings.{SettingsModel}
 use Rattle.ak_wire.specs.declared.envelope.Envelope.{Envelope}
 use Rattle.ak_wire.specs.declared.action.Action.{Action}
+use Rattle.ak_wire.specs.declared.action.Action as action
 use Rattle.ak_wire.specs.Wire.{kind_text, envelope_of, sent}
 use Rattle.ak_wire.specs.Datagram.{datagram, IsValid}
 use Rattle.ak_report.specs.ActionText.{item, action_text, next_packet}
@@ -78,6 +79,15 @@ packet_text me e = item (codes "at " ++ unique_text me ++ codes " " ++ kind_text
 -- a packet for another process, at a node that runs, is dead
 abbrev pub is_dead : State → Envelope → Bool
 is_dead n e = n.runs && not (is_for (me_of n) e)
+
+-- actions tell that the packet is dead: the first one says so
+abbrev pub says_dead : Action → Bool
+says_dead action.TheVariants.Dead = true
+says_dead other = false
+
+abbrev pub tell_dead : List Action → Bool
+tell_dead [] = false
+tell_dead (a ∷ actions) = says_dead a
 
 -- what a packet was; of a dead one the node's own action says that it is dead
 abbrev pub arrival_text : State → Happening → List ℕ

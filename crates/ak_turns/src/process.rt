@@ -15,7 +15,7 @@ use crate::happening::Happening;
 use ak_address::{Unique, print_number, print_wide_number};
 use ak_gossip::Gossip;
 use ak_link::send_envelope;
-use ak_node::{Node, NodeEvent, is_for};
+use ak_node::{Node, NodeEvent};
 use ak_outside::{Link, Sent, Sink, write_all};
 use ak_report::{append_action, print_bytes};
 use ak_wire::{Action, Actions, Envelope};
@@ -41,7 +41,7 @@ fn print_happening(me: &Unique, happening: &Happening, out: &mut Vec<u8>) -> Res
         Happening::Join(target) => {
             print_bytes(b"join ", out)?;
             me.print_into(out)?;
-            print_bytes(b" ", out)?;
+            out.push(b' ')?;
             target.print_into(out)
         }
         Happening::Tick(_) => print_bytes(b"tick", out),
@@ -63,7 +63,7 @@ fn print_head(
     ensures { OnOk result (out.new.items ≡ out.old.items ++ (decimal number ++ codes " " ++ spec.happening_text me.now happening.now ++ 10 ∷ [])) }
 {
     print_number(number, out)?;
-    print_bytes(b" ", out)?;
+    out.push(b' ')?;
     print_happening(me, happening, out)?;
     print_bytes(b"\n", out)
 }
@@ -74,14 +74,21 @@ fn print_packet(me: &Unique, envelope: &Envelope, out: &mut Vec<u8>) -> Result<(
 {
     print_bytes(b"  at ", out)?;
     me.print_into(out)?;
-    print_bytes(b" ", out)?;
+    out.push(b' ')?;
     print_bytes(envelope.message.kind(), out)?;
     print_bytes(b" from ", out)?;
     envelope.from.print_into(out)?;
     print_bytes(b"\n", out)
 }
 
-// Prints what a packet was, and gives it to the node; of a dead one the node's own action says that it is dead.
+// The node tells that the packet which it was given is dead.
+fn tell_dead(actions: &Actions) -> bool
+    ensures { result ≡ spec.tell_dead actions.now }
+{
+    matches!(actions.at(0), Some(Action::Dead))
+}
+
+// Gives the node a packet, and prints what it was; of a dead one the node's own action says that it is dead.
 fn receive(
     alloc: Global,
     node: &mut Node,
@@ -94,19 +101,16 @@ fn receive(
     ensures does { IfOk result (λ actions. Does (spec.outcome (Packet envelope.now) node.old.state) node.new.state actions) }
     ensures valid { IfOk result (λ actions. AreValid actions) }
 {
-    if is_for(node.me(), envelope) {
-        print_packet(node.me(), envelope, out)?;
-        return node.receive_own(alloc, envelope);
+    let actions = node.receive(alloc, envelope)?;
+    // Whether it is for this process the node has asked already, and its first action answers.
+    if tell_dead(&actions) {
+        return Ok(actions);
     }
-    // A node that has stopped says of no packet that it is dead.
-    if node.stopped() {
-        print_packet(node.me(), envelope, out)?;
-    }
-    node.receive(alloc, envelope)
+    print_packet(node.me(), envelope, out)?;
+    Ok(actions)
 }
 
-// Gives the node the event of what came, where it gives one. What a packet was is printed first, since whether it is dead goes by
-// the node before the step.
+// Gives the node the event of what came, where it gives one, and prints what a packet was.
 fn give(
     alloc: Global,
     node: &mut Node,
