@@ -1,5 +1,5 @@
 -- What a control command comes to.
-use Rattle.std.proofs.Common.{◌≡◌, ℕ, Bool, true, ◌≤◌, List, [], ◌∷◌, Option, None, refl, sym, ap, subst, inl, inr, ◌∙◌}
+use Rattle.std.proofs.Common.{◌≡◌, ℕ, Bool, true, ◌≤◌, List, [], ◌∷◌, Option, None, Result, Ok, Err, IfOk, OnErr, refl, sym, ap, subst, inl, inr, ◌∙◌}
 use Rattle.ak_address.specs.Unique.{AddressModel}
 use Rattle.ak_options.specs.declared.command.Request.{Request}
 use Rattle.ak_options.specs.declared.command.Request.TheVariants.{Leave, Down, Offer}
@@ -8,17 +8,26 @@ use Rattle.ak_outside.specs.declared.link.Sent.{Sent}
 use Rattle.ak_outside.specs.declared.link.Sent as answer
 use Rattle.ak_outside.specs.declared.status.Status.{Status}
 use Rattle.ak_outside.specs.declared.status.Status.TheVariants as status
-use Rattle.ak_outside.specs.Link.{Sends, SendCause, Binds}
+use Rattle.ak_outside.specs.Link.{Sends, SendCause, TakesPacket, Binds}
+use Rattle.std.specs.declared.alloc.AllocError.{AllocError}
+use Rattle.ak_wire.specs.declared.envelope.Envelope.{Envelope}
 use Rattle.ak_wire.specs.declared.envelope.Message.{Message}
-use Rattle.ak_wire.specs.Datagram.{is_for_anybody, IsReceiverUid}
+use Rattle.ak_wire.specs.Datagram.{datagram, is_for_anybody, IsReceiverUid}
 use Rattle.ak_outside.specs.Endings.{memory_line}
 use Rattle.ak_turns.specs.Outside.{Output, Wire, MakesSends, CountsLosses}
-use Rattle.ak_turns.specs.Control.{WritesLine, AsksAndAnswers, Controls, ControlCause, answer_line, control_packet, message_of}
+use Rattle.ak_turns.specs.Control.{WritesLine, Asks, AsksAndAnswers, Controls, ControlCause, answer_line, control_packet, message_of}
 
 -- one send, and whether it was lost
 pub loses_one : (l0 l1 : ℕ) (a : Sent) → l0 ≤ l1 → SendCause l0 l1 a → CountsLosses l0 l1 (a ∷ [])
 loses_one l0 l1 answer.TheVariants.Sent rises cause = (rises, inl ((refl, tt), cause))
 loses_one l0 l1 answer.TheVariants.Failed rises cause = (rises, inr cause)
+
+-- a packet that asks was sent, or memory ran out before that, and then the link is as it was
+pub asked : {X : Type 0} (r : Result Sent AllocError) (to : AddressModel) (say : Request) (e : Envelope) (w0 w1 : Wire) → e ≡ control_packet to say → w0.losses ≤ w1.losses → IfOk r (SendCause w0.losses w1.losses)
+    → w1.bound ≡ w0.bound → IfOk r (TakesPacket w0.sends w1.sends e.to (datagram e)) → OnErr r X → (X → (w1.sends ≡ w0.sends) × (w1.losses ≡ w0.losses)) → Asks r to say w0 w1
+asked (Ok a) to say e w0 w1 is rises cause bound takes same still =
+    (subst (λ (x : Envelope). MakesSends w0.sends w1.sends (x ∷ []) (a ∷ [])) is takes, loses_one w0.losses w1.losses a rises cause, bound)
+asked (Err error) to say e w0 w1 is rises cause bound takes same still = let kept = still same in (kept.0, kept.1, bound)
 
 -- a line was written, whose status is no fault of the link's
 pub cause_line : (ends result : Status) (line : List ℕ) (o0 o1 : Output) (l0 l1 : ℕ) → ((w : o1.faults ≡ o0.faults) → ControlCause ends o0.faults o1.faults l0 l1) → WritesLine ends line result o0 o1
