@@ -1,10 +1,9 @@
 -- What a sweep promises of what its sink has written, by the status that it answers.
-use Rattle.std.specs.Prelude.{◌≡◌, ◌⊎◌, ℕ, ◌≤◌, List, [], ◌∷◌, ◌++◌, Option, Some, slice_get, codes, if◌then◌else◌}
+use Rattle.std.specs.Prelude.{◌≡◌, ◌⊎◌, ℕ, ◌≤◌, List, ◌++◌, Option, Some, slice_get, if◌then◌else◌}
 use Rattle.std.specs.Io.KnownBytes.{Appends}
 use Rattle.ak_outside.specs.Endings.{Written, memory_line}
-use Rattle.ak_outside.specs.Outside.{Rose, AppendsPrefix}
 use Rattle.ak_outside.specs.declared.status.Status.{Status}
-use Rattle.ak_outside.specs.declared.status.Status.TheVariants.{Done, Double, Write, Memory}
+use Rattle.ak_outside.specs.declared.status.Status.TheVariants.{Done, Double, Memory}
 use Rattle.ak_sweep.specs.declared.line.Line.{Line}
 use Rattle.ak_sweeps.specs.GeneratedRun.{KeepsApart}
 use Rattle.ak_sweeps.specs.SweepText.{AreLines, lines_text, sweep_text, is_doubled}

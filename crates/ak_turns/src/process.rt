@@ -175,7 +175,7 @@ fn tell_one<L: Link>(
     ensures faults { L.faults link.new ≡ L.faults link.old }
     ensures tells { TellsOne result gossip.now number action.now out.old.items out.new.items (wire (L.bound link.old) (L.sends link.old) (L.losses link.old) (L.coming link.old)) (wire (L.bound link.new) (L.sends link.new) (L.losses link.new) (L.coming link.new)) }
 {
-    // Printed before it is sent, so that the line on a lost send stands behind its own action.
+    // Printed before it is sent, so that the line on a lost send stands after its own action.
     append_action(gossip, number, action, out)?;
     match action {
         Action::Send(packet) => {
