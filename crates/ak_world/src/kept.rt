@@ -1,20 +1,138 @@
 //! What a world keeps of the events that it accepted.
 
-ghost use Rattle.std.specs.Prelude.{◌≡◌, IfOk};
+ghost use Rattle.std.specs.Prelude.{◌≡◌, IfOk, IfSome};
 
-use ak_address::Unique;
+use ak_address::{Address, Unique};
+use ak_field::EntityId;
 use ak_schedule::Event;
 use std::alloc::{AllocError, Global};
 use std::boxed::Box;
 use std::marker::Model;
 use std::rc::Rc;
 
-// Most events are deliveries and ticks, so that these alone stand in the value; ticks of one process share its name.
+// As many names that are no node's as kept events share: who is asked about and was never started.
+const MOST_OTHERS: usize = 64;
+
+/// The names that kept events share, so that an event is kept in a few bytes however long its names are. No contract speaks of
+/// them.
+#[derive(Drop)]
+pub(crate) struct Names {
+    // The processes that were started, by their start numbers.
+    started: Vec<Rc<Unique>>,
+    // Others that were named, up to a limit: each is sought along them.
+    others: Vec<Rc<Unique>>,
+    // The listed addresses through which nodes joined.
+    targets: Vec<Rc<Address>>,
+}
+
+impl Names {
+    /// No names. Takes no memory.
+    pub(crate) fn none(alloc: Global) -> Names {
+        Names {
+            started: Vec::new(alloc),
+            others: Vec::new(alloc),
+            targets: Vec::new(alloc),
+        }
+    }
+
+    // The name of a process, shared with the events that named it before. Only memory can fail.
+    fn process(&mut self, alloc: Global, who: &Unique) -> Result<Rc<Unique>, AllocError>
+        ensures { IfOk result (λ name. name.value ≡ who.now) }
+    {
+        if let Some(name) = process_among(&self.started, who) {
+            return name.clone();
+        }
+        if let Some(name) = process_among(&self.others, who) {
+            return name.clone();
+        }
+        let name = Rc::new(alloc, who.copy(alloc)?)?;
+        if self.others.len() < MOST_OTHERS {
+            self.others.push(name.clone()?)?;
+        }
+        Ok(name)
+    }
+
+    // The name of a process that starts. Only memory can fail.
+    fn start(&mut self, alloc: Global, who: &Unique) -> Result<Rc<Unique>, AllocError>
+        ensures { IfOk result (λ name. name.value ≡ who.now) }
+    {
+        let name = Rc::new(alloc, who.copy(alloc)?)?;
+        self.started.push(name.clone()?)?;
+        Ok(name)
+    }
+
+    // The name of the process that acts: a node of this start number, if it is one. Only memory can fail.
+    fn actor(
+        &mut self,
+        alloc: Global,
+        node: Option<u32>,
+        who: &Unique,
+    ) -> Result<Rc<Unique>, AllocError>
+        ensures { IfOk result (λ name. name.value ≡ who.now) }
+    {
+        if let Some(name) = name_at(&self.started, node) {
+            if name.as_ref().is(who) {
+                return name.clone();
+            }
+        }
+        self.process(alloc, who)
+    }
+
+    // An address, shared with the events that named it before. Only memory can fail.
+    fn target(&mut self, alloc: Global, at: &Address) -> Result<Rc<Address>, AllocError>
+        ensures { IfOk result (λ name. name.value ≡ at.now) }
+    {
+        if let Some(name) = address_among(&self.targets, at) {
+            return name.clone();
+        }
+        let name = Rc::new(alloc, at.copy(alloc)?)?;
+        self.targets.push(name.clone()?)?;
+        Ok(name)
+    }
+}
+
+// The name at an index, if there is one.
+fn name_at(names: &[Rc<Unique>], index: Option<u32>) -> Option<&Rc<Unique>> {
+    names.get(index? as usize)
+}
+
+// The name that is this process's.
+fn process_among<'a>(names: &'a [Rc<Unique>], who: &Unique) -> Option<&'a Rc<Unique>>
+    ensures { IfSome result (λ name. name.now.value ≡ who.now) }
+{
+    'names: for name in names {
+        if name.as_ref().is(who) {
+            return Some(name);
+        }
+    }
+    None
+}
+
+// The name that is this address.
+fn address_among<'a>(names: &'a [Rc<Address>], at: &Address) -> Option<&'a Rc<Address>>
+    ensures { IfSome result (λ name. name.now.value ≡ at.now) }
+{
+    'names: for name in names {
+        if name.as_ref().is(at) {
+            return Some(name);
+        }
+    }
+    None
+}
+
+// An event with shared names. Most events are deliveries and ticks, so that these alone stand in two words; what else has more
+// than a name stands apart.
 #[derive(Drop)]
 enum Form {
-    Deliver(u64),
+    Start(Rc<Unique>),
+    Found(Rc<Unique>),
+    Join(Box<(Rc<Unique>, Rc<Address>)>),
     Tick(u32, Rc<Unique>),
-    Other(Box<Event>),
+    Deliver(u64),
+    Leave(Box<(Rc<Unique>, Rc<Unique>)>),
+    Down(Box<(Rc<Unique>, Rc<Unique>)>),
+    Offer(Box<(Rc<Unique>, EntityId, u64)>),
+    Stop(Rc<Unique>),
 }
 
 /// An event that was accepted, in as little memory as it can be kept. Contracts see the event.
@@ -37,48 +155,54 @@ impl Model for KeptEvent {
 }
 
 impl KeptEvent {
-    /// An event, to be kept; a tick shares the name of its process, where that is this one. Only memory can fail.
+    /// An event, to be kept, of the node of this start number; it shares its names with those kept before. Only memory can fail.
     pub(crate) fn of(
         alloc: Global,
         event: &Event,
-        name: Option<&Rc<Unique>>,
+        node: Option<u32>,
+        names: &mut Names,
     ) -> Result<KeptEvent, AllocError>
         ensures { IfOk result (λ kept. kept ≡ event.now) }
     {
-        match event {
-            Event::Deliver(number) => Ok(KeptEvent {
-                form: Form::Deliver(*number),
-            }),
-            Event::Tick(who, word) => {
-                if let Some(name) = name {
-                    if name.as_ref().is(who) {
-                        return KeptEvent::tick(*word, name);
-                    }
-                }
-                KeptEvent::other(alloc, event)
-            }
-            _ => KeptEvent::other(alloc, event),
+        let form = form_of(alloc, event, node, names)?;
+        Ok(KeptEvent { form })
+    }
+}
+
+fn form_of(
+    alloc: Global,
+    event: &Event,
+    node: Option<u32>,
+    names: &mut Names,
+) -> Result<Form, AllocError>
+    ghost use Rattle.ak_world.specs.Kept.{event_of};
+    ensures { IfOk result (λ form. event_of form ≡ event.now) }
+{
+    match event {
+        Event::Start(who) => Ok(Form::Start(names.start(alloc, who)?)),
+        Event::Found(who) => Ok(Form::Found(names.actor(alloc, node, who)?)),
+        Event::Join(who, target) => {
+            let who = names.actor(alloc, node, who)?;
+            let target = names.target(alloc, target)?;
+            Ok(Form::Join(Box::new(alloc, (who, target))?))
         }
-    }
-
-    // A tick, which shares a name. It fails only where more share it than can be counted.
-    fn tick(word: u32, name: &Rc<Unique>) -> Result<KeptEvent, AllocError>
-        ensures { IfOk result (λ kept. kept ≡ Event.Tick name.now.value word) }
-    {
-        let name = name.clone()?;
-        Ok(KeptEvent {
-            form: Form::Tick(word, name),
-        })
-    }
-
-    // An event as a copy of its own.
-    fn other(alloc: Global, event: &Event) -> Result<KeptEvent, AllocError>
-        ensures { IfOk result (λ kept. kept ≡ event.now) }
-    {
-        let event = event.copy(alloc)?;
-        let event = Box::new(alloc, event)?;
-        Ok(KeptEvent {
-            form: Form::Other(event),
-        })
+        Event::Tick(who, word) => Ok(Form::Tick(*word, names.actor(alloc, node, who)?)),
+        Event::Deliver(number) => Ok(Form::Deliver(*number)),
+        Event::Leave(who, member) => {
+            let who = names.actor(alloc, node, who)?;
+            let member = names.process(alloc, member)?;
+            Ok(Form::Leave(Box::new(alloc, (who, member))?))
+        }
+        Event::Down(who, member) => {
+            let who = names.actor(alloc, node, who)?;
+            let member = names.process(alloc, member)?;
+            Ok(Form::Down(Box::new(alloc, (who, member))?))
+        }
+        Event::Offer(who, entity, payload) => {
+            let who = names.actor(alloc, node, who)?;
+            let entity = entity.copy(alloc)?;
+            Ok(Form::Offer(Box::new(alloc, (who, entity, *payload))?))
+        }
+        Event::Stop(who) => Ok(Form::Stop(names.actor(alloc, node, who)?)),
     }
 }

@@ -28,7 +28,7 @@ ghost use Rattle.ak_world.specs.DoubleMark.{NextDouble};
 ghost use Rattle.ak_world.specs.Stored.{different};
 
 use crate::double::{Double, first_made};
-use crate::kept::KeptEvent;
+use crate::kept::{KeptEvent, Names};
 use crate::margin::{Margin, first_end};
 use crate::packets::Packets;
 use crate::seek::{is_in_use, node_of, receiver_of};
@@ -41,7 +41,6 @@ use ak_settings::Settings;
 use ak_wire::{Action, Actions, Envelope};
 use std::alloc::{AllocError, AllocFailed, Global};
 use std::marker::Model;
-use std::rc::Rc;
 
 /// Why an event may not happen in a world. The first reason that applies is the answer.
 #[derive(Clone, Copy, Debug, PartialEq, Eq)]
@@ -95,8 +94,6 @@ const MOST_PACKETS: usize = 200_000;
 pub(crate) struct Scene {
     settings: Settings,
     nodes: Vec<Node>,
-    // The processes of the nodes, by their start numbers: kept events share them. No contract speaks of them.
-    names: Vec<Rc<Unique>>,
     packets: Packets,
     history: History,
     founded: bool,
@@ -132,7 +129,6 @@ impl Scene {
     {
         let index = self.nodes.len();
         let me = who.copy(alloc)?;
-        self.names.push(shared_name(alloc, who)?)?;
         let node = Node::start(alloc, me, &self.settings)?;
         self.nodes.push(node)?;
         Ok(Step {
@@ -357,7 +353,6 @@ impl Scene {
         ensures empty { state_of self.new ≡ rules.empty_world }
     {
         self.nodes.clear();
-        self.names.clear();
         self.packets.clear();
         self.history = History::empty(alloc);
         self.founded = false;
@@ -403,23 +398,12 @@ impl Scene {
         }
     }
 
-    // The process of the node that acted, to be shared, where one did.
-    fn name_of(&self, node: Option<u32>) -> Option<&Rc<Unique>> {
-        self.names.get(node? as usize)
-    }
-
     // The number of the next packet that is sent.
     fn next_packet(&self) -> u64
         ensures { result ≡ length self.now.packets + 1 }
     {
         self.packets.len() as u64 + 1
     }
-}
-
-// A process, to be shared.
-fn shared_name(alloc: Global, who: &Unique) -> Result<Rc<Unique>, AllocError> {
-    let name = who.copy(alloc)?;
-    Ok(Rc::new(alloc, name)?)
 }
 
 // A start number: fewer processes are started than have a number.
@@ -480,18 +464,25 @@ impl<T: Drop> From<AllocFailed<T>> for Refused {
     }
 }
 
-// An event is added to the accepted ones; a tick shares this name, where it is its process. An error leaves them as they were.
+// The events that a world accepted, and the names that they share.
+#[derive(Drop)]
+struct Accepted {
+    events: Vec<KeptEvent>,
+    names: Names,
+}
+
+// An event of the node of this start number is added to the accepted ones. An error leaves these as they were.
 fn keep_event(
     alloc: Global,
     event: &Event,
-    name: Option<&Rc<Unique>>,
-    accepted: &mut Vec<KeptEvent>,
+    node: Option<u32>,
+    accepted: &mut Accepted,
 ) -> Result<(), AllocError>
-    ensures ok { OnOk result (accepted.new.items ≡ accepted.old.items ++ event.now ∷ []) }
-    ensures err { OnErr result (accepted.new.items ≡ accepted.old.items) }
+    ensures ok { OnOk result (accepted.new.events.items ≡ accepted.old.events.items ++ event.now ∷ []) }
+    ensures err { OnErr result (accepted.new.events.items ≡ accepted.old.events.items) }
 {
-    let kept = KeptEvent::of(alloc, event, name)?;
-    accepted.push(kept)?;
+    let kept = KeptEvent::of(alloc, event, node, &mut accepted.names)?;
+    accepted.events.push(kept)?;
     Ok(())
 }
 
@@ -508,27 +499,26 @@ fn keep_step(
     scene: &Scene,
     event: &Event,
     step: &Step,
-    accepted: &mut Vec<KeptEvent>,
+    accepted: &mut Accepted,
     marks: &mut Marks,
 ) -> Result<(), AllocError>
     requires nodes { length scene.now.nodes.items ≤ 64 }
-    requires events { length accepted.old.items < 2 ^ 62 }
-    ensures kept { OnOk result (accepted.new.items ≡ accepted.old.items ++ event.now ∷ []) }
-    ensures margin { OnOk result (marks.new.margin ≡ mark.marked marks.old.margin (length accepted.old.items + 1) (record { world = state_of scene.now; node = step.now.node; actions = step.now.actions })) }
-    ensures double { OnOk result (NextDouble (option_map doubled_of marks.old.double) (length accepted.old.items + 1) (state_of scene.now).nodes step.now.node step.now.actions (option_map doubled_of marks.new.double)) }
-    ensures left { OnErr result (accepted.new.items ≡ accepted.old.items) }
+    requires events { length accepted.old.events.items < 2 ^ 62 }
+    ensures kept { OnOk result (accepted.new.events.items ≡ accepted.old.events.items ++ event.now ∷ []) }
+    ensures margin { OnOk result (marks.new.margin ≡ mark.marked marks.old.margin (length accepted.old.events.items + 1) (record { world = state_of scene.now; node = step.now.node; actions = step.now.actions })) }
+    ensures double { OnOk result (NextDouble (option_map doubled_of marks.old.double) (length accepted.old.events.items + 1) (state_of scene.now).nodes step.now.node step.now.actions (option_map doubled_of marks.new.double)) }
+    ensures left { OnErr result (accepted.new.events.items ≡ accepted.old.events.items) }
     ensures same { OnErr result (marks.new ≡ marks.old) }
 {
-    let number = count_of(accepted) + 1;
-    let name = scene.name_of(step.node);
+    let number = count_of(&accepted.events) + 1;
     if marks.double.is_none() {
         let double = scene.double_at(alloc, number, step)?;
-        keep_event(alloc, event, name, accepted)?;
+        keep_event(alloc, event, step.node, accepted)?;
         if let Some(double) = double {
             marks.double = Some(double);
         }
     } else {
-        keep_event(alloc, event, name, accepted)?;
+        keep_event(alloc, event, step.node, accepted)?;
     }
     marks.margin = scene.marked(marks.margin, number, step);
     Ok(())
@@ -562,7 +552,7 @@ fn count_of(events: &[KeptEvent]) -> u64
 #[derive(Drop)]
 pub struct World {
     scene: Scene,
-    accepted: Vec<KeptEvent>,
+    accepted: Accepted,
     marks: Marks,
     // The error with which it ran out of memory.
     failed: Option<AllocError>,
@@ -587,9 +577,9 @@ impl Model for World {
 
     ghost coded = { Prim.hlevel (codes, coded_address, coded_unique, coded_uniques, coded_settings, coded_gossip, coded_ballot, coded_counts, membership.the_row.coded, coded_singleton, coded_sharding) };
 
-    ghost view = { λ w. record { settings = w.scene.settings; state = state_of w.scene; events = w.accepted.items; spent = is_some w.failed } };
+    ghost view = { λ w. record { settings = w.scene.settings; state = state_of w.scene; events = w.accepted.events.items; spent = is_some w.failed } };
 
-    ghost invariant = { λ w. IsWorld w.scene.settings (state_of w.scene) w.accepted.items w.marks.margin (option_map doubled_of w.marks.double) (is_some w.failed) };
+    ghost invariant = { λ w. IsWorld w.scene.settings (state_of w.scene) w.accepted.events.items w.marks.margin (option_map doubled_of w.marks.double) (is_some w.failed) };
 }
 
 impl World {
@@ -600,14 +590,16 @@ impl World {
         let scene = Scene {
             settings,
             nodes: Vec::new(alloc),
-            names: Vec::new(alloc),
             packets: Packets::none(alloc),
             history: History::empty(alloc),
             founded: false,
         };
         World {
             scene,
-            accepted: Vec::new(alloc),
+            accepted: Accepted {
+                events: Vec::new(alloc),
+                names: Names::none(alloc),
+            },
             marks: Marks {
                 margin: Margin::Kept,
                 double: None,
