@@ -3,7 +3,8 @@
 use Rattle.std.specs.Prelude.{◌≡◌, ◌≢◌, ℕ, ◌+◌, ◌≤◌, max, Bool, true, false, Some, unwrap_or, nat_le, if◌then◌else◌}
 use Rattle.std.specs.List.{list_all}
 use Rattle.std.specs.FinMap as map
-use Rattle.ak_address.specs.Unique.{UniqueModel, unique_cmp}
+use Rattle.std.specs.Coded.{Coded, coded_ℕ}
+use Rattle.ak_address.specs.Unique.{UniqueModel, unique_cmp, coded_unique}
 use Rattle.ak_address.specs.Table.{merged_tables}
 use Rattle.ak_clock.specs.declared.version.TheConstants.{BOUND}
 use Rattle.ak_clock.specs.declared.version.Relation.{Relation}
@@ -11,6 +12,10 @@ use Rattle.ak_clock.specs.declared.version.Relation.TheVariants.{Same, Before, A
 
 abbrev pub Counts : Type 0
 Counts = map.FinMap unique_cmp ℕ
+
+-- how counts are stored: as the map that they are
+abbrev pub coded_counts : Coded Counts
+coded_counts = map.code coded_unique coded_ℕ
 
 -- the count of a process, 0 where it has none
 abbrev pub count : Counts → UniqueModel → ℕ

@@ -2,9 +2,8 @@
 use Rattle.std.specs.declared.alloc.AllocError.{AllocError}
 use Rattle.std.specs.Prelude.{◌≡◌, ◌≢◌, ◌⊎◌, Bool, true, false, not, [], is_some, Result, Ok, Err, ⊤, IsTrue}
 use Rattle.std.specs.FinMap as map
-use Rattle.std.specs.Coded.{Coded, coded_ℕ}
 use Rattle.ak_address.specs.Changed.{keys_of}
-use Rattle.ak_address.specs.Unique.{UniqueModel, coded_unique}
+use Rattle.ak_address.specs.Unique.{UniqueModel}
 use Rattle.ak_address.specs.Uniques.{no_one, has}
 use Rattle.ak_clock.specs.Version.{Counts, Covers}
 use Rattle.ak_detector.specs.Detector.{watch_ring, silent}
@@ -22,10 +21,6 @@ use Rattle.ak_membership.specs.declared.change.MemberFault.TheVariants.{NotUp, U
 use Rattle.ak_membership.specs.declared.state.MembershipState.{MembershipState}
 use Rattle.ak_membership.specs.Membership.{Outcome, started, knowing, is_gone, may_count, has_member_beside, replaced}
 use Rattle.ak_membership.specs.Closing.{is_noted, is_viewed, notes}
-
--- the version that was last shown is stored as its counts
-abbrev pub coded_counts : Coded Counts
-coded_counts = map.code coded_unique coded_ℕ
 
 -- what a rule makes of what is known is this, with this change
 pub record Makes (outcome : Outcome) (after : MembershipState) (change : Change) : Type 0 where

@@ -3,5 +3,4 @@ pub mod Datagram
 pub mod Hashed
 pub mod Laws
 pub mod ReadingDatagram
-pub mod Stored
 pub mod Wire

@@ -62,7 +62,7 @@ impl Model for Actions {
     ghost use Rattle.ak_gossip.specs.Gossip.{coded_gossip};
     ghost use Rattle.ak_member.specs.View.{coded_uniques};
     ghost use Rattle.ak_promise.specs.Ballot.{coded_ballot};
-    ghost use Rattle.ak_wire.specs.Stored.{coded_counts};
+    ghost use Rattle.ak_clock.specs.Version.{coded_counts};
 
     ghost Value = { List Action };
 

@@ -566,7 +566,7 @@ impl Model for World {
     ghost use Rattle.ak_member.specs.View.{coded_uniques};
     ghost use Rattle.ak_membership.specs.contracts.membership.Membership as membership;
     ghost use Rattle.ak_promise.specs.Ballot.{coded_ballot};
-    ghost use Rattle.ak_wire.specs.Stored.{coded_counts};
+    ghost use Rattle.ak_clock.specs.Version.{coded_counts};
     ghost use Rattle.ak_singleton.specs.SingletonView.{coded_singleton};
     ghost use Rattle.ak_sharding.specs.ShardingView.{coded_sharding};
     ghost use Rattle.std.specs.Prelude.{is_some};
