@@ -49,6 +49,7 @@ impl Text {
     }
 
     /// Whether both have the same bytes. Takes no memory.
+    #[inline]
     pub fn is(&self, other: &Text) -> bool
         ensures value { result ≡ pointwise nat_eq self.now other.now }
         ensures meaning { IsTrue result ↔ self.now ≡ other.now }
@@ -56,10 +57,21 @@ impl Text {
         if self.start != other.start {
             return false;
         }
-        self.is_short() || self.bytes() == other.bytes()
+        self.is_short() || self.has_bytes_of(other)
+    }
+
+    // The same, byte by byte, for names of which the start does not tell all. Apart, so that what asks for the start alone stays
+    // small enough to stand wherever names are compared.
+    #[inline(never)]
+    fn has_bytes_of(&self, other: &Text) -> bool
+        ensures value { result ≡ pointwise nat_eq self.now other.now }
+        ensures meaning { IsTrue result ↔ self.now ≡ other.now }
+    {
+        self.bytes() == other.bytes()
     }
 
     /// The order of bytes: the first one that differs decides, and else a text comes before what it begins. Takes no memory.
+    #[inline]
     pub fn compare(&self, other: &Text) -> Ordering
         ensures { result ≡ slice_cmp nat_cmp self.now other.now }
     {
@@ -69,10 +81,19 @@ impl Text {
         if self.is_short() {
             return Ordering::Equal;
         }
+        self.compare_bytes(other)
+    }
+
+    // The same, byte by byte.
+    #[inline(never)]
+    fn compare_bytes(&self, other: &Text) -> Ordering
+        ensures { result ≡ slice_cmp nat_cmp self.now other.now }
+    {
         self.bytes().cmp(other.bytes())
     }
 
     // Its start tells all of it.
+    #[inline]
     fn is_short(&self) -> bool
         ensures { IsTrue result ↔ length self.now ≤ 7 }
     {
