@@ -6,6 +6,7 @@ use itoa::Buffer;
 use std::alloc::AllocError;
 
 /// Appends the number's decimal digits, with no leading zero. Where memory runs out `out` is as it was.
+#[inline]
 pub fn print_number(number: u64, out: &mut Vec<u8>) -> Result<(), AllocError>
     ensures ok { OnOk result (out.new.items ≡ out.old.items ++ decimal number) }
     ensures err { OnErr result (out.new.items ≡ out.old.items) }
@@ -15,6 +16,15 @@ pub fn print_number(number: u64, out: &mut Vec<u8>) -> Result<(), AllocError>
         out.push(b'0' + number as u8)?;
         return Ok(());
     }
+    print_digits(number, out)
+}
+
+// The same of any number. Apart, so that what prints one digit stays small.
+#[inline(never)]
+fn print_digits(number: u64, out: &mut Vec<u8>) -> Result<(), AllocError>
+    ensures ok { OnOk result (out.new.items ≡ out.old.items ++ decimal number) }
+    ensures err { OnErr result (out.new.items ≡ out.old.items) }
+{
     let mut buffer = Buffer::new();
     out.extend_from_slice(buffer.format(number).as_bytes())
 }
@@ -25,6 +35,10 @@ pub fn print_wide_number(number: u128, out: &mut Vec<u8>) -> Result<(), AllocErr
     ensures ok { OnOk result (out.new.items ≡ out.old.items ++ decimal number) }
     ensures err { OnErr result (out.new.items ≡ out.old.items) }
 {
+    // Nearly all fit in 64 bits, whose digits are found in half the time.
+    if let Ok(number) = u64::try_from(number) {
+        return print_number(number, out);
+    }
     let mut buffer = Buffer::new();
     out.extend_from_slice(buffer.format(number).as_bytes())
 }
@@ -57,6 +71,7 @@ pub fn print_unique(host: &[u8], port: u16, uid: u64, out: &mut Vec<u8>) -> Resu
 }
 
 // Where memory runs out some of it may stand after what `out` had.
+#[inline]
 fn append_address(host: &[u8], port: u16, out: &mut Vec<u8>) -> Result<(), AllocError>
     ensures ok { OnOk result (out.new.items ≡ out.old.items ++ (host.now ++ 58 ∷ decimal port)) }
     ensures err { OnErr result (take (vec_len out.old) out.new.items ≡ out.old.items) }
@@ -67,6 +82,7 @@ fn append_address(host: &[u8], port: u16, out: &mut Vec<u8>) -> Result<(), Alloc
 }
 
 // Where memory runs out some of it may stand after what `out` had.
+#[inline]
 fn append_unique(host: &[u8], port: u16, uid: u64, out: &mut Vec<u8>) -> Result<(), AllocError>
     ensures ok { OnOk result (out.new.items ≡ out.old.items ++ (host.now ++ 58 ∷ decimal port ++ 35 ∷ decimal uid)) }
     ensures err { OnErr result (take (vec_len out.old) out.new.items ≡ out.old.items) }

@@ -17,6 +17,7 @@ use std::alloc::{AllocError, Global};
 // of its own first.
 
 /// Appends these bytes. An error leaves the text as it was; only memory can fail.
+#[inline(always)]
 pub fn print_bytes(bytes: &[u8], out: &mut Vec<u8>) -> Result<(), AllocError>
     ensures ok { OnOk result (out.new.items ≡ out.old.items ++ bytes.now) }
     ensures err { OnErr result (out.new.items ≡ out.old.items) }
@@ -38,7 +39,7 @@ fn print_seen(who: &Unique, count: u64, out: &mut Vec<u8>) -> Result<(), AllocEr
     ensures { OnOk result (out.new.items ≡ out.old.items ++ text.count_text (who.now, count)) }
 {
     who.print_into(out)?;
-    print_bytes(b"=", out)?;
+    out.push(b'=')?;
     print_number(count, out)
 }
 
@@ -77,7 +78,7 @@ fn print_after(number: u64, out: &mut Vec<u8>) -> Result<(), AllocError>
     if number == 0 {
         return Ok(());
     }
-    print_bytes(b" ", out)?;
+    out.push(b' ')?;
     print_number(number, out)
 }
 
@@ -90,7 +91,7 @@ fn print_member(
     ensures { OnOk result (out.new.items ≡ out.old.items ++ text.member_text (who.now, (status, number))) }
 {
     who.print_into(out)?;
-    print_bytes(b" ", out)?;
+    out.push(b' ')?;
     print_bytes(status_name(status), out)?;
     print_after(number, out)
 }
@@ -182,7 +183,7 @@ fn print_spaced(who: &Uniques, out: &mut Vec<u8>) -> Result<(), AllocError>
 {
     'processes: for index in 0..who.len() {
         if let Some(one) = who.at(index) {
-            print_bytes(b" ", out)?;
+            out.push(b' ')?;
             one.print_into(out)?;
         }
     }
@@ -207,7 +208,7 @@ fn print_rise(
     ensures { OnOk result (out.new.items ≡ out.old.items ++ text.effect_text (Effect.Rise who.now status number)) }
 {
     print_bytes(status_name(status), out)?;
-    print_bytes(b" ", out)?;
+    out.push(b' ')?;
     who.print_into(out)?;
     print_after(number, out)
 }
@@ -260,7 +261,7 @@ fn print_receiver(envelope: &Envelope, out: &mut Vec<u8>) -> Result<(), AllocErr
     if envelope.uid == 0 {
         return Ok(());
     }
-    print_bytes(b"#", out)?;
+    out.push(b'#')?;
     print_number(envelope.uid, out)
 }
 
@@ -269,7 +270,7 @@ fn print_send(number: u128, envelope: &Envelope, out: &mut Vec<u8>) -> Result<()
 {
     print_bytes(b"send ", out)?;
     print_wide_number(number, out)?;
-    print_bytes(b" ", out)?;
+    out.push(b' ')?;
     print_bytes(envelope.message.kind(), out)?;
     print_bytes(b" to ", out)?;
     print_receiver(envelope, out)
@@ -279,7 +280,7 @@ fn print_update(number: u64, effects: &[Effect], out: &mut Vec<u8>) -> Result<()
     ensures { OnOk result (out.new.items ≡ out.old.items ++ (codes "update " ++ decimal number ++ codes " " ++ text.listed_text (map text.effect_text effects.now))) }
 {
     print_numbered(b"update ", number, out)?;
-    print_bytes(b" ", out)?;
+    out.push(b' ')?;
     print_effects(effects, out)
 }
 
@@ -421,5 +422,6 @@ pub fn append_action(
 {
     print_bytes(b"  ", out)?;
     print_action(gossip, number, action, out)?;
-    print_bytes(b"\n", out)
+    out.push(b'\n')?;
+    Ok(())
 }

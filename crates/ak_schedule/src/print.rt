@@ -61,7 +61,7 @@ fn append_two(
     ensures err { OnErr result (take (vec_len out.old) out.new.items ≡ out.old.items) }
 {
     append_one(name, who, out)?;
-    out.extend_from_slice(b" ")?;
+    out.push(b' ')?;
     member.print_into(out)
 }
 
@@ -70,7 +70,7 @@ fn append_join(who: &Unique, target: &Address, out: &mut Vec<u8>) -> Result<(), 
     ensures err { OnErr result (take (vec_len out.old) out.new.items ≡ out.old.items) }
 {
     append_one(b"join ", who, out)?;
-    out.extend_from_slice(b" ")?;
+    out.push(b' ')?;
     target.print_into(out)
 }
 
@@ -79,7 +79,7 @@ fn append_tick(who: &Unique, word: u32, out: &mut Vec<u8>) -> Result<(), AllocEr
     ensures err { OnErr result (take (vec_len out.old) out.new.items ≡ out.old.items) }
 {
     append_one(b"tick ", who, out)?;
-    out.extend_from_slice(b" ")?;
+    out.push(b' ')?;
     print_number(u64::from(word), out)
 }
 
@@ -101,8 +101,8 @@ fn append_offer(
     ensures err { OnErr result (take (vec_len out.old) out.new.items ≡ out.old.items) }
 {
     append_one(b"offer ", who, out)?;
-    out.extend_from_slice(b" ")?;
+    out.push(b' ')?;
     out.extend_from_slice(entity)?;
-    out.extend_from_slice(b" ")?;
+    out.push(b' ')?;
     print_number(payload, out)
 }

@@ -1,6 +1,7 @@
 //! What a world keeps of the events that it accepted.
 
 ghost use Rattle.std.specs.Prelude.{◌≡◌, IfOk, IfSome};
+ghost use Rattle.ak_world.specs.Kept.{event_of};
 
 use ak_address::{Address, Unique};
 use ak_field::EntityId;
@@ -11,7 +12,7 @@ use std::marker::Model;
 use std::rc::Rc;
 
 // As many names that are no node's as kept events share: who is asked about and was never started.
-const MOST_OTHERS: usize = 64;
+const MOST_OTHERS: usize = 256;
 
 /// The names that kept events share, so that an event is kept in a few bytes however long its names are. No contract speaks of
 /// them.
@@ -175,7 +176,6 @@ fn form_of(
     node: Option<u32>,
     names: &mut Names,
 ) -> Result<Form, AllocError>
-    ghost use Rattle.ak_world.specs.Kept.{event_of};
     ensures { IfOk result (λ form. event_of form ≡ event.now) }
 {
     match event {

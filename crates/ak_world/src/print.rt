@@ -26,11 +26,12 @@ fn print_packet(who: &Unique, envelope: &Envelope, out: &mut Vec<u8>) -> Result<
 {
     print_bytes(b"  at ", out)?;
     who.print_into(out)?;
-    print_bytes(b" ", out)?;
+    out.push(b' ')?;
     print_bytes(envelope.message.kind(), out)?;
     print_bytes(b" from ", out)?;
     envelope.from.print_into(out)?;
-    print_bytes(b"\n", out)
+    out.push(b'\n')?;
+    Ok(())
 }
 
 // What a delivered packet was, or that it reached nobody.
@@ -55,9 +56,10 @@ fn print_head(number: u64, event: &Event, out: &mut Vec<u8>) -> Result<(), Alloc
     ensures { OnOk result (out.new.items ≡ out.old.items ++ (decimal number ++ codes " " ++ event_text event.now ++ 10 ∷ [])) }
 {
     print_number(number, out)?;
-    print_bytes(b" ", out)?;
+    out.push(b' ')?;
     print_event(event, out)?;
-    print_bytes(b"\n", out)
+    out.push(b'\n')?;
+    Ok(())
 }
 
 // So many bytes are set aside for the text of a step; most have fewer.
@@ -149,7 +151,8 @@ fn print_count(name: &[u8], count: u64, out: &mut Vec<u8>) -> Result<(), AllocEr
 {
     print_bytes(name, out)?;
     print_number(count, out)?;
-    print_bytes(b"\n", out)
+    out.push(b'\n')?;
+    Ok(())
 }
 
 // The process of a start number.
@@ -175,7 +178,8 @@ fn print_margin(world: &World, margin: Margin, out: &mut Vec<u8>) -> Result<(), 
             print_name(world, node, out)?;
             print_bytes(b" member ", out)?;
             print_name(world, member, out)?;
-            print_bytes(b"\n", out)
+            out.push(b'\n')?;
+            Ok(())
         }
     }
 }
@@ -189,13 +193,14 @@ fn print_double(world: &World, double: Option<&Double>, out: &mut Vec<u8>) -> Re
     };
     print_bytes(b"double ", out)?;
     print_bytes(double.entity.bytes(), out)?;
-    print_bytes(b" ", out)?;
+    out.push(b' ')?;
     print_name(world, double.first, out)?;
-    print_bytes(b" ", out)?;
+    out.push(b' ')?;
     print_name(world, double.second, out)?;
     print_bytes(b" step ", out)?;
     print_number(double.step, out)?;
-    print_bytes(b"\n", out)
+    out.push(b'\n')?;
+    Ok(())
 }
 
 /// Appends the summary of a replay of so many steps. Its margin and its first double are those of the events that the world
