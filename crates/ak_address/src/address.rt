@@ -34,7 +34,7 @@ impl Model for Address {
 impl Address {
     /// The order of addresses: by the bytes of the host, then by the port (Akka orders members by host and port;
     /// that hosts are compared by bytes is this project's choice). Takes no memory.
-    #[inline]
+    #[inline(always)]
     pub fn compare(&self, other: &Address) -> Ordering
         ensures { result ≡ address_cmp self.now other.now }
     {
@@ -46,7 +46,7 @@ impl Address {
     }
 
     /// Whether both are the same address. It is told sooner than their order. Takes no memory.
-    #[inline]
+    #[inline(always)]
     pub fn is(&self, other: &Address) -> bool
         ensures value { result ≡ is_eq (address_cmp self.now other.now) }
         ensures meaning { IsTrue result ↔ self.now ≡ other.now }
@@ -95,7 +95,7 @@ impl Model for Unique {
 
 impl Unique {
     /// The order of processes: by address, then by uid (Akka's order of unique addresses). Takes no memory.
-    #[inline]
+    #[inline(always)]
     pub fn compare(&self, other: &Unique) -> Ordering
         ensures { result ≡ unique_cmp self.now other.now }
     {
@@ -107,7 +107,7 @@ impl Unique {
     }
 
     /// Whether both are the same process. It is told sooner than their order. Takes no memory.
-    #[inline]
+    #[inline(always)]
     pub fn is(&self, other: &Unique) -> bool
         ensures value { result ≡ is_eq (unique_cmp self.now other.now) }
         ensures meaning { IsTrue result ↔ self.now ≡ other.now }

@@ -49,7 +49,7 @@ impl Text {
     }
 
     /// Whether both have the same bytes. Takes no memory.
-    #[inline]
+    #[inline(always)]
     pub fn is(&self, other: &Text) -> bool
         ensures value { result ≡ pointwise nat_eq self.now other.now }
         ensures meaning { IsTrue result ↔ self.now ≡ other.now }
@@ -71,7 +71,7 @@ impl Text {
     }
 
     /// The order of bytes: the first one that differs decides, and else a text comes before what it begins. Takes no memory.
-    #[inline]
+    #[inline(always)]
     pub fn compare(&self, other: &Text) -> Ordering
         ensures { result ≡ slice_cmp nat_cmp self.now other.now }
     {
@@ -93,7 +93,7 @@ impl Text {
     }
 
     // Its start tells all of it.
-    #[inline]
+    #[inline(always)]
     fn is_short(&self) -> bool
         ensures { IsTrue result ↔ length self.now ≤ 7 }
     {
