@@ -52,6 +52,10 @@ learnt_many asking from (report ∷ reports) table =
     learnt_many asking from reports (with_entry table report.shard (learnt asking from report (entry_of table report.shard)))
     ∙ length-set table report.shard (learnt asking from report (entry_of table report.shard))
 
+-- where with the reports that are left all are learnt, no shard came or went
+pub learnt_as_many : (asking : Bool) (from : UniqueModel) (left reports : List Report) (now table : ShardTable) → learnt_all asking from left now ≡ learnt_all asking from reports table → length now ≡ length table
+learnt_as_many asking from left reports now table same = sym (learnt_many asking from left now) ∙ ap length same ∙ learnt_many asking from reports table
+
 -- ---- which stops are awaited
 both_true : (a b : Bool) → (a && b) ≡ true → (a ≡ true) × (b ≡ true)
 both_true true true h = (refl, refl)

@@ -44,9 +44,9 @@ none_ordered start (entry ∷ entries) (suc k) d lt none =
     (none_ordered (start + 1) entries k d (omega arith) (right_none (orders_of start entry) (orders_from (start + 1) entries) none))
 
 -- a walk comes to a shard that has an order
-pub ordered_at : (table : ShardTable) (shard : ℕ) (entry : ShardEntry) → shard < length table → entry ≡ get_or table shard entry → orders_of shard entry ≢ [] → orders_from 0 table ≢ []
+pub ordered_at : (table : ShardTable) (shard : ℕ) (entry : ShardEntry) → shard < length table → entry ≡ entry_of table shard → orders_of shard entry ≢ [] → orders_from 0 table ≢ []
 ordered_at table shard entry lt here some none =
-    some (ap (orders_of shard) here ∙ subst (λ s. orders_of s (get_or table shard entry) ≡ []) (let e : 0 + shard ≡ shard = omega arith in e) (none_ordered 0 table shard entry lt none))
+    some (ap (orders_of shard) here ∙ subst (λ s. orders_of s (entry_of table shard) ≡ []) (let e : 0 + shard ≡ shard = omega arith in e) (none_ordered 0 table shard unplaced lt none))
 
 -- of a shard that begins to move something is ordered
 begun_ordered : (shard last : ℕ) (home : Option Home) (started : Bool) (waits : UniqueSet) → IsSome home → (b : Bool) → (how_many waits == 0) ≡ b

@@ -1,5 +1,5 @@
 -- Where a tick has nothing to do.
-use Rattle.std.proofs.Common.{◌≡◌, ℕ, Bool, true, false, cond, not, ◌||◌, ◌+◌, List, [], ◌∷◌, drop, slice_get, Option, None, Some, option_map, option_to_list, Result, Ok, Err, OnErr, refl, sym, ap, ◌∙◌, arith, map, length}
+use Rattle.std.proofs.Common.{◌≡◌, ℕ, Bool, true, false, cond, not, ◌||◌, ◌+◌, List, [], ◌∷◌, ◌++◌, take, drop, slice_get, Option, None, Some, option_map, option_to_list, Result, Ok, Err, OnErr, refl, sym, ap, ◌∙◌, arith, map, length}
 use Rattle.std.proofs.lemmas.Bool.{or_parts, and_right}
 use Rattle.std.proofs.lemmas.List.{nil_from_length}
 use Rattle.std.proofs.lemmas.List.Folds.{list_any-append}
@@ -19,7 +19,7 @@ use Rattle.ak_settled.specs.SettledView.{SettledView}
 use Rattle.ak_settled.specs.Settled.{standings_of, is_over, is_finished}
 use Rattle.ak_coordinator.specs.Table.{Home, ShardEntry}
 use Rattle.ak_coordinator.specs.Entry.{moves, freed}
-use Rattle.ak_coordinator.specs.Tick.{is_unfinished, unfinished, noticed, has_finished_home, is_exiting_pair, has_exiting_home, leaves_exiting, first_from}
+use Rattle.ak_coordinator.specs.Tick.{is_unfinished, unfinished, noticed, IsPartlyNoticed, has_finished_home, is_exiting_pair, has_exiting_home, leaves_exiting, first_from}
 use Rattle.ak_coordinator.proofs.LoadLemmas.{many_in_order}
 
 -- nobody was waited for, and nobody is
@@ -94,6 +94,14 @@ none_noticed margin settled (entry ∷ table) none =
     ap (λ l. entry ∷ l) (none_noticed margin settled table none)
     ∙ ap (λ e. e ∷ map (noticed margin settled) table) (sym (ap (λ b. cond b (freed entry) (record entry { waits = unfinished margin settled entry.waits })) (lives_at_home margin settled entry.home none)
     ∙ ap (λ (w : UniqueSet). record entry { waits = w }) (ap set_of (all_left margin settled (in_order entry.waits) none) ∙ set_of-in_order entry.waits)))
+
+-- ---- a walk along all shards
+walk_done : (f : ShardEntry → ShardEntry) (xs : List ShardEntry) → map f (take (length xs) xs) ++ drop (length xs) xs ≡ map f xs
+walk_done f [] = refl
+walk_done f (x ∷ xs) = ap (λ l. f x ∷ l) (walk_done f xs)
+
+pub all_noticed : (margin : ℕ) (settled : SettledView) (old now : List ShardEntry) → now ≡ map (noticed margin settled) old → IsPartlyNoticed margin settled old now
+all_noticed margin settled old now is = (length old, omega arith, is ∙ sym (walk_done (noticed margin settled) old))
 
 -- ---- a walk that looks for a member that passes a test
 module _ (p : UniqueModel × (Status × ℕ) → Bool) (pairs : List (UniqueModel × Standing)) (i : ℕ) where

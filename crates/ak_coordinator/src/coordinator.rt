@@ -5,6 +5,7 @@ ghost use Rattle.ak_coordinator.specs.Entry.{unplaced, homing, NamesHome, after_
 ghost use Rattle.ak_coordinator.specs.Tick.{after_tick, orders_from, IsPartlyTicked, TakesRoom};
 ghost use Rattle.ak_coordinator.specs.Coordinator.{entry_of, with_entry, learnt_all, IsPartlyLearnt, SaysHosted, stopped_placed, after_stopped, loads_of};
 
+use crate::entries::Entries;
 use crate::entry::{Entry, Homing, Placed};
 use crate::loads::{lightened, loads_in};
 use crate::orders::{Order, orders_of};
@@ -22,7 +23,7 @@ use std::marker::Model;
 /// how far a move has come.
 #[derive(Drop)]
 pub struct Coordinator {
-    entries: Vec<Entry>,
+    entries: Entries,
 }
 
 impl Model for Coordinator {
@@ -32,10 +33,10 @@ impl Model for Coordinator {
 
     ghost coded = { coded_table };
 
-    ghost view = { λ c. c.entries.items };
+    ghost view = { λ c. c.entries };
 
     // As many shards as settings allow: so loads fit their numbers.
-    ghost invariant = { λ c. IsTable c.entries.items };
+    ghost invariant = { λ c. IsTable c.entries };
 }
 
 impl Coordinator {
@@ -45,7 +46,7 @@ impl Coordinator {
         requires few { shards ≤ 1000 }
         ensures { IfOk result (λ coordinator. coordinator ≡ replicate shards unplaced) }
     {
-        let entries = unplaced_entries(alloc, shards)?;
+        let entries = Entries::unplaced(alloc, shards)?;
         Ok(Coordinator { entries })
     }
 
@@ -61,7 +62,7 @@ impl Coordinator {
         requires { shard < length self.now }
         ensures { option_copied result ≡ (entry_of self.now shard).home }
     {
-        self.entries[shard as usize].home.as_ref()
+        self.entries.at(shard as usize).home.as_ref()
     }
 
     /// Takes in what a node reports: the greater number stays; a node that hosts a shard is its home, with that number, and
@@ -98,7 +99,7 @@ impl Coordinator {
         ensures after { OnOk result (self.new ≡ with_entry self.old shard (after_get_home loads.now (entry_of self.old shard))) }
         ensures err { OnErr result (NamesHome (homing loads.now (entry_of self.old shard)) × (self.new ≡ self.old)) }
     {
-        self.entries[shard as usize].get_home(alloc, loads)
+        self.entries.at_mut(shard as usize).get_home(alloc, loads)
     }
 
     /// The home says that it hosts the shard, with its number; from any other nothing is taken. Takes no memory.
@@ -106,7 +107,7 @@ impl Coordinator {
         requires { shard < length self.old }
         ensures { self.new ≡ with_entry self.old shard (after_started from.now number (entry_of self.old shard)) }
     {
-        self.entries[shard as usize].start(from, number);
+        self.entries.at_mut(shard as usize).start(from, number);
     }
 
     /// A node holds the shard: where it moves with that number in its first stage, the node is waited for no more, and the
@@ -116,7 +117,7 @@ impl Coordinator {
         ensures last { result ≡ is_last_ack from.now number (entry_of self.old shard) }
         ensures after { self.new ≡ with_entry self.old shard (after_ack from.now number (entry_of self.old shard)) }
     {
-        self.entries[shard as usize].ack(from, number)
+        self.entries.at_mut(shard as usize).ack(from, number)
     }
 
     /// Whether the shard waits for the node to say, with that number, that it does not host it any more. Takes no memory.
@@ -124,7 +125,7 @@ impl Coordinator {
         requires { shard < length self.now }
         ensures { result ≡ awaits_stop from.now number (entry_of self.now shard) }
     {
-        self.entries[shard as usize].awaits_stop(from, number)
+        self.entries.at(shard as usize).awaits_stop(from, number)
     }
 
     /// A node does not host the shard any more. Where the shard moves with that number from this node, it is free now, and is
@@ -151,7 +152,7 @@ impl Coordinator {
             return Ok(None);
         }
         let loads = lightened(alloc, loads, from)?;
-        stop(alloc, &mut self.entries[shard as usize], &loads)
+        stop(alloc, self.entries.at_mut(shard as usize), &loads)
     }
 
     /// How many shards have their home at each Up member of the settled view that has granted, in the order of processes;
@@ -195,31 +196,22 @@ impl Coordinator {
     }
 }
 
-// An entry for each shard.
-fn unplaced_entries(alloc: Global, shards: u32) -> Result<Vec<Entry>, AllocError>
-    ensures { IfOk result (λ entries. entries.items ≡ replicate shards unplaced) }
-{
-    let mut entries = Vec::with_capacity(alloc, shards as usize)?;
-    'shards: for _shard in 0..shards {
-        entries.push(Entry::unplaced(alloc))?;
-    }
-    Ok(entries)
-}
-
 fn learn_each(
     alloc: Global,
-    entries: &mut [Entry],
+    entries: &mut Entries,
     from: &Unique,
     reports: &[Report],
     asking: bool,
 ) -> Result<(), AllocError>
     requires { (report : Report) → Contains reports.now report → report.shard < length entries.old }
+    ensures many { length entries.new ≡ length entries.old }
     ensures ok { OnOk result (entries.new ≡ learnt_all asking from.now reports.now entries.old) }
     ensures lost { OnErr result (IsPartlyLearnt asking from.now reports.now entries.old entries.new) }
     ensures memory { OnErr result (SaysHosted reports.now) }
 {
     'reports: for report in reports {
-        entries[report.shard as usize].learn(alloc, from, report, asking)?;
+        let shard = report.shard as usize;
+        entries.at_mut(shard).learn(alloc, from, report, asking)?;
     }
     Ok(())
 }

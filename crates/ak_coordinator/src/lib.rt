@@ -2,6 +2,7 @@
 #![tactic(auto)]
 
 mod coordinator;
+mod entries;
 mod entry;
 mod laws;
 mod loads;

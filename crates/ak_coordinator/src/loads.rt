@@ -9,6 +9,7 @@ ghost use Rattle.ak_member.specs.Standing.{member_pairs, members_of};
 ghost use Rattle.ak_coordinator.specs.Coordinator.{less_one, may_host, loads_among};
 ghost use Rattle.ak_coordinator.specs.Homes.{with_home, AreHomes, loads_counted};
 
+use crate::entries::Entries;
 use crate::entry::Entry;
 use ak_address::{Table, Unique, Uniques};
 use ak_allocation::Load;
@@ -101,13 +102,13 @@ fn count_home(alloc: Global, counts: &mut Table<u32>, entry: &Entry) -> Result<(
 }
 
 // How many shards have their home at each node: one walk along the shards, each home looked up by halves.
-fn homes_in(alloc: Global, entries: &[Entry]) -> Result<Table<u32>, AllocError>
+fn homes_in(alloc: Global, entries: &Entries) -> Result<Table<u32>, AllocError>
     requires { length entries.now ≤ 1000 }
     ensures { IfOk result (λ counts. AreHomes entries.now counts) }
 {
     let mut counts = Table::empty(alloc);
-    'entries: for entry in entries {
-        count_home(alloc, &mut counts, entry)?;
+    'shards: for shard in 0..entries.len() {
+        count_home(alloc, &mut counts, entries.at(shard))?;
     }
     Ok(counts)
 }
@@ -185,7 +186,7 @@ fn any_host(granted: &Uniques, members: &Members) -> bool
 // The loads of the Up members that have granted. Takes memory only where there is one.
 pub(crate) fn loads_in(
     alloc: Global,
-    entries: &[Entry],
+    entries: &Entries,
     granted: &Uniques,
     members: &Members,
 ) -> Result<Vec<Load>, AllocError>

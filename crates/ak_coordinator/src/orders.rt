@@ -2,6 +2,7 @@ ghost use Rattle.std.specs.Prelude.{◌≡◌, ◌≢◌, ◌≤◌, ◌++◌, �
 ghost use Rattle.ak_address.specs.Uniques.{in_order};
 ghost use Rattle.ak_coordinator.specs.Tick.{begin_order, orders_of, orders_from};
 
+use crate::entries::Entries;
 use crate::entry::{Entry, Stage};
 use ak_address::{Unique, Uniques};
 use std::alloc::{AllocError, Global};
@@ -84,14 +85,14 @@ fn push_orders(
 }
 
 // Takes memory only where there is an order.
-pub(crate) fn orders_of(alloc: Global, entries: &[Entry]) -> Result<Vec<Order>, AllocError>
+pub(crate) fn orders_of(alloc: Global, entries: &Entries) -> Result<Vec<Order>, AllocError>
     requires { length entries.now ≤ 1000 }
     ensures ok { IfOk result (λ orders. orders.items ≡ orders_from 0 entries.now) }
     ensures memory { OnErr result (orders_from 0 entries.now ≢ []) }
 {
     let mut orders = Vec::new(alloc);
     'shards: for shard in 0..entries.len() {
-        push_orders(alloc, &mut orders, shard as u32, &entries[shard])?;
+        push_orders(alloc, &mut orders, shard as u32, entries.at(shard))?;
     }
     Ok(orders)
 }

@@ -8,7 +8,7 @@ ghost use Rattle.ak_coordinator.specs.Entry.{moves};
 ghost use Rattle.ak_coordinator.specs.Coordinator.{entry_of, loads_of};
 ghost use Rattle.ak_coordinator.specs.Tick.{is_unfinished, unfinished, noticed, IsPartlyNoticed, hurried, is_exiting_pair, leaves_exiting, leaves_node, first_from, first_leaver, after_begin, moving, orders_from, AnyWaited, ComparesLoads};
 
-use crate::entry::Entry;
+use crate::entries::Entries;
 use crate::loads::loads_in;
 use ak_address::{Unique, Uniques};
 use ak_allocation::rebalance;
@@ -37,7 +37,7 @@ pub(crate) fn unfinished(
 
 pub(crate) fn notice_each(
     alloc: Global,
-    entries: &mut [Entry],
+    entries: &mut Entries,
     settled: &Settled,
     margin: u32,
 ) -> Result<(), AllocError>
@@ -49,25 +49,31 @@ pub(crate) fn notice_each(
     if settled.members().buried_len() == 0 {
         return Ok(());
     }
-    'entries: for entry in entries.iter_mut() {
-        entry.notice(alloc, settled, margin)?;
+    'shards: for shard in 0..entries.len() {
+        entries.at_mut(shard).notice(alloc, settled, margin)?;
     }
     Ok(())
 }
 
-pub(crate) fn hurry_each(entries: &mut [Entry])
+pub(crate) fn hurry_each(entries: &mut Entries)
     ensures { entries.new ≡ list.map hurried entries.old }
 {
-    'entries: for entry in entries.iter_mut() {
-        entry.hurry();
+    'shards: for shard in 0..entries.len() {
+        entries.at_mut(shard).hurry();
     }
 }
 
 // How many shards move.
-fn moving(entries: &[Entry]) -> usize
+fn moving(entries: &Entries) -> usize
     ensures { result ≡ moving entries.now }
 {
-    entries.iter().filter(|entry| entry.moves()).count()
+    let mut moving = 0;
+    'shards: for shard in 0..entries.len() {
+        if entries.at(shard).moves() {
+            moving += 1;
+        }
+    }
+    moving
 }
 
 // Whether any member is Exiting.
@@ -85,7 +91,7 @@ fn any_exiting(members: &Members) -> bool
 }
 
 // The first shard that does not move and whose home is Exiting.
-fn first_exiting(entries: &[Entry], members: &Members) -> Option<usize>
+fn first_exiting(entries: &Entries, members: &Members) -> Option<usize>
     ensures first { result ≡ first_from 0 (leaves_exiting members.now) entries.now }
     ensures placed { IfSome result (λ shard. (shard < length entries.now) × IsSome (entry_of entries.now shard).home) }
 {
@@ -94,7 +100,7 @@ fn first_exiting(entries: &[Entry], members: &Members) -> Option<usize>
         return None;
     }
     'shards: for shard in 0..entries.len() {
-        if entries[shard].leaves_exiting(members) {
+        if entries.at(shard).leaves_exiting(members) {
             return Some(shard);
         }
     }
@@ -102,12 +108,12 @@ fn first_exiting(entries: &[Entry], members: &Members) -> Option<usize>
 }
 
 // The first shard that does not move and whose home is the node.
-fn first_of_node(entries: &[Entry], who: &Unique) -> Option<usize>
+fn first_of_node(entries: &Entries, who: &Unique) -> Option<usize>
     ensures first { result ≡ first_from 0 (leaves_node who.now) entries.now }
     ensures placed { IfSome result (λ shard. (shard < length entries.now) × IsSome (entry_of entries.now shard).home) }
 {
     'shards: for shard in 0..entries.len() {
-        if entries[shard].leaves_node(who) {
+        if entries.at(shard).leaves_node(who) {
             return Some(shard);
         }
     }
@@ -117,7 +123,7 @@ fn first_of_node(entries: &[Entry], who: &Unique) -> Option<usize>
 // The shard that begins to move. Takes memory only where there is a load.
 fn first_leaver(
     alloc: Global,
-    entries: &[Entry],
+    entries: &Entries,
     granted: &Uniques,
     settled: &Settled,
     threshold: u32,
@@ -142,16 +148,16 @@ fn first_leaver(
 // something is then ordered.
 pub(crate) fn begin_one(
     alloc: Global,
-    entries: &mut Vec<Entry>,
+    entries: &mut Entries,
     granted: &Uniques,
     settled: &Settled,
     settings: &Settings,
 ) -> Result<(), AllocError>
-    requires { length entries.old.items ≤ 1000 }
-    ensures after { OnOk result (entries.new.items ≡ after_begin granted.now settled.now.view settings.now.margin settings.now.threshold settings.now.limit entries.old.items) }
-    ensures many { length entries.new.items ≡ length entries.old.items }
-    ensures err { OnErr result (entries.new.items ≡ entries.old.items) }
-    ensures memory { OnErr result (ComparesLoads granted.now settled.now.view settings.now.limit entries.old.items ⊎ (orders_from 0 (list.map hurried (after_begin granted.now settled.now.view settings.now.margin settings.now.threshold settings.now.limit entries.old.items)) ≢ [])) }
+    requires { length entries.old ≤ 1000 }
+    ensures after { OnOk result (entries.new ≡ after_begin granted.now settled.now.view settings.now.margin settings.now.threshold settings.now.limit entries.old) }
+    ensures many { length entries.new ≡ length entries.old }
+    ensures err { OnErr result (entries.new ≡ entries.old) }
+    ensures memory { OnErr result (ComparesLoads granted.now settled.now.view settings.now.limit entries.old ⊎ (orders_from 0 (list.map hurried (after_begin granted.now settled.now.view settings.now.margin settings.now.threshold settings.now.limit entries.old)) ≢ [])) }
 {
     if moving(entries) >= settings.limit as usize {
         return Ok(());
@@ -160,7 +166,7 @@ pub(crate) fn begin_one(
         return Ok(());
     };
     let waits = unfinished(alloc, settled, settings.margin, granted)?;
-    entries[shard].begin(waits);
+    entries.at_mut(shard).begin(waits);
     Ok(())
 }
 
