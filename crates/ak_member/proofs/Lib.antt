@@ -3,8 +3,10 @@ pub mod CountedLaws
 pub mod Folds
 pub mod MemberLemmas
 pub mod MembersLaws
+pub mod MergeLemmas
 pub mod Merges
 pub mod OldestLaws
 pub mod SetLaws
+pub mod SlotLemmas
 pub mod StandingLaws
 pub mod ViewLaws

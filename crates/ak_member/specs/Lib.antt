@@ -1,4 +1,6 @@
 pub mod Age
 pub mod Indices
+pub mod Merging
+pub mod Slots
 pub mod Standing
 pub mod View

@@ -1,14 +1,12 @@
-ghost use Rattle.std.specs.Prelude.{◌≡◌, ◌≢◌, ◌<◌, ◌^◌, [], ◌∷◌, ◌++◌, IfOk, OnOk, OnErr, IsTrue, length, slice_get, option_map, option_to_list, option_copied};
+ghost use Rattle.std.specs.Prelude.{◌≡◌, ◌≢◌, ◌<◌, ◌^◌, [], ◌∷◌, ◌++◌, IfOk, OnOk, OnErr, IsTrue, slice_get, option_map, option_to_list, option_copied};
 ghost use Rattle.std.specs.Prelude as list;
 ghost use Rattle.std.specs.FinMap as map;
 ghost use Rattle.ak_address.specs.Distinct.{distinct};
-ghost use Rattle.ak_address.specs.Unique.{unique_cmp};
 ghost use Rattle.ak_member.specs.Standing.{member_pairs, members_of};
 ghost use Rattle.ak_member.specs.Age.{counts, counted_pairs, least_pair, oldest, IsOldest, counted_addresses, IsByAge};
 ghost use Rattle.ak_member.specs.Indices.{indexed_from};
 
 use crate::members::{Member, Members};
-use crate::standing::Standing;
 use ak_address::{AddressCount, Unique};
 use std::alloc::{AllocError, Global};
 
@@ -59,39 +57,22 @@ impl Members {
         requires { map.len self.now < 2 ^ 32 }
         ensures { result ≡ distinct (counted_addresses self.now) }
     {
-        count_in(self.pairs())
+        count_in(self)
     }
 }
 
-// How many different addresses those have that count among these.
-fn count_in(pairs: &[(Unique, Standing)]) -> u32
-    requires sorted { IsTrue (map.is_sorted unique_cmp pairs.now) }
-    requires few { length pairs.now < 2 ^ 32 }
-    ensures { result ≡ distinct (list.map (λ pair. pair.0.address) (counted_pairs (member_pairs pairs.now))) }
+// How many different addresses the members have that count.
+fn count_in(members: &Members) -> u32
+    requires { map.len members.now < 2 ^ 32 }
+    ensures { result ≡ distinct (counted_addresses members.now) }
 {
     let mut addresses = AddressCount::none();
-    'pairs: for pair in 0..pairs.len() {
-        if let Some((unique, _)) = counted_at(pairs, pair) {
+    'pairs: for pair in 0..members.uniques() {
+        if let Some((unique, _)) = members.counted_at_pair(pair) {
             addresses.add(unique);
         }
     }
     addresses.count()
-}
-
-// The process and the up number at an index among these, where there is a member that counts.
-fn counted_at(pairs: &[(Unique, Standing)], index: usize) -> Option<(&Unique, u64)>
-    ensures { option_to_list (option_map (λ r. (r.0.now, r.1)) result) ≡ counted_pairs (member_pairs (option_to_list (slice_get pairs.now index))) }
-{
-    match pairs.get(index) {
-        Some((unique, Standing::Member(status, up_number))) => {
-            if status.counts() {
-                return Some((unique, *up_number));
-            }
-            None
-        }
-        Some((_, Standing::Buried(_))) => None,
-        None => None,
-    }
 }
 
 // The process and the up number of a member that counts.

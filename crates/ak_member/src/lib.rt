@@ -6,6 +6,8 @@ mod age;
 mod effect;
 mod laws;
 mod members;
+mod merging;
+mod slots;
 mod standing;
 mod status;
 

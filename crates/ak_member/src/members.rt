@@ -1,16 +1,17 @@
-ghost use Rattle.std.specs.Prelude.{◌≡◌, All, IfOk, OnOk, OnErr, IsOk, IsSome, Ok, length, slice_get, option_map, option_to_list, ◌+◌, ℕ};
+ghost use Rattle.std.specs.Prelude.{◌≡◌, All, IfOk, OnOk, OnErr, IsOk, IsSome, length, slice_get, option_map, option_to_list, ◌+◌, ℕ};
 ghost use Rattle.std.specs.FinMap as map;
 ghost use Rattle.ak_address.specs.Pairs.{index};
-ghost use Rattle.ak_address.specs.Table.{value_with};
 ghost use Rattle.ak_address.specs.Unique.{UniqueModel, unique_cmp};
 ghost use Rattle.ak_member.specs.declared.status.Status.{Status};
-ghost use Rattle.ak_member.specs.Standing.{nobody, merged_standings, merged_standing, known, member_pairs, tombstone_pairs, raised, buried, is_gone, is_up, is_exiting, is_member_with, member_of, tombstone_of, members_of, tombstones_of};
+ghost use Rattle.ak_member.specs.Standing.{nobody, merged_standings, known, member_pairs, tombstone_pairs, raised, buried, is_gone, is_up, is_exiting, is_member_with, member_of, tombstone_of, members_of, tombstones_of};
 ghost use Rattle.ak_member.specs.View.{after_effect, after_effects, IsAboutKnown};
 
 use crate::effect::{Effect, Effects};
+use crate::merging::{add_all, note_all, note_known, unknown_of};
+use crate::slots::Slots;
 use crate::standing::Standing;
 use crate::status::Status;
-use ak_address::{Table, Unique};
+use ak_address::Unique;
 use std::alloc::{AllocError, Global};
 use std::marker::Model;
 
@@ -36,12 +37,13 @@ pub struct Tombstone<'a> {
 /// that it never is is this project's choice, since an old gossip could bring the process back).
 #[derive(Drop)]
 pub struct Members {
-    table: Table<Standing>,
+    slots: Slots,
 }
 
 impl Model for Members {
     ghost use Rattle.std.specs.FinMap as map;
     ghost use Rattle.ak_address.specs.Unique.{coded_unique};
+    ghost use Rattle.ak_member.specs.Slots.{standings_of};
     ghost use Rattle.ak_member.specs.Standing.{Standings};
     ghost use Rattle.ak_member.specs.contracts.standing.Standing as standing;
 
@@ -49,7 +51,7 @@ impl Model for Members {
 
     ghost coded = { map.code coded_unique standing.the_row.coded };
 
-    ghost view = { λ m. m.table };
+    ghost view = { λ m. standings_of m.slots.entries };
 }
 
 impl Members {
@@ -57,8 +59,8 @@ impl Members {
     pub fn empty(alloc: Global) -> Members
         ensures { result ≡ nobody }
     {
-        let table = Table::empty(alloc);
-        Members { table }
+        let slots = Slots::empty(alloc);
+        Members { slots }
     }
 
     /// Nobody, with memory for so many. Only memory can fail; memory for none takes none.
@@ -66,15 +68,15 @@ impl Members {
         ensures ok { IfOk result (λ members. members ≡ nobody) }
         ensures memory { many ≡ 0 → IsOk result }
     {
-        let table = Table::with_capacity(alloc, many)?;
-        Ok(Members { table })
+        let slots = Slots::with_capacity(alloc, many)?;
+        Ok(Members { slots })
     }
 
     /// The member that the process is; none where it is no member. Takes no memory.
     pub fn get(&self, who: &Unique) -> Option<Member<'_>>
         ensures { option_map (λ m. (m.unique.now, (m.status, m.up_number))) result ≡ option_map {U = UniqueModel × (Status × ℕ)} (λ m. (who.now, m)) (member_of (map.get self.now who.now)) }
     {
-        match self.table.find(who) {
+        match self.slots.find(who) {
             Some((unique, Standing::Member(status, up_number))) => Some(Member {
                 unique,
                 status: *status,
@@ -90,7 +92,7 @@ impl Members {
     pub fn is_gone(&self, who: &Unique) -> bool
         ensures { result ≡ is_gone (map.get self.now who.now) }
     {
-        match self.table.get(who) {
+        match self.slots.get(who) {
             Some(Standing::Member(status, _)) => status.is_down(),
             Some(Standing::Buried(_)) => true,
             None => false,
@@ -122,7 +124,7 @@ impl Members {
     pub fn tombstone(&self, who: &Unique) -> Option<bool>
         ensures { result ≡ tombstone_of (map.get self.now who.now) }
     {
-        match self.table.get(who) {
+        match self.slots.get(who) {
             Some(Standing::Buried(confirmed)) => Some(*confirmed),
             Some(Standing::Member(_, _)) => None,
             None => None,
@@ -133,7 +135,7 @@ impl Members {
     pub fn uniques(&self) -> usize
         ensures { result ≡ map.len self.now }
     {
-        self.table.len()
+        self.slots.len()
     }
 
     /// The index of the process among all that are known, from 0 on in the order of processes, or as an error the one at which
@@ -141,7 +143,7 @@ impl Members {
     pub fn place(&self, who: &Unique) -> Result<usize, usize>
         ensures { result ≡ index unique_cmp who.now (map.entries self.now) }
     {
-        self.table.place(who)
+        self.slots.place(who)
     }
 
     /// The process at an index among all that are known, from 0 on in the order of processes, and what is known of it;
@@ -149,31 +151,24 @@ impl Members {
     pub fn pair(&self, index: usize) -> Option<(&Unique, Standing)>
         ensures { option_map (λ pair. (pair.0.now, pair.1)) result ≡ slice_get (map.entries self.now) index }
     {
-        match self.table.at(index) {
+        match self.slots.at(index) {
             Some((who, standing)) => Some((who, *standing)),
             None => None,
         }
-    }
-
-    /// All that are known, members and tombstones, and what is known of each, in the order of processes.
-    pub fn pairs(&self) -> &[(Unique, Standing)]
-        ensures { result.now ≡ map.entries self.now }
-    {
-        self.table.pairs()
     }
 
     /// How many members there are.
     pub fn len(&self) -> usize
         ensures { result ≡ length (members_of self.now) }
     {
-        members_in(&self.table)
+        members_in(self)
     }
 
     /// The member at an index, from 0 on in the order of processes; none past the end.
     pub fn at(&self, index: usize) -> Option<Member<'_>>
         ensures { option_map (λ m. (m.unique.now, (m.status, m.up_number))) result ≡ slice_get (members_of self.now) index }
     {
-        member_in(&self.table, index)
+        member_in(self, index)
     }
 
     /// The member at a pair, where there is one: a pair is an index among all that are known, from 0 on in the order of
@@ -181,21 +176,21 @@ impl Members {
     pub fn member_at_pair(&self, pair: usize) -> Option<Member<'_>>
         ensures { option_to_list (option_map (λ m. (m.unique.now, (m.status, m.up_number))) result) ≡ member_pairs (option_to_list (slice_get (map.entries self.now) pair)) }
     {
-        member_at(&self.table, pair)
+        member_at(self, pair)
     }
 
     /// How many tombstones there are.
     pub fn buried_len(&self) -> usize
         ensures { result ≡ length (tombstones_of self.now) }
     {
-        tombstones_in(&self.table)
+        tombstones_in(self)
     }
 
     /// The tombstone at an index, from 0 on in the order of processes; none past the end.
     pub fn buried_at(&self, index: usize) -> Option<Tombstone<'_>>
         ensures { option_map (λ t. (t.unique.now, t.confirmed)) result ≡ slice_get (tombstones_of self.now) index }
     {
-        tombstone_in(&self.table, index)
+        tombstone_in(self, index)
     }
 
     /// The process becomes a member, or its status rises to at least this one and its number to the least that is not 0
@@ -247,7 +242,13 @@ impl Members {
         ensures err { OnErr result (self.new ≡ self.old) }
         ensures memory { other.now ≡ nobody → IsOk result }
     {
-        self.table.merge(alloc, &other.table)
+        if other.slots.len() == 0 {
+            return Ok(());
+        }
+        let new = unknown_of(alloc, &self.slots, &other.slots)?;
+        self.slots.reserve(new.len())?;
+        note_all(&mut self.slots, &other.slots);
+        add_all(&mut self.slots, new)
     }
 
     /// Equal members and tombstones. Only memory can fail; a copy of nobody takes none.
@@ -255,8 +256,8 @@ impl Members {
         ensures ok { IfOk result (λ copy. copy ≡ self.now) }
         ensures memory { self.now ≡ nobody → IsOk result }
     {
-        let table = self.table.copy(alloc)?;
-        Ok(Members { table })
+        let slots = self.slots.copy(alloc)?;
+        Ok(Members { slots })
     }
 
     // Merges the standing with what is known of the process. After an error the members are as they were; a process
@@ -266,17 +267,11 @@ impl Members {
         ensures err { OnErr result (self.new ≡ self.old) }
         ensures present { IsSome (map.get self.old who.now) → IsOk result }
     {
-        match self.table.place_from_end(who) {
-            Ok(place) => {
-                let standing = with_known(&self.table, place, standing);
-                self.table.set_at(place, standing);
-                Ok(())
-            }
-            Err(place) => {
-                let who = who.copy(alloc)?;
-                self.table.insert_at(place, who, standing)
-            }
+        if note_known(&mut self.slots, who, standing) {
+            return Ok(());
         }
+        let who = who.copy(alloc)?;
+        self.slots.add(who, standing)
     }
 
     // What the effect makes of the members. After an error they are as they were; only an effect about a process that is not
@@ -294,75 +289,62 @@ impl Members {
     }
 }
 
-// The standing, merged with what is known of the process that stands at a place.
-fn with_known(table: &Table<Standing>, place: usize, standing: Standing) -> Standing
-    ensures { (who : UniqueModel) → Ok place ≡ index unique_cmp who (map.entries table.now) → result ≡ value_with merged_standing (map.get table.now who) standing }
+// The member at a pair of the members, where there is one.
+fn member_at(members: &Members, pair: usize) -> Option<Member<'_>>
+    ensures { option_to_list (option_map (λ m. (m.unique.now, (m.status, m.up_number))) result) ≡ member_pairs (option_to_list (slice_get (map.entries members.now) pair)) }
 {
-    let Some((_, before)) = table.at(place) else {
-        return standing;
-    };
-    before.with(&standing)
-}
-
-// The member at a pair of the table, where there is one.
-fn member_at(table: &Table<Standing>, pair: usize) -> Option<Member<'_>>
-    ensures { option_to_list (option_map (λ m. (m.unique.now, (m.status, m.up_number))) result) ≡ member_pairs (option_to_list (slice_get (map.entries table.now) pair)) }
-{
-    match table.at(pair) {
+    match members.pair(pair) {
         Some((unique, Standing::Member(status, up_number))) => Some(Member {
             unique,
-            status: *status,
-            up_number: *up_number,
+            status,
+            up_number,
         }),
         Some((_, Standing::Buried(_))) => None,
         None => None,
     }
 }
 
-// The tombstone at a pair of the table, where there is one.
-fn tombstone_at(table: &Table<Standing>, pair: usize) -> Option<Tombstone<'_>>
-    ensures { option_to_list (option_map (λ t. (t.unique.now, t.confirmed)) result) ≡ tombstone_pairs (option_to_list (slice_get (map.entries table.now) pair)) }
+// The tombstone at a pair of the members, where there is one.
+fn tombstone_at(members: &Members, pair: usize) -> Option<Tombstone<'_>>
+    ensures { option_to_list (option_map (λ t. (t.unique.now, t.confirmed)) result) ≡ tombstone_pairs (option_to_list (slice_get (map.entries members.now) pair)) }
 {
-    match table.at(pair) {
-        Some((unique, Standing::Buried(confirmed))) => Some(Tombstone {
-            unique,
-            confirmed: *confirmed,
-        }),
+    match members.pair(pair) {
+        Some((unique, Standing::Buried(confirmed))) => Some(Tombstone { unique, confirmed }),
         Some((_, Standing::Member(_, _))) => None,
         None => None,
     }
 }
 
-fn members_in(table: &Table<Standing>) -> usize
-    ensures { result ≡ length (member_pairs (map.entries table.now)) }
+fn members_in(members: &Members) -> usize
+    ensures { result ≡ length (member_pairs (map.entries members.now)) }
 {
     let mut count = 0;
-    'pairs: for pair in 0..table.len() {
-        if member_at(table, pair).is_some() {
+    'pairs: for pair in 0..members.uniques() {
+        if member_at(members, pair).is_some() {
             count += 1;
         }
     }
     count
 }
 
-fn tombstones_in(table: &Table<Standing>) -> usize
-    ensures { result ≡ length (tombstone_pairs (map.entries table.now)) }
+fn tombstones_in(members: &Members) -> usize
+    ensures { result ≡ length (tombstone_pairs (map.entries members.now)) }
 {
     let mut count = 0;
-    'pairs: for pair in 0..table.len() {
-        if tombstone_at(table, pair).is_some() {
+    'pairs: for pair in 0..members.uniques() {
+        if tombstone_at(members, pair).is_some() {
             count += 1;
         }
     }
     count
 }
 
-fn member_in(table: &Table<Standing>, index: usize) -> Option<Member<'_>>
-    ensures { option_map (λ m. (m.unique.now, (m.status, m.up_number))) result ≡ slice_get (member_pairs (map.entries table.now)) index }
+fn member_in(members: &Members, index: usize) -> Option<Member<'_>>
+    ensures { option_map (λ m. (m.unique.now, (m.status, m.up_number))) result ≡ slice_get (member_pairs (map.entries members.now)) index }
 {
     let mut left = index;
-    'pairs: for pair in 0..table.len() {
-        let found = member_at(table, pair);
+    'pairs: for pair in 0..members.uniques() {
+        let found = member_at(members, pair);
         if found.is_some() {
             if left == 0 {
                 return found;
@@ -373,12 +355,12 @@ fn member_in(table: &Table<Standing>, index: usize) -> Option<Member<'_>>
     None
 }
 
-fn tombstone_in(table: &Table<Standing>, index: usize) -> Option<Tombstone<'_>>
-    ensures { option_map (λ t. (t.unique.now, t.confirmed)) result ≡ slice_get (tombstone_pairs (map.entries table.now)) index }
+fn tombstone_in(members: &Members, index: usize) -> Option<Tombstone<'_>>
+    ensures { option_map (λ t. (t.unique.now, t.confirmed)) result ≡ slice_get (tombstone_pairs (map.entries members.now)) index }
 {
     let mut left = index;
-    'pairs: for pair in 0..table.len() {
-        let found = tombstone_at(table, pair);
+    'pairs: for pair in 0..members.uniques() {
+        let found = tombstone_at(members, pair);
         if found.is_some() {
             if left == 0 {
                 return found;

@@ -7,11 +7,11 @@ use Rattle.ak_member.proofs.members.member_in.Goals.{then-is_some+else-left-eq0,
 
 pub returns-then-left-eq0 : goal.returns-then-left-eq0
 returns-then-left-eq0 c =
-    wanted_here member_pairs keeps_members (λ m. (m.unique.now, (m.status, m.up_number))) c.member_at-found.result (map.entries c.args.table.now) c.pairs.pair c.pairs.left _ (sym (c.if-is_some.ensures {u = tt})) c.if-left-eq0.true c.member_at-found.ensures c.pairs.invariant
+    wanted_here member_pairs keeps_members (λ m. (m.unique.now, (m.status, m.up_number))) c.member_at-found.result (map.entries c.args.members.now) c.pairs.pair c.pairs.left _ (sym (c.if-is_some.ensures {u = tt})) c.if-left-eq0.true c.member_at-found.ensures c.pairs.invariant
 
 pub pairs-preserved : goal.pairs-preserved
 pairs-preserved c =
-    let pairs = map.entries c.args.table.now in
+    let pairs = map.entries c.args.members.now in
     let wanted = slice_get (member_pairs pairs) c.args.index in
     elim c.if-is_some.branch [
       | then-is_some+else-left-eq0 w ↦ ap (slice_get (member_pairs (drop (c.pairs.pair + 1) pairs))) w.left-is ∙ wanted_later member_pairs keeps_members (λ m. (m.unique.now, (m.status, m.up_number))) c.member_at-found.result pairs c.pairs.pair c.pairs.left wanted (sym (w.if-is_some.ensures {u = tt})) w.if-left-eq0.false c.member_at-found.ensures c.pairs.invariant
@@ -19,4 +19,4 @@ pairs-preserved c =
     ]
 
 pub returns : goal.returns
-returns c = none_left member_pairs keeps_members (map.entries c.args.table.now) c.pairs.pair c.pairs.left _ (let past = map.len-entries c.args.table.now in omega arith) c.pairs.invariant
+returns c = none_left member_pairs keeps_members (map.entries c.args.members.now) c.pairs.pair c.pairs.left _ (let past = map.len-entries c.args.members.now in omega arith) c.pairs.invariant

@@ -5,4 +5,4 @@ use Rattle.ak_member.proofs.members.member_in.Given as goal
 
 -- so many of the rows that are left come before the one that is wanted
 abbrev pub invariant-pairs : goal.invariant-pairs
-invariant-pairs l = slice_get (member_pairs (drop l.pair (map.entries l.table))) l.left ≡ slice_get (member_pairs (map.entries l.table)) l.index
+invariant-pairs l = slice_get (member_pairs (drop l.pair (map.entries l.members))) l.left ≡ slice_get (member_pairs (map.entries l.members)) l.index

@@ -7,7 +7,7 @@ use Rattle.ak_member.proofs.members.members_in.Goals.{then-is_some, else-is_some
 
 pub pairs-preserved : goal.pairs-preserved
 pairs-preserved c =
-    let next = counted_more member_pairs keeps_members (λ m. (m.unique.now, (m.status, m.up_number))) c.member_at.result (map.entries c.args.table.now) c.pairs.pair c.pairs.count (length (member_pairs (map.entries c.args.table.now))) c.member_at.ensures c.pairs.invariant.so_far in
+    let next = counted_more member_pairs keeps_members (λ m. (m.unique.now, (m.status, m.up_number))) c.member_at.result (map.entries c.args.members.now) c.pairs.pair c.pairs.count (length (member_pairs (map.entries c.args.members.now))) c.member_at.ensures c.pairs.invariant.so_far in
     elim c.if-is_some.branch [
       | then-is_some w ↦ let one = one_there c.member_at.result (w.if-is_some.ensures {u = tt}) in record { few = omega arith; so_far = omega arith }
       | else-is_some w ↦ let none = none_there c.member_at.result (w.if-is_some.ensures {u = tt}) in record { few = omega arith; so_far = omega arith }
@@ -15,4 +15,4 @@ pairs-preserved c =
 
 pub returns : goal.returns
 returns c =
-    all_counted member_pairs keeps_members (map.entries c.args.table.now) c.pairs.pair c.pairs.count _ (let past = map.len-entries c.args.table.now in omega arith) c.pairs.invariant.so_far
+    all_counted member_pairs keeps_members (map.entries c.args.members.now) c.pairs.pair c.pairs.count _ (let past = map.len-entries c.args.members.now in omega arith) c.pairs.invariant.so_far

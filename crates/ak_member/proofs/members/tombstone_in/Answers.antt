@@ -7,11 +7,11 @@ use Rattle.ak_member.proofs.members.tombstone_in.Goals.{then-is_some+else-left-e
 
 pub returns-then-left-eq0 : goal.returns-then-left-eq0
 returns-then-left-eq0 c =
-    wanted_here tombstone_pairs keeps_tombstones (λ t. (t.unique.now, t.confirmed)) c.tombstone_at-found.result (map.entries c.args.table.now) c.pairs.pair c.pairs.left _ (sym (c.if-is_some.ensures {u = tt})) c.if-left-eq0.true c.tombstone_at-found.ensures c.pairs.invariant
+    wanted_here tombstone_pairs keeps_tombstones (λ t. (t.unique.now, t.confirmed)) c.tombstone_at-found.result (map.entries c.args.members.now) c.pairs.pair c.pairs.left _ (sym (c.if-is_some.ensures {u = tt})) c.if-left-eq0.true c.tombstone_at-found.ensures c.pairs.invariant
 
 pub pairs-preserved : goal.pairs-preserved
 pairs-preserved c =
-    let pairs = map.entries c.args.table.now in
+    let pairs = map.entries c.args.members.now in
     let wanted = slice_get (tombstone_pairs pairs) c.args.index in
     elim c.if-is_some.branch [
       | then-is_some+else-left-eq0 w ↦ ap (slice_get (tombstone_pairs (drop (c.pairs.pair + 1) pairs))) w.left-is ∙ wanted_later tombstone_pairs keeps_tombstones (λ t. (t.unique.now, t.confirmed)) c.tombstone_at-found.result pairs c.pairs.pair c.pairs.left wanted (sym (w.if-is_some.ensures {u = tt})) w.if-left-eq0.false c.tombstone_at-found.ensures c.pairs.invariant
@@ -19,4 +19,4 @@ pairs-preserved c =
     ]
 
 pub returns : goal.returns
-returns c = none_left tombstone_pairs keeps_tombstones (map.entries c.args.table.now) c.pairs.pair c.pairs.left _ (let past = map.len-entries c.args.table.now in omega arith) c.pairs.invariant
+returns c = none_left tombstone_pairs keeps_tombstones (map.entries c.args.members.now) c.pairs.pair c.pairs.left _ (let past = map.len-entries c.args.members.now in omega arith) c.pairs.invariant

@@ -7,5 +7,5 @@ use Rattle.ak_member.proofs.members.tombstones_in.Given as goal
 abbrev pub invariant-pairs : goal.invariant-pairs
 invariant-pairs l = record {
   few : l.count ≤ l.pair;
-  so_far : l.count + length (tombstone_pairs (drop l.pair (map.entries l.table))) ≡ length (tombstone_pairs (map.entries l.table));
+  so_far : l.count + length (tombstone_pairs (drop l.pair (map.entries l.members))) ≡ length (tombstone_pairs (map.entries l.members));
 }

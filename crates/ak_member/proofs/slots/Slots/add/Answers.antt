@@ -1,0 +1,49 @@
+use Rattle.std.proofs.Common.{IsTrue, ℕ, List, [], ◌∷◌, ◌++◌, length, insert, sym, subst, ap, ◌∙◌, arith}
+use Rattle.std.specs.FinMap as map
+use Rattle.ak_address.specs.Unique.{unique_cmp}
+use Rattle.ak_address.specs.Pairs.{index}
+use Rattle.indexmap.proofs.CallerLemmas.{insert_entry-new}
+use Rattle.ak_member.specs.Slots.{Slot, SlotsModel, standings_of, picked, InOrder}
+use Rattle.ak_member.proofs.SlotLemmas.{same_unique, found_in, in_order_sorted, in_order_found, in_order_within, in_order_added}
+use Rattle.ak_member.proofs.slots.Slots.add.Goals as goal
+
+pub new_index-index-requires-clause-sorted : goal.new_index-index-requires-clause-sorted
+new_index-index-requires-clause-sorted c =
+    let slots = c.self.inside.slots.entries in
+    subst (λ (places : List ℕ). IsTrue (map.is_sorted unique_cmp (picked places slots))) (sym c.deref.ensures.value) (in_order_sorted slots c.self.inside.order.items c.self.invariant)
+
+pub new_index-index-requires-clause-absent : goal.new_index-index-requires-clause-absent
+new_index-index-requires-clause-absent c =
+    let slots = c.self.inside.slots.entries in
+    ap (λ (places : List ℕ). map.find unique_cmp c.args.who (picked places slots)) c.deref.ensures.value
+    ∙ sym (in_order_found slots c.self.inside.order.items c.self.invariant c.args.who)
+    ∙ ap (λ (s : SlotsModel). map.get (standings_of s.entries) c.args.who) c.self.view_is
+    ∙ c.requires
+
+pub insert-requires-2 : goal.insert-requires-2
+insert-requires-2 c =
+    let slots = c.self.inside.slots.entries in
+    let within = in_order_within slots c.self.inside.order.items c.self.invariant c.args.who c.new_index-index.result
+    (c.new_index-index.ensures ∙ ap (λ (places : List ℕ). index unique_cmp c.args.who (picked places slots)) c.deref.ensures.value) in
+    omega (arith, within, c.self.inside.order.ok.0, c.in_ok-reserve.ensures.len)
+
+-- a process that has no slot gets the last
+pub invariant_of-self-2 : goal.invariant_of-self-2
+invariant_of-self-2 c =
+    let slots = c.self.inside.slots.entries in
+    let places = c.self.inside.order.items in
+    let none = ap (λ (s : SlotsModel). map.get (standings_of s.entries) c.args.who) c.self.view_is ∙ c.requires in
+    let last = c.in_ok-insert.ensures.entries ∙ insert_entry-new same_unique c.self.inside.slots c.args.who c.args.standing (found_in c.args.who slots ∙ none) in
+    let goes = c.new_index-index.ensures ∙ ap (λ (ps : List ℕ). index unique_cmp c.args.who (picked ps slots)) c.deref.ensures.value in
+    let put = c.in_ok-insert-2.ensures.items ∙ (λ i. insert (c.in_ok-reserve.ensures.items i) c.new_index-index.result (c.len-slot.ensures.len i)) in
+    subst (λ (ps : List ℕ). InOrder c.insert.new.self.entries ps) (sym put)
+    (subst (λ (es : List Slot). InOrder es (insert places c.new_index-index.result (length slots))) (sym last)
+    (in_order_added slots places c.args.who c.args.standing c.new_index-index.result c.self.invariant none goes))
+
+pub returns-clause-ok : goal.returns-clause-ok
+returns-clause-ok c =
+    let slots = c.self.inside.slots.entries in
+    let none = ap (λ (s : SlotsModel). map.get (standings_of s.entries) c.args.who) c.self.view_is ∙ c.requires in
+    c.in_ok-insert.ensures.entries
+    ∙ insert_entry-new same_unique c.self.inside.slots c.args.who c.args.standing (found_in c.args.who slots ∙ none)
+    ∙ ap (λ (s : SlotsModel). s.entries ++ (c.args.who, c.args.standing) ∷ []) c.self.view_is
