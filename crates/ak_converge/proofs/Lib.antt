@@ -1,1 +1,3 @@
 pub mod ConvergenceLaws
+pub mod TallyLaws
+pub mod UsesLaws

@@ -70,7 +70,7 @@ fn agrees(members: &Members, rows: &Rows, seen: &Uniques, who: &Unique, status: 
 }
 
 // An unreachable member of this status hinders nobody.
-fn is_passed_over(status: Status) -> bool
+pub(crate) fn is_passed_over(status: Status) -> bool
     ensures { result ≡ is_passed_over status }
 {
     match status {

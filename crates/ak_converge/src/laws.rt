@@ -1,11 +1,13 @@
-ghost use Rattle.std.specs.Prelude.{ℕ, ◌≤◌, IsTrue};
+ghost use Rattle.std.specs.Prelude.{◌≡◌, ◌↔◌, ℕ, ◌≤◌, IsTrue};
+ghost use Rattle.std.specs.FinMap as map;
 ghost use Rattle.ak_address.specs.Unique.{UniqueModel};
 ghost use Rattle.ak_address.specs.Uniques.{UniqueSet, has};
 ghost use Rattle.ak_address.specs.Distinct.{distinct};
 ghost use Rattle.ak_member.specs.Age.{IsCounted, counted_addresses};
 ghost use Rattle.ak_member.specs.View.{View};
 ghost use Rattle.ak_reach.specs.Unreachable.{IsUnreachable};
-ghost use Rattle.ak_converge.specs.Convergence.{is_settled, IsOut};
+ghost use Rattle.ak_converge.specs.Convergence.{is_converged, is_settled, IsOut};
+ghost use Rattle.ak_converge.specs.Tally.{missing_in, blocking_in, tally_of};
 
 /// In a settled view every counted member has seen it, every unreachable member is Exiting or Down, and the counted
 /// members have at least the quorum's number of different addresses; and where these three hold, the view is settled.
@@ -18,4 +20,12 @@ pub fn settled_views()
         → ((who : UniqueModel) → IsUnreachable v who → IsOut v.standings who)
         → quorum ≤ distinct (counted_addresses v.standings)
         → IsTrue (is_settled quorum v seen) }
+{}
+
+/// A view is converged exactly where no counted member misses it and nobody blocks, and settled exactly where also its counted
+/// members have at least the quorum's number of different addresses, which are those that its tally has in use.
+pub fn views_by_numbers()
+    ensures converged { (v : View) (seen : UniqueSet) → IsTrue (is_converged v seen) ↔ ((missing_in v seen ≡ 0) × (blocking_in v ≡ 0)) }
+    ensures settled { (quorum : ℕ) (v : View) (seen : UniqueSet) → IsTrue (is_settled quorum v seen) ↔ ((missing_in v seen ≡ 0) × (blocking_in v ≡ 0) × (quorum ≤ distinct (counted_addresses v.standings))) }
+    ensures addresses { (v : View) (seen : UniqueSet) → map.len (tally_of v seen).uses ≡ distinct (counted_addresses v.standings) }
 {}

@@ -3,6 +3,9 @@
 
 mod converge;
 mod laws;
+mod tally;
+mod uses;
 
 pub use converge::{converged, settled_by};
-pub use laws::settled_views;
+pub use laws::{settled_views, views_by_numbers};
+pub use tally::{Stand, Tally};
