@@ -6,6 +6,7 @@ pub mod MembersLaws
 pub mod MergeLemmas
 pub mod Merges
 pub mod OldestLaws
+pub mod SameLemmas
 pub mod SetLaws
 pub mod SlotLemmas
 pub mod StandingLaws

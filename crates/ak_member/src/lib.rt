@@ -7,6 +7,7 @@ mod effect;
 mod laws;
 mod members;
 mod merging;
+mod same;
 mod slots;
 mod standing;
 mod status;

@@ -1,4 +1,4 @@
-ghost use Rattle.std.specs.Prelude.{◌≡◌, All, IfOk, OnOk, OnErr, IsOk, IsSome, length, slice_get, option_map, option_to_list, ◌+◌, ℕ};
+ghost use Rattle.std.specs.Prelude.{◌≡◌, All, IsTrue, IfOk, OnOk, OnErr, IsOk, IsSome, length, slice_get, option_map, option_to_list, ◌+◌, ℕ};
 ghost use Rattle.std.specs.FinMap as map;
 ghost use Rattle.ak_address.specs.Pairs.{index};
 ghost use Rattle.ak_address.specs.Unique.{UniqueModel, unique_cmp};
@@ -258,6 +258,13 @@ impl Members {
     {
         let slots = self.slots.copy(alloc)?;
         Ok(Members { slots })
+    }
+
+    // Both have the same processes in the same slots.
+    pub(crate) fn has_slots_of(&self, other: &Members) -> bool
+        ensures { IsTrue result → self.now ≡ other.now }
+    {
+        self.slots.has_slots_of(&other.slots)
     }
 
     // Merges the standing with what is known of the process. After an error the members are as they were; a process

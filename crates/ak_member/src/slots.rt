@@ -1,6 +1,6 @@
 //! The processes that are known, each in a slot with what is known of it.
 
-ghost use Rattle.std.specs.Prelude.{◌≡◌, ℕ, ◌+◌, ◌-◌, ◌<◌, ◌≤◌, IfOk, OnOk, OnErr, IsOk, Ok, Err, None, Some, [], ◌∷◌, ◌++◌, length, get_or, slice_get, option_map, option_copied, MatchOption, IsTrue};
+ghost use Rattle.std.specs.Prelude.{◌≡◌, ◌↔◌, ℕ, ◌+◌, ◌-◌, ◌<◌, ◌≤◌, IfOk, OnOk, OnErr, IsOk, Ok, Err, None, Some, [], ◌∷◌, ◌++◌, length, get_or, slice_get, option_map, option_copied, MatchOption, IsTrue};
 ghost use Rattle.std.specs.List.{AllByRecursion};
 ghost use Rattle.std.specs.FinMap as map;
 ghost use Rattle.ak_address.specs.Unique.{UniqueModel, unique_cmp};
@@ -151,6 +151,13 @@ impl Slots {
         *known = standing;
     }
 
+    /// Whether both have the same processes in the same slots, and know the same of each. Takes no memory.
+    pub(crate) fn has_slots_of(&self, other: &Slots) -> bool
+        ensures { IsTrue result ↔ self.now.entries ≡ other.now.entries }
+    {
+        are_same(&self.slots, &other.slots)
+    }
+
     /// Equal slots, with room for as many. Only memory can fail; a copy of no slot takes none.
     pub(crate) fn copy(&self, alloc: Global) -> Result<Slots, AllocError>
         ensures ok { IfOk result (λ copy. copy.entries ≡ self.now.entries) }
@@ -247,4 +254,31 @@ fn process_at<'a>(slots: &'a IndexMap<Unique, Standing>, order: &[usize], at: us
 {
     let (who, _) = slots.get_index(order[at]).unwrap();
     who
+}
+
+// Whether both have the same pairs in the same order.
+fn are_same(one: &IndexMap<Unique, Standing>, other: &IndexMap<Unique, Standing>) -> bool
+    ensures { IsTrue result ↔ one.now.entries ≡ other.now.entries }
+{
+    let many = one.len();
+    if other.len() != many {
+        return false;
+    }
+    'slots: for slot in 0..many {
+        if !is_same_slot(one.get_index(slot), other.get_index(slot)) {
+            return false;
+        }
+    }
+    true
+}
+
+// Whether both are none, or both the same process of which the same is known.
+fn is_same_slot(one: Option<(&Unique, &Standing)>, other: Option<(&Unique, &Standing)>) -> bool
+    ensures { IsTrue result ↔ option_map {U = UniqueModel × Standing} (λ pair. (pair.0.now, pair.1.now)) one.entry ≡ option_map {U = UniqueModel × Standing} (λ pair. (pair.0.now, pair.1.now)) other.entry }
+{
+    match (one, other) {
+        (None, None) => true,
+        (Some((one, standing)), Some((other, known))) => *standing == *known && one.is(other),
+        _ => false,
+    }
 }

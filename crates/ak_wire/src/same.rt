@@ -7,7 +7,7 @@ use crate::reports::Reports;
 use ak_address::{Text, Unique, Uniques};
 use ak_clock::{Relation, Version};
 use ak_gossip::Gossip;
-use ak_member::{Members, Standing};
+use ak_member::Members;
 use ak_promise::Ballot;
 use ak_reach::{Row, Rows};
 use ak_shard_id::Report;
@@ -43,15 +43,9 @@ impl Same for Version {
     }
 }
 
-impl Same for (Unique, Standing) {
-    fn is_same(&self, other: &(Unique, Standing)) -> bool {
-        self.1 == other.1 && self.0.is(&other.0)
-    }
-}
-
 impl Same for Members {
     fn is_same(&self, other: &Members) -> bool {
-        are_same(self.pairs(), other.pairs())
+        self.is(other)
     }
 }
 

@@ -1,5 +1,5 @@
 use Rattle.std.proofs.Common.{refl, arith}
-use Rattle.ak_wire.proofs.SameLemmas.{same_elements}
+use Rattle.ak_member.proofs.SameLemmas.{same_elements}
 use Rattle.ak_wire.proofs.same.are_same.Goals as goal
 
 pub returns : goal.returns

@@ -1,6 +1,6 @@
 use Rattle.std.proofs.Common.{refl, arith}
 use Rattle.std.specs.FinMap as map
-use Rattle.ak_wire.proofs.SameLemmas.{same_elements}
+use Rattle.ak_member.proofs.SameLemmas.{same_elements}
 use Rattle.ak_wire.proofs.same.RowsSame.is_same.Goals as goal
 
 pub returns : goal.returns

@@ -1,0 +1,14 @@
+use Rattle.std.proofs.Common.{refl, arith}
+use Rattle.std.specs.FinMap as map
+use Rattle.ak_member.proofs.SameLemmas.{same_elements}
+use Rattle.ak_member.proofs.same.are_same.Goals as goal
+
+pub returns : goal.returns
+returns c =
+    let own = map.len-entries c.args.one.now in
+    let others = map.len-entries c.args.other.now in (
+      λ _.
+          map.same_entries_map c.args.one.now c.args.other.now
+          (same_elements (map.entries c.args.one.now) (map.entries c.args.other.now) (omega (arith, own, others, c.if-uniques-many.false)) (λ k lt. c.pairs.invariant k (omega (arith, lt, own, c.pairs-test.false)))),
+      λ _. refl,
+    )
