@@ -1,6 +1,5 @@
-ghost use Rattle.std.specs.Prelude.{◌≡◌, ℕ, ◌<◌, ◌^◌, ◌∷◌, ◌++◌, OnOk, OnErr, decimal, take, vec_len};
-ghost use Rattle.ak_address.specs.Unique.{AddressModel, UniqueModel, IsAddress, IsUnique};
-ghost use Rattle.ak_address.specs.Spelling.{IsNumber, SpellsAddress, SpellsUnique, address_text, unique_text};
+ghost use Rattle.std.specs.Prelude.{◌≡◌, ◌<◌, ◌∷◌, ◌++◌, OnOk, OnErr, decimal, take, vec_len};
+ghost use Rattle.ak_address.specs.Spelling.{address_text, unique_text};
 
 use itoa::Buffer;
 use std::alloc::AllocError;

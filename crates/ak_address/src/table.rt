@@ -3,7 +3,7 @@ ghost use Rattle.std.specs.Prelude as list;
 ghost use Rattle.std.specs.FinMap as map;
 ghost use Rattle.ak_address.specs.Unique.{UniqueModel, unique_cmp};
 ghost use Rattle.ak_address.specs.Pairs.{index, woven};
-ghost use Rattle.ak_address.specs.Table.{merged_tables, merged_at};
+ghost use Rattle.ak_address.specs.Table.{merged_tables};
 ghost use Rattle.ak_address.specs.Changed.{changed};
 
 use crate::address::Unique;

@@ -1,6 +1,6 @@
 // What a configuration says at each of its keys.
 ghost use Rattle.std.specs.Prelude.{◌≡◌, IfOk, IfSome};
-ghost use Rattle.toml.specs.View.{view, table_view};
+ghost use Rattle.toml.specs.View.{table_view};
 ghost use Rattle.ak_settings.specs.Settings.{IsStrategy};
 ghost use Rattle.ak_config.specs.Configuration as read;
 ghost use Rattle.ak_config.specs.ConfigContracts.{Gives, GivesAs, AreLimits, AreEntries, IsRunning, entries_view};

@@ -1,10 +1,10 @@
 // The addresses that a configuration lists.
 ghost use Rattle.std.specs.Prelude.{◌≡◌, ◌≤◌, ◌&&◌, nat_le, IfOk, IsTrue, length};
 ghost use Rattle.std.specs.List.{AllByRecursion};
-ghost use Rattle.toml.specs.View.{table_view, array_view, items_view};
+ghost use Rattle.toml.specs.View.{table_view, items_view};
 ghost use Rattle.ak_address.specs.Unique.{IsAddress};
 ghost use Rattle.ak_config.specs.Configuration as read;
-ghost use Rattle.ak_config.specs.ConfigContracts.{Gives, GivesAs, IsList};
+ghost use Rattle.ak_config.specs.ConfigContracts.{GivesAs, IsList};
 
 use crate::fault::ConfigFault;
 use crate::values::{address_in, name, required};

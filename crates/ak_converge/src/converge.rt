@@ -1,7 +1,7 @@
 ghost use Rattle.std.specs.Prelude.{◌≡◌, ◌↔◌, ◌≤◌, ◌<◌, ◌^◌, IsTrue, slice_get, option_to_list};
 ghost use Rattle.std.specs.List.{list_all};
 ghost use Rattle.std.specs.FinMap as map;
-ghost use Rattle.ak_member.specs.Standing.{member_pairs, members_of};
+ghost use Rattle.ak_member.specs.Standing.{member_pairs};
 ghost use Rattle.ak_address.specs.Distinct.{distinct};
 ghost use Rattle.ak_member.specs.Age.{counted_addresses};
 ghost use Rattle.ak_reach.specs.Unreachable.{unreachable_members};

@@ -19,7 +19,7 @@ use Rattle.ak_coordinator.specs.declared.entry.Homing.{Homing}
 use Rattle.ak_coordinator.specs.declared.entry.Homing.TheVariants as homings
 use Rattle.ak_coordinator.specs.Table.{Home, ShardEntry, ShardTable}
 use Rattle.ak_coordinator.specs.Entry as entries
-use Rattle.ak_coordinator.specs.Entry.{unplaced, allotted, after_allotment, told, homing_of, homing, placed_if_free, after_get_home, after_started, is_last_ack, after_ack, awaits_stop}
+use Rattle.ak_coordinator.specs.Entry.{allotted, after_allotment, told, homing_of, homing, placed_if_free, after_get_home, after_started, after_ack, awaits_stop}
 use Rattle.ak_coordinator.specs.Coordinator.{entry_of, with_entry, less_one, stopped_placed, after_stopped}
 use Rattle.ak_coordinator.specs.Placements.{home_as, placed_as, placements_of}
 use Rattle.ak_coordinator.proofs.CoordinatorLaws.{allotted_is, awaited_means}

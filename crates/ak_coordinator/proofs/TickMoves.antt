@@ -11,7 +11,7 @@ use Rattle.ak_settled.specs.Settled.{standings_of, is_finished}
 use Rattle.ak_line.specs.Name.{Name}
 use Rattle.ak_line.specs.Line.{Line}
 use Rattle.ak_line.specs.Shards as line
-use Rattle.ak_line.specs.Shards.{Placement, freed}
+use Rattle.ak_line.specs.Shards.{freed}
 use Rattle.ak_line.specs.Moves as moves
 use Rattle.ak_line.specs.Moves.{Node, Trial, Said, Move}
 use Rattle.ak_line.specs.Local.{spoken}

@@ -1,6 +1,5 @@
-ghost use Rattle.std.specs.Prelude.{◌≡◌, ◌≢◌, IfOk, OnOk, OnErr, option_copied, is_some, option_map, IsSome, IsTrue};
-ghost use Rattle.ak_address.specs.Unique.{UniqueModel};
-ghost use Rattle.ak_address.specs.Uniques.{UniqueSet, no_one};
+ghost use Rattle.std.specs.Prelude.{◌≡◌, ◌≢◌, IfOk, OnOk, OnErr, is_some, IsSome, IsTrue};
+ghost use Rattle.ak_address.specs.Uniques.{no_one};
 ghost use Rattle.ak_coordinator.specs.Entry.{unplaced, moves, is_home, is_at, claims, learnt, beats, allotted, after_allotment, homing, NamesHome, after_get_home, after_started, is_awaited, is_last_ack, after_ack, freed, awaits_stop};
 ghost use Rattle.ak_coordinator.specs.Tick.{has_finished_home, noticed, leaves_exiting, leaves_node, begun, hurried};
 

@@ -1,6 +1,5 @@
-ghost use Rattle.std.specs.Prelude.{◌≡◌, ◌↔◌, ◌⊎◌, ℕ, ◌+◌, ◌^◌, ◌<◌, ◌≤◌, max, Bool, true, false, List, [], length, Contains, Option, None, Some, IsTrue, if◌then◌else◌};
+ghost use Rattle.std.specs.Prelude.{◌≡◌, ◌↔◌, ◌⊎◌, ℕ, ◌+◌, ◌^◌, ◌<◌, ◌≤◌, max, Bool, true, false, List, [], length, Contains, None, Some, if◌then◌else◌};
 ghost use Rattle.ak_address.specs.Unique.{UniqueModel};
-ghost use Rattle.ak_address.specs.Uniques.{UniqueSet, has};
 ghost use Rattle.ak_allocation.specs.declared.load.Load.{Load};
 ghost use Rattle.ak_allocation.specs.Meaning.{IsLightest};
 ghost use Rattle.ak_settled.specs.SettledView.{SettledView};
@@ -9,8 +8,8 @@ ghost use Rattle.ak_shard_id.specs.declared.report.Report.{Report};
 ghost use Rattle.ak_coordinator.specs.declared.orders.Order.{Order};
 ghost use Rattle.ak_coordinator.specs.Table.{Home, ShardEntry, ShardTable, IsEntry};
 ghost use Rattle.ak_coordinator.specs.Entry.{unplaced, moves, learnt, allotted, after_get_home, after_started, after_ack, awaits_stop};
-ghost use Rattle.ak_coordinator.specs.Coordinator.{entry_of, with_entry, learnt_all, after_stopped};
-ghost use Rattle.ak_coordinator.specs.Tick.{noticed, hurried, begun, orders_of, orders_from};
+ghost use Rattle.ak_coordinator.specs.Coordinator.{entry_of, learnt_all, after_stopped};
+ghost use Rattle.ak_coordinator.specs.Tick.{noticed, hurried, orders_of, orders_from};
 ghost use Rattle.ak_coordinator.specs.Meaning.{claimed, learnt_of, IsFor};
 
 /// The last number of a shard never falls.

@@ -1,4 +1,4 @@
-ghost use Rattle.std.specs.Prelude.{◌≡◌, ◌≢◌, ◌≤◌, ◌++◌, ◌∷◌, [], length, map, option_copied, option_to_list, IfOk, OnOk, OnErr};
+ghost use Rattle.std.specs.Prelude.{◌≡◌, ◌≢◌, ◌≤◌, ◌++◌, [], length, map, option_copied, option_to_list, IfOk, OnOk, OnErr};
 ghost use Rattle.ak_address.specs.Uniques.{in_order};
 ghost use Rattle.ak_coordinator.specs.Tick.{begin_order, orders_of, orders_from};
 

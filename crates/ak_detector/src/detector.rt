@@ -1,4 +1,4 @@
-ghost use Rattle.std.specs.Prelude.{◌≡◌, ◌≢◌, ◌⊎◌, ◌↔◌, ◌<◌, ◌≤◌, ◌-◌, ◌^◌, ℕ, IfOk, OnOk, OnErr, IsTrue, slice_get, option_copied, option_map, option_to_list};
+ghost use Rattle.std.specs.Prelude.{◌≡◌, ◌≢◌, ◌⊎◌, ◌↔◌, ◌<◌, ◌≤◌, ◌-◌, ◌^◌, ℕ, IfOk, OnOk, OnErr, IsTrue, slice_get, option_copied, option_to_list};
 ghost use Rattle.std.specs.List.{fold, filter};
 ghost use Rattle.std.specs.FinMap as map;
 ghost use Rattle.ak_address.specs.Changed.{keys_of};

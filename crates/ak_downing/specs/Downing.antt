@@ -1,6 +1,6 @@
 -- Which side of a partition goes on (Akka's Split Brain Resolver, "Strategies": their names and purpose are Akka's; that
 -- static-quorum counts addresses, and the exact answers, are this project's).
-use Rattle.std.specs.Prelude.{ℕ, ◌*◌, nat_lt, nat_le, Bool, true, false, not, ◌&&◌, ◌||◌, List, [], ◌∷◌, length, if◌then◌else◌}
+use Rattle.std.specs.Prelude.{ℕ, ◌*◌, nat_lt, nat_le, Bool, true, not, ◌&&◌, ◌||◌, List, [], ◌∷◌, length, if◌then◌else◌}
 use Rattle.std.specs.Prelude as list
 use Rattle.std.specs.List.{filter}
 use Rattle.std.specs.Ordering.{is_eq}

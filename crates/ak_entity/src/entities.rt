@@ -1,4 +1,4 @@
-ghost use Rattle.std.specs.Prelude.{◌≡◌, IfOk, OnOk, OnErr, option_copied, option_map, is_some, not};
+ghost use Rattle.std.specs.Prelude.{◌≡◌, IfOk, OnOk, OnErr, option_copied, option_map, not};
 ghost use Rattle.std.specs.FinMap as map;
 ghost use Rattle.ak_entity.specs.Active.{ActiveEntities};
 ghost use Rattle.ak_entity.specs.Entities.{after_delivery, without_shard};

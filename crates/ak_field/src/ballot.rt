@@ -1,4 +1,3 @@
-ghost use Rattle.std.specs.Prelude.{◌≡◌};
 ghost use Rattle.ak_field.specs.Reading.{Gives, IsThere};
 ghost use Rattle.ak_field.specs.Fields.{ballot_at};
 

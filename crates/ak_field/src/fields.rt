@@ -1,4 +1,4 @@
-ghost use Rattle.std.specs.Prelude.{◌≡◌, ◌≤◌, ◌<◌, ◌^◌, IfOk, length};
+ghost use Rattle.std.specs.Prelude.{◌≡◌, ◌≤◌, ◌<◌, IfOk, length};
 ghost use Rattle.std.specs.Int.{w16, w64};
 ghost use Rattle.ak_field.specs.Reading.{GivesExactly, GivesExactlyAs, bytes_at, byte_at, wide_at};
 ghost use Rattle.ak_field.specs.Fields.{length_at, number_at, shard_at, flag_at};

@@ -1,7 +1,6 @@
 ghost use Rattle.std.specs.Prelude.{ℕ, ◌-◌, ◌<◌, ◌≤◌, ◌^◌};
 ghost use Rattle.ak_address.specs.Unique.{IsUnique};
 ghost use Rattle.ak_promise.specs.Ballot.{IsBallot};
-ghost use Rattle.ak_field.specs.Reading.{byte_at};
 ghost use Rattle.ak_field.specs.Ranges.{IsProcess, IsEntity, IsShard};
 ghost use Rattle.ak_field.specs.Spelling.{byte, eight_bytes, header, process, ballot, shard, flag, entity, version, reports};
 ghost use Rattle.ak_field.specs.Fields.{header_at, length_at, number_at, shard_at, flag_at, process_at, unique_at, ballot_at, entity_at};

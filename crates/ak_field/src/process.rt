@@ -1,4 +1,4 @@
-ghost use Rattle.std.specs.Prelude.{◌≡◌, ◌≤◌, ◌<◌, ◌^◌, ◌-◌, IfOk, IsTrue, length};
+ghost use Rattle.std.specs.Prelude.{◌≡◌, ◌≤◌, ◌<◌, ◌-◌, IfOk, length};
 ghost use Rattle.std.specs.List.{list_all};
 ghost use Rattle.ak_address.specs.Unique.{is_host_byte};
 ghost use Rattle.ak_field.specs.Reading.{Gives, GivesAs, IsThere, checked};

@@ -1,6 +1,6 @@
-ghost use Rattle.std.specs.Prelude.{◌≡◌, ℕ, ◌+◌, ◌≤◌, ◌<◌, ◌^◌, ◌++◌, OnOk, OnErr, length, take, vec_len};
+ghost use Rattle.std.specs.Prelude.{◌≡◌, ℕ, ◌+◌, ◌≤◌, ◌<◌, ◌++◌, OnOk, OnErr, length, take, vec_len};
 ghost use Rattle.ak_field.specs.Ranges.{IsEntity, IsShard};
-ghost use Rattle.ak_field.specs.Spelling.{byte, two_bytes, eight_bytes, header, process, ballot, shard, flag, entity};
+ghost use Rattle.ak_field.specs.Spelling.{byte, eight_bytes, header, process, ballot, shard, flag, entity};
 
 use ak_address::{Address, Text, Unique};
 use ak_promise::Ballot;

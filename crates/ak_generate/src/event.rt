@@ -1,4 +1,4 @@
-ghost use Rattle.std.specs.Prelude.{◌≡◌, ◌≢◌, ◌<◌, ◌∷◌, decimal, Some, IfOk, option_copied, slice_get};
+ghost use Rattle.std.specs.Prelude.{◌≡◌, ◌<◌, ◌∷◌, decimal, Some, IfOk, option_copied, slice_get};
 ghost use Rattle.std.specs.Option.{option_map};
 ghost use Rattle.ak_address.specs.Unique.{UniqueModel};
 ghost use Rattle.ak_generate.specs.Generated as rules;

@@ -4,7 +4,7 @@ ghost use Rattle.ak_member.specs.Standing.{member_pairs, members_of};
 ghost use Rattle.ak_member.specs.declared.effect.Effect.TheVariants.{Rise, Removed};
 ghost use Rattle.ak_member.specs.declared.status.Status.TheVariants.{Up};
 ghost use Rattle.ak_reach.specs.Unreachable.{unreachable_members};
-ghost use Rattle.ak_leader.specs.Leader.{greatest_number, number_after, has_next, led, all_led, leaders_effects};
+ghost use Rattle.ak_leader.specs.Leader.{greatest_number, number_after, has_next, all_led, leaders_effects};
 ghost use Rattle.ak_leader.specs.Walk.{number_past};
 
 use ak_address::{Unique, Uniques};

@@ -1,11 +1,10 @@
 -- After any allowed moves no shard is hosted at two running nodes, and no entity is active at two.
-use Rattle.std.proofs.Common.{◌≡◌, ℕ, inl, inr, List, [], ◌∷◌, Some, is_some, sym, ap, ◌∙◌, subst, arith, true≢false}
+use Rattle.std.proofs.Common.{◌≡◌, inl, inr, List, [], ◌∷◌, Some, is_some, sym, ap, ◌∙◌, subst, arith, true≢false}
 use Rattle.std.proofs.lemmas.Option.{same_Some}
-use Rattle.ak_line.specs.Name.{Name}
 use Rattle.ak_promise.specs.Ballot.{BallotModel}
 use Rattle.ak_line.specs.Line.{Line, IsLine, IsStrict}
 use Rattle.ak_line.specs.Shards.{Home}
-use Rattle.ak_line.specs.Moves.{Cluster, Move, runs, unstarted, Allowed, after, AllAllowed, after_all}
+use Rattle.ak_line.specs.Moves.{Cluster, Move, unstarted, Allowed, after, AllAllowed, after_all}
 use Rattle.ak_line.specs.Floors.{Floors, Latest}
 use Rattle.ak_line.specs.Placed.{Placed}
 use Rattle.ak_line.specs.Reported.{Reported}

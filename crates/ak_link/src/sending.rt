@@ -1,5 +1,5 @@
 // An envelope as a packet that is sent.
-ghost use Rattle.std.specs.Prelude.{◌≡◌, ◌≤◌, IfOk, IsOk, OnErr};
+ghost use Rattle.std.specs.Prelude.{◌≡◌, ◌≤◌, IfOk, OnErr};
 ghost use Rattle.ak_wire.specs.Datagram.{datagram, IsValid};
 ghost use Rattle.ak_outside.specs.Link.{SendCause, TakesPacket};
 

@@ -1,6 +1,6 @@
 -- The age of members: Up and Leaving members count, and the one that became Up first is the oldest (Akka's Cluster
 -- Singleton: the singleton runs on the oldest member).
-use Rattle.std.specs.Prelude.{◌≡◌, ◌↔◌, ℕ, ◌≤◌, ◌<◌, nat_lt, ◌==◌, Bool, true, false, IsTrue, List, [], ◌∷◌, Option, None, Some, option_map, slice_get, Contains, ◌⊎◌, if◌then◌else◌}
+use Rattle.std.specs.Prelude.{◌≡◌, ◌↔◌, ℕ, ◌<◌, nat_lt, Bool, true, false, IsTrue, List, [], ◌∷◌, Option, None, Some, option_map, slice_get, Contains, ◌⊎◌, if◌then◌else◌}
 use Rattle.std.specs.Prelude as list
 use Rattle.std.specs.FinMap as map
 use Rattle.std.specs.declared.cmp.Ordering.TheVariants.{Less}

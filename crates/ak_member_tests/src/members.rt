@@ -1,7 +1,7 @@
-use crate::build::{members_of, note};
+use crate::build::members_of;
 use ak_address::{Unique, Uniques, parse_unique};
 use ak_member::{Effect, Effects, Member, Members, Standing, Status};
-use std::alloc::{AllocError, Global};
+use std::alloc::Global;
 use std::test::Fail;
 
 const JOINING: Standing = Standing::Member(Status::Joining, 0);

@@ -9,7 +9,7 @@ use Rattle.ak_member.specs.declared.effect.Effect.{Effect}
 use Rattle.ak_member.specs.declared.effect.Effect.TheVariants.{Joined, Rise, Observed}
 use Rattle.ak_member.specs.declared.status.Status.TheVariants.{Leaving, Down}
 use Rattle.ak_member.specs.Standing as standing
-use Rattle.ak_member.specs.Standing.{members_of, is_down, is_up, is_member_with}
+use Rattle.ak_member.specs.Standing.{is_down, is_up, is_member_with}
 use Rattle.ak_gossip.specs.declared.gossip.GossipFault.TheVariants as fault
 use Rattle.ak_gossip.specs.Gossip.{GossipState, is_known, accepted, marked_seen, most_uniques}
 use Rattle.ak_gossip.proofs.InvariantLemmas.{and_first, member_known}

@@ -1,11 +1,11 @@
-ghost use Rattle.std.specs.Prelude.{◌≡◌, ◌≢◌, ◌<◌, ◌^◌, ◌∷◌, [], IfOk, OnErr, slice_get, option_copied, option_map, option_to_list};
+ghost use Rattle.std.specs.Prelude.{◌≡◌, ◌≢◌, ◌<◌, ◌^◌, [], IfOk, OnErr, slice_get, option_copied, option_map, option_to_list};
 ghost use Rattle.std.specs.Prelude as list;
 ghost use Rattle.std.specs.FinMap as map;
 ghost use Rattle.std.specs.List.{list_any};
 ghost use Rattle.ak_address.specs.Distinct.{distinct};
 ghost use Rattle.ak_gossip.specs.Gossip as gossip;
 ghost use Rattle.ak_member.specs.Standing as standing;
-ghost use Rattle.ak_member.specs.Standing.{member_pairs, members_of};
+ghost use Rattle.ak_member.specs.Standing.{member_pairs};
 ghost use Rattle.ak_member.specs.declared.effect.Effect.TheVariants.{Rise};
 ghost use Rattle.ak_member.specs.declared.status.Status.TheVariants as status;
 ghost use Rattle.ak_downing.specs.Downing.{all_downed};

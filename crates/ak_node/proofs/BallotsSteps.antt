@@ -22,11 +22,11 @@ use Rattle.ak_sharding.specs.Coordinates as coordinates
 use Rattle.ak_sharding.specs.Hosts as hosts
 use Rattle.ak_sharding.specs.Packets as packets
 use Rattle.ak_sharding.specs.Sharding as sharding
-use Rattle.ak_sharding.specs.Sharding.{ShardingModel, Around, new_sharding}
+use Rattle.ak_sharding.specs.Sharding.{ShardingModel, Around}
 use Rattle.ak_sharding.specs.Ranges.{IfThere, InRange, AroundInRange, GoesWell}
 use Rattle.ak_sharding.proofs.RangesKept.{offer_in, forgets_in}
 use Rattle.ak_sharding.proofs.TableRanges.{coordinates_in}
-use Rattle.ak_sharding.proofs.ShardRanges.{told_in, message_in, tabled_in, begins_if_in, learns_if_in, ended_in, new_in}
+use Rattle.ak_sharding.proofs.ShardRanges.{told_in, message_in, tabled_in, begins_if_in, learns_if_in, ended_in}
 use Rattle.ak_settled.specs.Settled.{unsettled, version_of, standings_of, after_note}
 use Rattle.ak_settled.specs.SettledView.{SettledModel}
 use Rattle.ak_singleton.specs.Singleton.{unasked, is_first_grant, is_outdone, may_activate}
@@ -38,7 +38,7 @@ use Rattle.ak_node.specs.declared.node.State.{State}
 use Rattle.ak_node.specs.declared.node.NodeEvent.{NodeEvent}
 use Rattle.ak_node.specs.declared.node.NodeEvent.TheVariants as event
 use Rattle.ak_node.specs.Node as node
-use Rattle.ak_node.specs.Node.{Outcome, known, me_of, settled_of, margin_of, is_member, is_gone, nothing, and_then, started, does, does_for, unless_refused, leave, down, asks_at, exits, gossips_to, gossips, status_of, asks_as, ends_phase, around, shards_do, offer, on_shards, takes, rest, may_leave, leaves, forgets, rule_on, is_over_here, is_asked, takes_grant, has_handed_over, goes_on, on_message, rule, closes, concludes, is_dead, running_step, step}
+use Rattle.ak_node.specs.Node.{Outcome, known, me_of, settled_of, margin_of, is_member, is_gone, nothing, and_then, started, does, does_for, unless_refused, leave, down, asks_at, exits, gossips_to, status_of, asks_as, ends_phase, around, shards_do, offer, on_shards, takes, rest, may_leave, leaves, forgets, rule_on, is_over_here, is_asked, takes_grant, has_handed_over, goes_on, on_message, rule, closes, concludes, is_dead, running_step, step}
 use Rattle.ak_node.specs.Sends.{KnowsProcesses, IsProcess, IsCounted, KeepsBallots, KeepsSettled, KeepsShards, IsSaid}
 use Rattle.ak_node.proofs.NamesKept.{step_names}
 use Rattle.ak_node.proofs.BallotsKept.{counted_empty, short_counted, known_fits, released_kept, asked_kept, granted_kept, rule_kept, old_kept, ended_kept, active_kept, settled_alike}

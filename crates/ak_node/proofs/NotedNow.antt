@@ -1,15 +1,13 @@
 -- Where a step notes a settled view, it tells so; and a node that runs has noted what is settled in its view.
-use Rattle.std.proofs.Common.{◌≡◌, ◌+◌, Bool, true, false, not, ◌&&◌, ◌||◌, ◌⊎◌, inl, inr, if◌then◌else◌, [], ◌∷◌, ◌++◌, Option, Some, None, is_some, Contains, IsTrue, refl, sym, ap, ◌∙◌, subst, true≢false}
+use Rattle.std.proofs.Common.{◌≡◌, ◌+◌, Bool, true, false, not, ◌&&◌, ◌||◌, ◌⊎◌, inl, inr, if◌then◌else◌, [], ◌∷◌, ◌++◌, is_some, Contains, IsTrue, refl, sym, ap, subst, true≢false}
 use Rattle.ak_address.proofs.Elements.{contains_first, contains_left, contains_right}
 use Rattle.ak_clock.specs.Version.{Counts, relation_by, covers, Covers}
 use Rattle.ak_clock.proofs.VersionLaws.{covers_equal, covers_from_test}
-use Rattle.ak_gossip.proofs.InvariantLemmas.{and_first}
 use Rattle.ak_settled.specs.Settled.{version_of, after_note}
 use Rattle.ak_settled.specs.SettledView.{SettledModel}
 use Rattle.ak_membership.specs.Tick.{has_settled}
 use Rattle.ak_membership.specs.Closing.{is_same, is_other, is_viewed, stops, is_noted, notes}
 use Rattle.ak_membership.specs.Knowledge.{WaitsOn}
-use Rattle.ak_wire.specs.declared.action.Action.{Action}
 use Rattle.ak_wire.specs.declared.action.Action.TheVariants as action
 use Rattle.ak_node.specs.declared.node.State.{State}
 use Rattle.ak_node.specs.declared.node.NodeEvent.{NodeEvent}

@@ -43,7 +43,7 @@ use Rattle.ak_node.specs.declared.node.State.{State}
 use Rattle.ak_node.specs.declared.node.NodeEvent.{NodeEvent}
 use Rattle.ak_node.specs.declared.node.NodeEvent.TheVariants as event
 use Rattle.ak_node.specs.Node as node
-use Rattle.ak_node.specs.Node.{around, sharing, shards_do, offer, on_shards, takes, rest, may_leave, leaves, forgets, Outcome, known, me_of, settled_of, margin_of, is_member, is_gone, nothing, refused, number_of, and_then, to_process, to_each, to_address, answer, update_by, does, does_for, unless_refused, join, leave, down, stop, asks_at, counted_members, exits, gossips_to, gossips, keeping, promising, told_of, told_its_own, told_to_each, releases, needed_others, rule_on, does_rule, status_of, asks_as, told_end, let_go, ends_phase, told_active, becomes_active, activates, answered, is_asked, answers_ask, takes_grant, has_handed_over, goes_on, ends, beats, tick, on_message, rule, if_so, due, closes, concludes, is_dead, running_step, step}
+use Rattle.ak_node.specs.Node.{around, sharing, shards_do, offer, on_shards, takes, rest, may_leave, leaves, forgets, Outcome, known, me_of, settled_of, margin_of, is_member, is_gone, number_of, and_then, to_process, to_each, to_address, answer, update_by, does, does_for, unless_refused, join, leave, down, stop, asks_at, counted_members, exits, gossips_to, gossips, keeping, promising, told_of, told_its_own, told_to_each, releases, needed_others, rule_on, does_rule, status_of, asks_as, told_end, let_go, ends_phase, told_active, becomes_active, answered, is_asked, answers_ask, takes_grant, has_handed_over, goes_on, ends, beats, tick, on_message, rule, if_so, closes, concludes, is_dead, step}
 use Rattle.ak_node.proofs.StepChanges.{step_is}
 
 -- ---- actions that tell nothing of the singleton, nor that the node stops

@@ -30,7 +30,7 @@ use Rattle.ak_node.specs.declared.node.State.{State}
 use Rattle.ak_node.specs.declared.node.NodeEvent.{NodeEvent}
 use Rattle.ak_node.specs.declared.node.NodeEvent.TheVariants as event
 use Rattle.ak_node.specs.Node as node
-use Rattle.ak_node.specs.Node.{Outcome, around, shards_do, known, me_of, status_of, is_member, is_gone, nothing, and_then, does, does_for, unless_refused, asks_at, exits, gossips_to, gossips, rule_on, does_rule, asks_as, ends_phase, rest, may_leave, goes_on, ticked, is_asked, answers_ask, takes_grant, takes, has_handed_over, becomes_active, activates, forgets, closes, concludes, on_message, rule, is_dead, running_step, step}
+use Rattle.ak_node.specs.Node.{Outcome, around, shards_do, known, me_of, status_of, is_member, is_gone, nothing, and_then, does, does_for, unless_refused, asks_at, exits, gossips_to, rule_on, does_rule, asks_as, ends_phase, rest, may_leave, goes_on, ticked, is_asked, answers_ask, takes_grant, takes, has_handed_over, forgets, closes, concludes, on_message, rule, is_dead, running_step, step}
 use Rattle.ak_node.proofs.StepChanges.{step_is}
 
 -- it keeps entities of hosted shards alone, and this one active

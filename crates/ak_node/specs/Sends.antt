@@ -9,8 +9,6 @@ use Rattle.ak_promise.specs.Ballot.{BallotModel, IsBallot}
 use Rattle.ak_settled.specs.Settled.{version_of, standings_of}
 use Rattle.ak_singleton.specs.Singleton.{SingletonModel}
 use Rattle.ak_wire.specs.declared.envelope.Envelope.{Envelope}
-use Rattle.ak_wire.specs.declared.envelope.Message.{Message}
-use Rattle.ak_wire.specs.declared.envelope.Message.TheVariants as message
 use Rattle.ak_wire.specs.declared.action.Action.{Action}
 use Rattle.ak_wire.specs.Datagram.{IsValid}
 use Rattle.ak_sharding.specs.Ranges.{AreUniques, InRange}

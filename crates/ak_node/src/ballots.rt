@@ -1,5 +1,4 @@
-ghost use Rattle.std.specs.Prelude.{◌≡◌, ◌≤◌, ◌++◌, ◌∷◌, [], IfOk, OnOk, IsTrue, Some, is_some, nat_le, option_copied};
-ghost use Rattle.std.specs.FinMap as finmap;
+ghost use Rattle.std.specs.Prelude.{◌≡◌, ◌++◌, ◌∷◌, [], IfOk, OnOk, Some, is_some, option_copied};
 ghost use Rattle.ak_address.specs.Uniques.{in_order};
 ghost use Rattle.ak_promise.specs.Promise.{is_some_ballot};
 ghost use Rattle.ak_settled.specs.Settled.{version_of};

@@ -1,4 +1,4 @@
-ghost use Rattle.std.specs.Prelude.{◌≡◌, ◌++◌, not, is_some, IfOk, OnOk};
+ghost use Rattle.std.specs.Prelude.{◌≡◌, ◌++◌, IfOk, OnOk};
 ghost use Rattle.ak_sharding.specs.Coordinates as coordinates;
 ghost use Rattle.ak_sharding.specs.Hosts as hosts;
 ghost use Rattle.ak_sharding.specs.Packets as packets;

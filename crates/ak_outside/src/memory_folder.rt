@@ -1,5 +1,5 @@
 // A folder in memory, whose loads fail where they are listed.
-ghost use Rattle.std.specs.Prelude.{◌≡◌, ◌≤◌, Some, IfOk, IfSome, option_map, length};
+ghost use Rattle.std.specs.Prelude.{◌≡◌, ◌≤◌, Some, IfOk, option_map};
 ghost use Rattle.std.specs.Bool.{OnTrue, OnFalse};
 ghost use Rattle.ak_outside.specs.Folder.{content, FoundSo, GivesFile, FitsMost, LoadCause};
 ghost use Rattle.ak_outside.specs.MemoryLink.{fails_next, LoadDone, LoadFailed};

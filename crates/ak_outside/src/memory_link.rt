@@ -1,8 +1,8 @@
 // A link in memory, whose calls fail where they are listed.
-ghost use Rattle.std.specs.Prelude.{◌≡◌, ◌≤◌, ◌+◌, ◌++◌, ◌∷◌, [], Some, None, IfOk, OnOk, OnErr, MatchOption, option_copied, option_map, length, map, take, min, vec_len};
+ghost use Rattle.std.specs.Prelude.{◌≡◌, ◌≤◌, ◌+◌, ◌++◌, ◌∷◌, [], Some, None, IfOk, OnOk, OnErr, option_copied, option_map, length, take, min, vec_len};
 ghost use Rattle.std.specs.Bool.{OnTrue, OnFalse};
 ghost use Rattle.ak_outside.specs.Outside.{counted};
-ghost use Rattle.ak_outside.specs.Link.{BindCause, SendCause, HearCause, Binds, TakesPacket, FitsRoom, Hears, HearsNext};
+ghost use Rattle.ak_outside.specs.Link.{BindCause, SendCause, HearCause, Binds, TakesPacket, FitsRoom, Hears};
 ghost use Rattle.ak_outside.specs.MemoryLink.{fails_next, known_sends, BindDone, BindFailed, SendDone, SendFailed, ReceiveDone, ReceiveFailed, taken_at};
 
 use crate::calls::Calls;

@@ -3,9 +3,8 @@
 // - that the runtime opens the file of a name, from the folder that the process runs in on, and gives its bytes in their order;
 // - that it answers an error exactly where the system does, of the kind `NotFound`, or `NotADirectory` for a name that goes
 //   through a file, where no file has the name, and of the kind `Interrupted` for a signal.
-ghost use Rattle.std.specs.Prelude.{◌≡◌, ◌≤◌, ◌↔◌, None, IsTrue, IfOk};
-ghost use Rattle.std.specs.Bool.{OnTrue};
-ghost use Rattle.ak_outside.specs.Folder.{FitsMost, LoadCause, HasFailed, ReadsFile};
+ghost use Rattle.std.specs.Prelude.{◌≡◌, ◌↔◌, None, IsTrue, IfOk};
+ghost use Rattle.ak_outside.specs.Folder.{FitsMost, HasFailed, ReadsFile};
 
 use crate::folder::{Folder, Loaded};
 use crate::reader::{MOST_READ, ReaderSource};

@@ -1,4 +1,3 @@
-ghost use Rattle.std.specs.Prelude.{◌≡◌, IfOk};
 ghost use Rattle.ak_member.specs.View.{later_row};
 
 use ak_address::{Duplicate, Merge, Uniques};

@@ -1,11 +1,8 @@
-ghost use Rattle.std.specs.Prelude.{◌≡◌, ◌≢◌, ◌≤◌, ◌<◌, ◌++◌, ◌∷◌, [], nat_le, not, true, false, if◌then◌else◌, slice_index_or, slice_set, length, map, IfOk, OnOk, OnErr};
-ghost use Rattle.std.specs.List.{filter};
+ghost use Rattle.std.specs.Prelude.{◌≡◌, ◌≢◌, ◌≤◌, ◌<◌, ◌++◌, ◌∷◌, [], nat_le, true, false, if◌then◌else◌, slice_index_or, slice_set, length, map, IfOk, OnOk, OnErr};
 ghost use Rattle.ak_shard_id.specs.Shard.{shard_of};
-ghost use Rattle.ak_region.specs.Shards.{ShardSlot};
-ghost use Rattle.ak_region.specs.RegionModel.{Message};
 ghost use Rattle.ak_region.specs.Slot.{receives};
 ghost use Rattle.ak_region.specs.Stored.{all_slots};
-ghost use Rattle.ak_region.specs.Region.{kept, those_for, others_than_for, firsts};
+ghost use Rattle.ak_region.specs.Region.{kept, those_for, others_than_for};
 ghost use Rattle.ak_region.specs.Turns.{after_wait, turn_left, turn_gone, wanted_among};
 
 use crate::region::{Offered, Waiting};

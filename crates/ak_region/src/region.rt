@@ -1,5 +1,4 @@
 ghost use Rattle.std.specs.Prelude.{◌≡◌, ◌≢◌, ◌≤◌, ◌<◌, [], false, length, IfOk, OnOk, OnErr, IfSome, IsTrue};
-ghost use Rattle.ak_region.specs.Shards.{ShardSlot};
 ghost use Rattle.ak_region.specs.RegionModel.{RegionModel, Message, IsRegion};
 ghost use Rattle.ak_region.specs.Slot.{is_known_at, at_home, host_answer, after_host, begun, gives_up, handed_off, can_flush};
 ghost use Rattle.ak_region.specs.Region.{new_region, slot_of, with_slot, entity_shard, route, TakesRoom, after_offer, flushed, after_flush, wanted, after_forget, hosts_any, reports};

@@ -1,6 +1,4 @@
 ghost use Rattle.std.specs.Prelude.{◌≡◌, option_copied};
-ghost use Rattle.ak_address.specs.Unique.{UniqueModel};
-ghost use Rattle.ak_member.specs.Standing.{Standings};
 ghost use Rattle.ak_region.specs.Slot.{untold, receives, other_home, can_flush, is_some_unique, is_known_at, at_home, host_answer, after_host, begun, gives_up, handed_off, without_stranger};
 
 use ak_address::Unique;

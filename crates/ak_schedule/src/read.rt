@@ -1,8 +1,8 @@
-ghost use Rattle.std.specs.Prelude.{◌≡◌, ◌↔◌, ◌+◌, ◌-◌, ◌≤◌, ◌∷◌, IsTrue, MatchOption, codes, ℕ};
+ghost use Rattle.std.specs.Prelude.{◌≡◌, ◌-◌, ◌∷◌, codes};
 ghost use Rattle.ak_address.specs.Spelling.{SpellsAddress, SpellsUnique};
 ghost use Rattle.ak_schedule.specs.Line.{words};
 ghost use Rattle.ak_schedule.specs.Reading.{Reads, SpellsOne, SpellsTwo};
-ghost use Rattle.ak_schedule.specs.Schedule.{SpellsEvent, SpellsWords, SpellsNumber};
+ghost use Rattle.ak_schedule.specs.Schedule.{SpellsEvent, SpellsWords};
 
 use crate::event::Event;
 use crate::fault::LineFault;

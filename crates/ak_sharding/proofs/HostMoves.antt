@@ -9,7 +9,7 @@ use Rattle.ak_address.proofs.Elements.{contains_first, contains_rest, contains_n
 use Rattle.ak_clock.specs.Version.{Counts}
 use Rattle.ak_line.specs.BallotOrder.{IsLater}
 use Rattle.ak_line.specs.Moves as moves
-use Rattle.ak_line.specs.Moves.{Node, Trial, Said}
+use Rattle.ak_line.specs.Moves.{Node, Said}
 use Rattle.ak_line.proofs.BecomesLemmas.{stays, then, says_less}
 use Rattle.ak_promise.specs.Ballot.{BallotModel}
 use Rattle.ak_promise.proofs.PromiseLemmas.{last_is}

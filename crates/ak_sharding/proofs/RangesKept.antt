@@ -7,7 +7,6 @@ use Rattle.std.specs.FinMap as finmap
 use Rattle.ak_address.specs.Unique.{UniqueModel, IsUnique, unique_cmp}
 use Rattle.ak_clock.specs.declared.version.TheConstants.{BOUND}
 use Rattle.ak_field.specs.Ranges.{IsEntity, IsNumber, IsShard}
-use Rattle.ak_member.specs.Standing.{Standings}
 use Rattle.ak_promise.specs.Ballot.{BallotModel, IsBallot}
 use Rattle.ak_region.specs.declared.region.Offered.{Offered}
 use Rattle.ak_region.specs.declared.region.Offered.TheVariants as offered
@@ -18,7 +17,7 @@ use Rattle.ak_region.specs.Slot.{untold, receives, other_home, other_than, can_f
 use Rattle.ak_region.specs.RegionModel.{RegionModel, Message}
 use Rattle.ak_region.specs.Region.{slot_of, with_slot, entity_shard, is_full, those_for, others_than_for, kept, route, flushed, after_flush}
 use Rattle.ak_wire.specs.declared.envelope.Message as wire
-use Rattle.ak_wire.specs.Datagram.{IsBody, IsValid, is_for_anybody}
+use Rattle.ak_wire.specs.Datagram.{IsBody, is_for_anybody}
 use Rattle.ak_sharding.specs.Sharding.{ShardingModel, Around, Outcome, nothing, to_process, delivery, routed, routes, routes_each, flushes}
 use Rattle.ak_sharding.specs.Hosts.{has_shard, is_bound, learns_home, hosted_by, obeys, ends_shard, on_home, on_host_shard, on_begin_hand_off, on_hand_off, on_offer, forgets}
 use Rattle.ak_sharding.specs.Ranges.{AllOf, IfThere, SlotInRange, MessageInRange, RegionInRange, InRange, AroundInRange, IsSentWell, GoesWell}

@@ -25,7 +25,7 @@ use Rattle.ak_wire.specs.declared.envelope.Message as wire
 use Rattle.ak_wire.specs.Datagram.{IsBody}
 use Rattle.ak_sharding.specs.Sharding.{ShardingModel, Around, to_process, nothing_told, new_sharding}
 use Rattle.ak_sharding.specs.Hosts.{asks_homes_of, asks_homes}
-use Rattle.ak_sharding.specs.Coordinates.{own_table, begins_table, ends_table, learns_grant, tabled_by, begins_if, learns_if, ended_table}
+use Rattle.ak_sharding.specs.Coordinates.{begins_table, ends_table, tabled_by, begins_if, learns_if, ended_table}
 use Rattle.ak_sharding.specs.Packets.{on_shard_message}
 use Rattle.ak_sharding.specs.Ranges.{AllOf, IfThere, SlotInRange, RegionInRange, EntryInRange, TableInRange, ReportInRange, InRange, AroundInRange, IsSentWell, GoesWell}
 use Rattle.ak_sharding.proofs.RangesKept.{all_both, sent_to, home_in, host_shard_in, begin_in, hand_off_in, offer_in}

@@ -1,15 +1,14 @@
-ghost use Rattle.std.specs.Prelude.{◌≡◌, ◌&&◌, ◌↔◌, ◌⊎◌, ℕ, not, IsSome, IsTrue, Some};
+ghost use Rattle.std.specs.Prelude.{◌≡◌, ◌&&◌, ◌↔◌, ℕ, not, IsTrue, Some};
 ghost use Rattle.ak_address.specs.Unique.{UniqueModel};
-ghost use Rattle.ak_address.specs.Uniques.{has, no_one};
-ghost use Rattle.ak_clock.specs.Version.{Counts, Covers};
+ghost use Rattle.ak_address.specs.Uniques.{has};
 ghost use Rattle.ak_promise.specs.Ballot.{BallotModel, ballot_cmp};
 ghost use Rattle.ak_promise.specs.Promise.{PromiseModel};
 ghost use Rattle.ak_settled.specs.SettledView.{SettledView};
-ghost use Rattle.ak_settled.specs.Settled.{is_finished, needed, version_of};
+ghost use Rattle.ak_settled.specs.Settled.{needed};
 ghost use Rattle.ak_singleton.specs.Rules.{Applies, IsFirstGrant, IsOutdone, MayActivate};
-ghost use Rattle.ak_singleton.specs.Singleton.{SingletonModel, after_activation, after_old, after_rule, is_first_grant, is_outdone, may_activate, opened, own_ballot, steps_of, tick_rule};
+ghost use Rattle.ak_singleton.specs.Singleton.{SingletonModel, after_old, is_first_grant, is_outdone, may_activate, opened, own_ballot, steps_of, tick_rule};
 
-use crate::phase::{Phase, TickRule};
+use crate::phase::TickRule;
 use ak_member::Status;
 use std::cmp::Ordering;
 

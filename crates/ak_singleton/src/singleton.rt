@@ -1,7 +1,7 @@
 ghost use Rattle.std.specs.Prelude.{◌≡◌, ◌≢◌, ◌<◌, ◌≤◌, IfOk, IsOk, IfSome, IsSome, IsTrue, OnOk, OnErr, None, Some, option_copied};
 ghost use Rattle.ak_address.specs.Uniques.{no_one};
 ghost use Rattle.ak_promise.specs.Promise.{Answers, answer_to, asked, bound, is_last, is_some_ballot, released_by};
-ghost use Rattle.ak_singleton.specs.Singleton.{unasked, only, is_some_process, is_candidate, is_holder_finished, needed_but, next_term, own_ballot, opened, closed, renewed, takes_part, may_open_after, may_open, rule_of, tick_rule, after_rule, steps_of, TakesRoom, is_first_grant, after_granted, is_asking, is_outdone, after_old, active_term, ended, may_activate, after_activation};
+ghost use Rattle.ak_singleton.specs.Singleton.{unasked, only, is_some_process, is_candidate, is_holder_finished, needed_but, next_term, own_ballot, opened, closed, renewed, may_open, rule_of, tick_rule, after_rule, steps_of, TakesRoom, is_first_grant, after_granted, is_asking, is_outdone, after_old, active_term, ended, may_activate, after_activation};
 
 use crate::needed::{has_all_needed, needed_but};
 use crate::phase::{Phase, Steps, TickRule};

@@ -1,5 +1,5 @@
 // The control command.
-ghost use Rattle.std.specs.Prelude.{◌≡◌, ◌≤◌, ◌↔◌, IfOk};
+ghost use Rattle.std.specs.Prelude.{◌≡◌, ◌≤◌, IfOk};
 ghost use Rattle.ak_wire.specs.Datagram.{IsBody, IsValid};
 ghost use Rattle.ak_turns.specs.Control.{control_packet, message_of, answer_line, Asks, AsksAndAnswers, Controls, ControlCause, WritesLine};
 ghost use Rattle.ak_turns.specs.Outside.{sink, wire};

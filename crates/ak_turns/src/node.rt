@@ -1,6 +1,5 @@
 // A node on the network, from its configuration to its end.
-ghost use Rattle.std.specs.Prelude.{◌≡◌, ◌≤◌, ◌++◌, ◌∷◌, [], codes, IfOk, OnOk};
-ghost use Rattle.std.specs.Fmt.{decimal};
+ghost use Rattle.std.specs.Prelude.{◌≡◌, ◌≤◌, ◌++◌, [], IfOk, OnOk};
 ghost use Rattle.ak_turns.specs.NodeRun.{start_of, summary};
 ghost use Rattle.ak_turns.specs.NodePromise.{LoadsAs, LoadCause, refusal_line, fault_text, Refuses, RefusesConfig, EndsAs, RunsBound, RunsConfig, RunsNode, NodeCause, ConfigCause};
 ghost use Rattle.ak_turns.specs.Outside.{sink, wire};

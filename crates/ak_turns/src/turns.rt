@@ -2,7 +2,7 @@
 ghost use Rattle.std.specs.Prelude.{◌≡◌, ◌≤◌, ◌<◌, ◌^◌, length, IfOk, IfSome, OnOk};
 ghost use Rattle.ak_turns.specs.Outside.{sink, wire};
 ghost use Rattle.ak_turns.specs.NodeRun.{start_of};
-ghost use Rattle.ak_turns.specs.Turns.{founds, joins, tick_by, most_bytes, most_idle};
+ghost use Rattle.ak_turns.specs.Turns.{founds, joins, tick_by, most_bytes};
 ghost use Rattle.ak_turns.specs.Steps.{IsCome};
 ghost use Rattle.ak_turns.specs.TurnsContracts.{TakesSome, LinkCause, HearsAs, Begins, RunsTurns, IsCounted, progress_of};
 

@@ -1,12 +1,11 @@
-ghost use Rattle.std.specs.Prelude.{◌≡◌, ◌≤◌};
+ghost use Rattle.std.specs.Prelude.{◌≡◌};
 ghost use Rattle.ak_field.specs.Reading.{Gives, GivesAs};
 ghost use Rattle.ak_wire.specs.ReadingDatagram.{made_at, gossip_at, granted_at, two_ballots_at, done_at, get_home_at, home_at, placed_at, payload_at, bare, told, asking, granting, refusing, ending, seeking, homing, placing, carrying, naming, early_body_at, late_body_at, body_at};
 ghost use Rattle.ak_field.specs.Fields.{ballot_at, unique_at};
 
 use crate::envelope::Message;
 use crate::reports::Reports;
-use ak_address::{Text, Unique};
-use ak_clock::{BOUND, Version};
+use ak_clock::BOUND;
 use ak_field::{Fields, WireFault};
 use ak_gossip::Gossip;
 use ak_promise::Ballot;

@@ -1,6 +1,6 @@
 ghost use Rattle.std.specs.Prelude.{◌≡◌, fold};
 ghost use Rattle.std.specs.Option.{option_copied};
-ghost use Rattle.ak_wire.specs.Hashed.{total, total_of, known_total, seen_by_many, term_of, uid_of, number_of, name_of, hashed_message, hashed};
+ghost use Rattle.ak_wire.specs.Hashed.{total, total_of, known_total, seen_by_many, term_of, uid_of, name_of, hashed_message, hashed};
 
 use crate::carried::{
     ballot_in, entity_in, gossip_of, number_in, process_in, shard_in, version_in,

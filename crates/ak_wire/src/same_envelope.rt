@@ -1,4 +1,4 @@
-ghost use Rattle.std.specs.Prelude.{◌≡◌, ◌↔◌, ℕ, IsTrue};
+ghost use Rattle.std.specs.Prelude.{◌≡◌, ◌↔◌, IsTrue};
 ghost use Rattle.ak_wire.specs.Wire.{gossip_of};
 ghost use Rattle.ak_wire.specs.Carried.{ballot_in, promised_in, version_in, reports_in, process_in, entity_in, shard_in, number_in, CarriesSame};
 

@@ -3,7 +3,7 @@ ghost use Rattle.ak_field.specs.Ranges.{IsEntity, IsShard};
 ghost use Rattle.ak_field.specs.Spelling as spelling;
 ghost use Rattle.ak_field.specs.Parts as spelled;
 ghost use Rattle.ak_field.specs.Lists.{IsShort, AreReports};
-ghost use Rattle.ak_gossip.specs.Parts.{parts_of, AreParts};
+ghost use Rattle.ak_gossip.specs.Parts.{parts_of};
 ghost use Rattle.ak_wire.specs.Datagram.{kind_number, parts_in, placed, payload, body, datagram, IsBody, IsValid};
 
 use crate::envelope::{Envelope, Message};

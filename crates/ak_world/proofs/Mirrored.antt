@@ -13,7 +13,7 @@ use Rattle.ak_line.specs.Line.{Line, IsLine}
 use Rattle.ak_line.specs.Grows.{Grows}
 use Rattle.ak_line.specs.BallotOrder.{IsLater}
 use Rattle.ak_line.specs.Moves as moves
-use Rattle.ak_line.specs.Moves.{Node, Trial, Said, Packet, Cluster, Move, Sent, IsLive, blank, unstarted, after_all}
+use Rattle.ak_line.specs.Moves.{Node, Said, Packet, Cluster, Move, Sent, blank, unstarted, after_all}
 use Rattle.ak_line.specs.Safe.{Safe}
 use Rattle.ak_line.proofs.BallotOrderLaws.{later_strict}
 use Rattle.ak_line.proofs.Grown.{safe_grown}

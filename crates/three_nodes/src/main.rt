@@ -8,7 +8,7 @@ ghost use Rattle.std.specs.Prelude.{◌<◌, ◌^◌};
 ghost use Rattle.ak_node.specs.Sends.{ComesValid};
 ghost use Rattle.ak_wire.specs.Datagram.{IsValid};
 
-use ak_address::{Address, Unique, parse_address, parse_unique};
+use ak_address::{Address, Unique, parse_unique};
 use ak_node::{Action, Actions, Node, NodeEvent, is_for};
 use ak_outside::{Sink, StdSink};
 use ak_settings::{Settings, Strategy};

@@ -1,4 +1,4 @@
-use Rattle.std.proofs.Common.{refl, arith}
+use Rattle.std.proofs.Common.{arith}
 use Rattle.ak_coordinator.proofs.LoadLemmas.{counted_none, counted_next, counted_few}
 use Rattle.ak_coordinator.proofs.EntryLemmas.{entry_there}
 use Rattle.ak_coordinator.proofs.loads.homes_in.Goals as goal

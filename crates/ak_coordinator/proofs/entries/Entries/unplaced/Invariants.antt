@@ -1,6 +1,6 @@
-use Rattle.std.proofs.Common.{◌≡◌, ◌+◌, ◌≤◌, replicate}
+use Rattle.std.proofs.Common.{◌≡◌, replicate}
 use Rattle.std.specs.List.{range_with_len}
-use Rattle.indexmap.specs.IndexMap.{keys, values, spare}
+use Rattle.indexmap.specs.IndexMap.{keys, values}
 use Rattle.ak_coordinator.specs.Entry.{unplaced}
 use Rattle.ak_coordinator.proofs.entries.Entries.unplaced.Given as goal
 
