@@ -11,7 +11,7 @@ ghost use Rattle.ak_membership.specs.Sight.{is_news};
 ghost use Rattle.ak_membership.specs.Tick as ticks;
 
 use crate::change::{Change, MemberFault, Reply};
-use crate::count::keep;
+use crate::count::{keep, keep_received};
 use crate::lost::{has_lost, some_counts};
 use crate::members::{
     downed_beside, has_member_beside, is_down, is_joining, is_known, joining_addresses,
@@ -443,7 +443,7 @@ impl MembershipState {
         };
         match self.gossip.receive(alloc, &self.me, incoming) {
             Ok(received) => {
-                if let Err(error) = keep(alloc, &before, &self.gossip, tally) {
+                if let Err(error) = keep_received(alloc, received, &before, &self.gossip, tally) {
                     self.gossip = before;
                     return Err(error.into());
                 }
