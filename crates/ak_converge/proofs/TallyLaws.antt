@@ -2,20 +2,22 @@
 use Rattle.std.proofs.Common.{◌≡◌, ◌↔◌, ℕ, suc, ◌+◌, ◌≤◌, Bool, true, false, not, cond, ◌&&◌, ◌||◌, IsTrue, nat_le, ◌==◌, List, [], ◌∷◌, ◌++◌, drop, slice_get, option_to_list, length, None, is_some, refl, sym, ap, ◌∙◌, true≢false, arith}
 use Rattle.std.proofs.lemmas.Bool.{leb-true, le-leb, eq-eqb, eqb-true, ne_eqb, and_parts, and_from}
 use Rattle.std.specs.List.{list_all, filter}
+use Rattle.std.specs.Prelude as list
 use Rattle.std.specs.FinMap as map
-use Rattle.ak_address.specs.Unique.{UniqueModel, unique_cmp}
+use Rattle.ak_address.specs.Unique.{AddressModel, UniqueModel, unique_cmp}
 use Rattle.ak_address.specs.Uniques.{UniqueSet, has}
+use Rattle.ak_address.proofs.TableLaws.{entries-empty}
 use Rattle.ak_address.specs.Distinct.{distinct}
 use Rattle.ak_member.specs.declared.status.Status.{Status}
-use Rattle.ak_member.specs.Age.{counts, counted_addresses}
+use Rattle.ak_member.specs.Age.{counts, counted_pairs, counted_addresses}
 use Rattle.ak_member.specs.declared.standing.Standing.{Standing}
 use Rattle.ak_member.specs.Standing.{members_of, member_pairs}
-use Rattle.ak_member.specs.View.{View, Row}
+use Rattle.ak_member.specs.View.{View, Row, empty_view}
 use Rattle.ak_member.proofs.MemberLemmas.{KeepsPairs, kept_from, kept_at_end, keeps_members, keeps_filtered}
 use Rattle.ak_reach.specs.Unreachable.{unreachable_members}
 use Rattle.ak_reach.proofs.UnreachableLaws.{unreachable_means}
 use Rattle.ak_converge.specs.Convergence.{is_passed_over, agrees, is_converged, is_settled}
-use Rattle.ak_converge.specs.Tally.{TallyModel, one_if, misses, blocks, missing_in, blocking_in, tally_of}
+use Rattle.ak_converge.specs.Tally.{TallyModel, one_if, misses, blocks, missing_in, blocking_in, tally_of, nothing_tallied, uses_of}
 use Rattle.ak_converge.proofs.UsesLaws.{uses_distinct}
 
 abbrev pub none_of : ℕ → ℕ → Bool
@@ -131,3 +133,15 @@ module _ (p : UniqueModel × (Status × ℕ) → Bool) (es : List (UniqueModel �
 
   pub counted_all : (n total : ℕ) → length es ≤ pair → n + length (kept (drop pair es)) ≡ total → n ≡ total
   counted_all n total past so_far = let none = ap length (kept_at_end kept keeps es pair past) in omega arith
+
+-- ---- a view that knows nobody
+pub empty_tally : (seen : UniqueSet) → nothing_tallied ≡ tally_of empty_view seen
+empty_tally seen = λ i.
+    record {
+      missing = length (filter (misses seen) (member_pairs (sym entries-empty i)));
+      blocking = length (filter (blocks (unreachable_members empty_view)) (member_pairs (sym entries-empty i)));
+      uses = uses_of (map_addresses (counted_pairs (member_pairs (sym entries-empty i))));
+    }
+  where
+    map_addresses : List (UniqueModel × ℕ) → List AddressModel
+    map_addresses = list.map (λ pair. pair.0.address)

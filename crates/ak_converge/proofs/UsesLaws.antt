@@ -169,3 +169,18 @@ uses_distinct (a ∷ ads) =
     ap map.len (uses_first a ads)
     ∙ map.len-insert address_total (uses_of ads) a (uses_at (uses_of ads) a + 1)
     ∙ (λ i. cond (in_use ads a i) (uses_distinct ads i) (uses_distinct ads i + 1))
+
+-- one use more adds one at most, to how many there are and to how many uses each address has
+pub few_more : (u : Uses) (a : AddressModel) → map.len (with_use u a) ≤ map.len u + 1
+few_more u a = by_case (map.contains_key u a) (map.len (with_use u a)) (map.len-insert address_total u a (uses_at u a + 1))
+  where
+    by_case : (b : Bool) (n : ℕ) → n ≡ cond b (map.len u) (map.len u + 1) → n ≤ map.len u + 1
+    by_case true n is = omega arith
+    by_case false n is = omega arith
+
+pub often_more : (u : Uses) (a : AddressModel) (most : ℕ) → ((q : AddressModel) → uses_at u q ≤ most) → (q : AddressModel) → uses_at (with_use u a) q ≤ most + 1
+often_more u a most all q = by_case (tied q a) (map.get (with_use u a) q) (at_with_use u a q)
+  where
+    by_case : (b : Bool) (o : Option ℕ) → o ≡ cond b (Some (uses_at u a + 1)) (map.get u q) → uses_or_none o ≤ most + 1
+    by_case true o is = let here = all a in let e = ap uses_or_none is in omega arith
+    by_case false o is = let here = all q in let e = ap uses_or_none is in omega arith

@@ -1,6 +1,7 @@
 pub mod EffectLemmas
 pub mod AlikeLaws
 pub mod Causes
+pub mod CountLemmas
 pub mod MayMake
 pub mod MayRise
 pub mod MembershipLemmas

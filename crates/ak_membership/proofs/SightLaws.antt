@@ -54,10 +54,10 @@ module _ (me : UniqueModel) (own incoming : GossipState) where
   by_tests false true why other x r is = absurd (true≢false (sym (ap is_ok is)))
   by_tests false false why other x r is = same_Some x r (ap result_ok is)
 
-  received_is : (r : Received × GossipState) → receive me own incoming ≡ Ok r → marked_seen me (accepted (relation own.version incoming.version) own incoming) ≡ r
+  pub received_is : (r : Received × GossipState) → receive me own incoming ≡ Ok r → marked_seen me (accepted (relation own.version incoming.version) own incoming) ≡ r
   received_is r is = by_tests (nat_lt (count own.version me) (count incoming.version me)) (nat_lt most_uniques (map.len (merged_standings own.view.standings incoming.view.standings))) _ _ _ r is
 
-  seen_view : (g : GossipState) → (seen_by me g).view ≡ g.view
+  pub seen_view : (g : GossipState) → (seen_by me g).view ≡ g.view
   seen_view g = by_case (is_member g.view.standings me)
     where
       by_case : (b : Bool) → (if b then record g { seen = with_one g.seen me } else g).view ≡ g.view

@@ -1,4 +1,5 @@
 pub mod Closing
+pub mod Counted
 pub mod Knowledge
 pub mod Membership
 pub mod MembershipContracts

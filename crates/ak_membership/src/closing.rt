@@ -6,11 +6,12 @@ ghost use Rattle.ak_clock.specs.Version.{Covers};
 ghost use Rattle.ak_detector.specs.Detector.{watching, watch_ring};
 ghost use Rattle.ak_settled.specs.Settled.{version_of, after_note};
 ghost use Rattle.ak_membership.specs.Closing as closing;
-ghost use Rattle.ak_membership.specs.MembershipContracts.{Closes, MayTake, IsAtRest, RestsIf, WatchesAnew};
+ghost use Rattle.ak_membership.specs.MembershipContracts.{Closes, MayTake, IsAtRest, IsTallyOf, RestsIf, WatchesAnew};
 
 use crate::change::Closing;
 use crate::state::MembershipState;
 use ak_clock::{Relation, Version};
+use ak_converge::Tally;
 use ak_detector::Detector;
 use std::alloc::{AllocError, Global};
 
@@ -28,13 +29,14 @@ fn is_other(old: &Version, new: &Version) -> bool
 
 impl MembershipState {
     // A settled view is to be noted.
-    pub(crate) fn is_noted(&self) -> bool
+    pub(crate) fn is_noted(&self, tally: &Tally) -> bool
+        requires { IsTallyOf tally.now self.now.gossip }
         ensures { result ≡ closing.is_noted self.now }
     {
         if self.settled.exists() && !is_other(self.settled.version(), self.gossip.version()) {
             return false;
         }
-        self.has_settled()
+        self.has_settled(tally)
     }
 
     // Notes the settled view, where it is to be noted. An error leaves it as it was.
@@ -107,8 +109,10 @@ impl MembershipState {
         &mut self,
         alloc: Global,
         stopping: bool,
+        tally: &Tally,
     ) -> Result<(Closing, bool), AllocError>
-        requires { Covers self.old.gossip.version (version_of self.old.settled.view) }
+        requires tally { IsTallyOf tally.now self.old.gossip }
+        requires covers { Covers self.old.gossip.version (version_of self.old.settled.view) }
         ensures ok { IfOk result (λ r. Closes (closing.close stopping self.old) self.new r.0) }
         ensures rest { IfOk result (λ r. RestsIf r.1 self.new) }
         ensures err { OnErr result (self.new ≡ self.old) }
@@ -116,7 +120,7 @@ impl MembershipState {
     {
         let viewed = is_other(&self.shown, self.gossip.version());
         let stopped = stopping || self.is_gone();
-        let settled = !stopped && self.is_noted();
+        let settled = !stopped && self.is_noted(tally);
         let shown = self.newly_shown(alloc, viewed)?;
         let detector = self.watching(alloc)?;
         self.note(alloc, settled)?;

@@ -4,6 +4,7 @@
 
 mod change;
 mod closing;
+mod count;
 mod laws;
 mod lost;
 mod members;

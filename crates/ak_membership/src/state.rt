@@ -6,11 +6,12 @@ ghost use Rattle.ak_member.specs.Standing as standing;
 ghost use Rattle.ak_settings.specs.Settings.{is_listed};
 ghost use Rattle.ak_leader.specs.Leader as leads;
 ghost use Rattle.ak_membership.specs.Membership as rules;
-ghost use Rattle.ak_membership.specs.MembershipContracts.{Makes, Answers, IsAccepted, IsCounting, IsKnownIn, IsUnknown, MayAdmit, MayConfirm, MayDown, RestsIf, LeavesAtRest, IsWatching, KnowsItself, Receives, or_no_memory};
+ghost use Rattle.ak_membership.specs.MembershipContracts.{Makes, Answers, IsAccepted, IsCounting, IsKnownIn, IsUnknown, MayAdmit, MayConfirm, MayDown, IsTallyOf, RestsIf, LeavesAtRest, IsWatching, KnowsItself, Receives, or_no_memory};
 ghost use Rattle.ak_membership.specs.Sight.{is_news};
 ghost use Rattle.ak_membership.specs.Tick as ticks;
 
 use crate::change::{Change, MemberFault, Reply};
+use crate::count::{keep, keep_received};
 use crate::lost::{has_lost, some_counts};
 use crate::members::{
     downed_beside, has_member_beside, is_down, is_joining, is_known, joining_addresses,
@@ -18,7 +19,7 @@ use crate::members::{
 use crate::sight::moves;
 use ak_address::{Address, Unique, Uniques};
 use ak_clock::{BOUND, Version};
-use ak_converge::{converged, settled_by};
+use ak_converge::Tally;
 use ak_detector::Detector;
 use ak_downing::{decide, downs};
 use ak_gossip::{Gossip, GossipFault, Received};
@@ -160,13 +161,24 @@ impl MembershipState {
     }
 
     // The next update, by these effects.
-    fn make(&mut self, alloc: Global, effects: Effects) -> Result<Change, AllocError>
-        requires { MayUpdate self.old.me effects self.old.gossip }
+    fn make(
+        &mut self,
+        alloc: Global,
+        effects: Effects,
+        tally: &mut Tally,
+    ) -> Result<Change, AllocError>
+        requires may { MayUpdate self.old.me effects self.old.gossip }
+        requires tally { IsTallyOf tally.old self.old.gossip }
         ensures ok { IfOk result (λ change. Makes (rules.made effects self.old) self.new change) }
         ensures err { OnErr result (self.new ≡ self.old) }
+        ensures tally { IsTallyOf tally.new self.new.gossip }
     {
         let before = self.gossip.copy(alloc)?;
         let number = self.gossip.update(alloc, &self.me, &effects)?;
+        if let Err(error) = keep(alloc, &before, &self.gossip, tally) {
+            self.gossip = before;
+            return Err(error);
+        }
         self.moved = moves(self.moved, &before, &self.gossip);
         Ok(Change {
             number: Some(number),
@@ -176,49 +188,73 @@ impl MembershipState {
     }
 
     // The same, where a number is left for it.
-    fn update(&mut self, alloc: Global, effects: Effects) -> Result<Change, AllocError>
-        requires { IsTrue (rules.may_count self.old) → MayUpdate self.old.me effects self.old.gossip }
+    fn update(
+        &mut self,
+        alloc: Global,
+        effects: Effects,
+        tally: &mut Tally,
+    ) -> Result<Change, AllocError>
+        requires may { IsTrue (rules.may_count self.old) → MayUpdate self.old.me effects self.old.gossip }
+        requires tally { IsTallyOf tally.old self.old.gossip }
         ensures ok { IfOk result (λ change. Makes (rules.update effects self.old) self.new change) }
         ensures err { OnErr result (self.new ≡ self.old) }
+        ensures tally { IsTallyOf tally.new self.new.gossip }
     {
         if self.may_count() {
-            return self.make(alloc, effects);
+            return self.make(alloc, effects, tally);
         }
         Ok(unchanged(alloc))
     }
 
     // The same, where there are effects.
-    fn update_any(&mut self, alloc: Global, effects: Effects) -> Result<Change, AllocError>
-        requires { IsTrue (rules.may_count self.old) → MayUpdate self.old.me effects self.old.gossip }
+    fn update_any(
+        &mut self,
+        alloc: Global,
+        effects: Effects,
+        tally: &mut Tally,
+    ) -> Result<Change, AllocError>
+        requires may { IsTrue (rules.may_count self.old) → MayUpdate self.old.me effects self.old.gossip }
+        requires tally { IsTallyOf tally.old self.old.gossip }
         ensures ok { IfOk result (λ change. Makes (rules.update_any effects self.old) self.new change) }
         ensures err { OnErr result (self.new ≡ self.old) }
         ensures memory { OnErr result (IsTrue (ticks.has_effect effects)) }
+        ensures tally { IsTallyOf tally.new self.new.gossip }
     {
         if effects.len() == 0 {
             return Ok(unchanged(alloc));
         }
-        self.update(alloc, effects)
+        self.update(alloc, effects, tally)
     }
 
     // A member rises to this status, without a number.
-    fn raise(&mut self, alloc: Global, who: &Unique, status: Status) -> Result<Change, AllocError>
-        requires { IsTrue (rules.may_count self.old) → MayUpdate self.old.me (Effect.Rise who.now status 0 ∷ []) self.old.gossip }
+    fn raise(
+        &mut self,
+        alloc: Global,
+        who: &Unique,
+        status: Status,
+        tally: &mut Tally,
+    ) -> Result<Change, AllocError>
+        requires may { IsTrue (rules.may_count self.old) → MayUpdate self.old.me (Effect.Rise who.now status 0 ∷ []) self.old.gossip }
+        requires tally { IsTallyOf tally.old self.old.gossip }
         ensures ok { IfOk result (λ change. Makes (rules.update (Effect.Rise who.now status 0 ∷ []) self.old) self.new change) }
         ensures err { OnErr result (IsCounting self.old × (self.new ≡ self.old)) }
+        ensures tally { IsTallyOf tally.new self.new.gossip }
     {
         if !self.may_count() {
             return Ok(unchanged(alloc));
         }
         let raised = who.copy(alloc)?;
         let effects = one(alloc, Effect::Rise(raised, status, 0))?;
-        self.update(alloc, effects)
+        self.update(alloc, effects, tally)
     }
 
-    pub(crate) fn found(&mut self, alloc: Global) -> Result<Change, AllocError>
-        requires { KnowsItself self.old.me self.old.gossip }
+    pub(crate) fn found(&mut self, alloc: Global, tally: &mut Tally) -> Result<Change, AllocError>
+        requires itself { KnowsItself self.old.me self.old.gossip }
+        requires tally { IsTallyOf tally.old self.old.gossip }
         ensures ok { IfOk result (λ change. Makes (rules.found self.old) self.new change) }
         ensures err { OnErr result (self.new ≡ self.old) }
         ensures memory { OnErr result (IsUnknown self.old) }
+        ensures tally { IsTallyOf tally.new self.new.gossip }
     {
         if self.knows(&self.me) {
             return Ok(unchanged(alloc));
@@ -226,13 +262,20 @@ impl MembershipState {
         self.gossip.invariant();
         let me = self.me.copy(alloc)?;
         let effects = one(alloc, Effect::Joined(me))?;
-        let change = self.update(alloc, effects)?;
+        let change = self.update(alloc, effects, tally)?;
         self.founder = true;
         Ok(change)
     }
 
-    pub(crate) fn leave(&mut self, alloc: Global, who: &Unique) -> Result<Change, MemberFault>
-        ensures { Answers (IsCounting self.old × IsAccepted (rules.leave who.now self.old)) (rules.leave who.now self.old) self.old result self.new }
+    pub(crate) fn leave(
+        &mut self,
+        alloc: Global,
+        who: &Unique,
+        tally: &mut Tally,
+    ) -> Result<Change, MemberFault>
+        requires tally { IsTallyOf tally.old self.old.gossip }
+        ensures answers { Answers (IsCounting self.old × IsAccepted (rules.leave who.now self.old)) (rules.leave who.now self.old) self.old result self.new }
+        ensures tally { IsTallyOf tally.new self.new.gossip }
     {
         if !self.is_member() {
             return Err(MemberFault::NotMember);
@@ -244,11 +287,18 @@ impl MembershipState {
             return Err(MemberFault::NotUp);
         }
         self.gossip.invariant();
-        or_no_memory(self.raise(alloc, who, Status::Leaving))
+        or_no_memory(self.raise(alloc, who, Status::Leaving, tally))
     }
 
-    pub(crate) fn down(&mut self, alloc: Global, who: &Unique) -> Result<Change, MemberFault>
-        ensures { Answers (MayDown who.now self.old × IsAccepted (rules.down who.now self.old)) (rules.down who.now self.old) self.old result self.new }
+    pub(crate) fn down(
+        &mut self,
+        alloc: Global,
+        who: &Unique,
+        tally: &mut Tally,
+    ) -> Result<Change, MemberFault>
+        requires tally { IsTallyOf tally.old self.old.gossip }
+        ensures answers { Answers (MayDown who.now self.old × IsAccepted (rules.down who.now self.old)) (rules.down who.now self.old) self.old result self.new }
+        ensures tally { IsTallyOf tally.new self.new.gossip }
     {
         if !self.is_member() {
             return Err(MemberFault::NotMember);
@@ -260,11 +310,18 @@ impl MembershipState {
             return Ok(unchanged(alloc));
         }
         self.gossip.invariant();
-        or_no_memory(self.raise(alloc, who, Status::Down))
+        or_no_memory(self.raise(alloc, who, Status::Down, tally))
     }
 
-    pub(crate) fn on_join(&mut self, alloc: Global, from: &Unique) -> Result<Change, MemberFault>
-        ensures { Answers (MayAdmit from.now self.old × IsAccepted (rules.on_join from.now self.old)) (rules.on_join from.now self.old) self.old result self.new }
+    pub(crate) fn on_join(
+        &mut self,
+        alloc: Global,
+        from: &Unique,
+        tally: &mut Tally,
+    ) -> Result<Change, MemberFault>
+        requires tally { IsTallyOf tally.old self.old.gossip }
+        ensures answers { Answers (MayAdmit from.now self.old × IsAccepted (rules.on_join from.now self.old)) (rules.on_join from.now self.old) self.old result self.new }
+        ensures tally { IsTallyOf tally.new self.new.gossip }
     {
         if !self.is_member() {
             return Err(MemberFault::NotMember);
@@ -281,36 +338,50 @@ impl MembershipState {
             return Ok(unchanged(alloc));
         }
         if self.has_member_beside(from) {
-            return or_no_memory(self.replace(alloc, from));
+            return or_no_memory(self.replace(alloc, from, tally));
         }
         if self.is_full() {
             self.gossip.invariant();
             let union = self.gossip.uniques() + 1;
             return Err(MemberFault::TooManyUniques { union });
         }
-        or_no_memory(self.admit(alloc, from))
+        or_no_memory(self.admit(alloc, from, tally))
     }
 
     // The members at the address of a new process go Down.
-    fn replace(&mut self, alloc: Global, from: &Unique) -> Result<Change, AllocError>
-        requires { IsTrue (rules.is_member self.old) }
+    fn replace(
+        &mut self,
+        alloc: Global,
+        from: &Unique,
+        tally: &mut Tally,
+    ) -> Result<Change, AllocError>
+        requires member { IsTrue (rules.is_member self.old) }
+        requires tally { IsTallyOf tally.old self.old.gossip }
         ensures ok { IfOk result (λ change. Makes (rules.update_any (rules.replaced from.now self.old.gossip.view.standings) self.old) self.new change) }
         ensures err { OnErr result ((IsCounting self.old × (rules.replaced from.now self.old.gossip.view.standings ≢ [])) × (self.new ≡ self.old)) }
+        ensures tally { IsTallyOf tally.new self.new.gossip }
     {
         if !self.may_count() {
             return Ok(unchanged(alloc));
         }
         self.gossip.invariant();
         let effects = downed_beside(alloc, from, self.gossip.members())?;
-        self.update_any(alloc, effects)
+        self.update_any(alloc, effects, tally)
     }
 
     // The process becomes a member, and is welcomed.
-    fn admit(&mut self, alloc: Global, from: &Unique) -> Result<Change, AllocError>
+    fn admit(
+        &mut self,
+        alloc: Global,
+        from: &Unique,
+        tally: &mut Tally,
+    ) -> Result<Change, AllocError>
         requires member { IsTrue (rules.is_member self.old) }
         requires room { false ≡ nat_le rules.most_at_join (map.len self.old.gossip.view.standings) }
+        requires tally { IsTallyOf tally.old self.old.gossip }
         ensures ok { IfOk result (λ change. Makes (rules.admitted from.now self.old) self.new change) }
         ensures err { OnErr result (IsCounting self.old × (self.new ≡ self.old)) }
+        ensures tally { IsTallyOf tally.new self.new.gossip }
     {
         if !self.may_count() {
             return Ok(unchanged(alloc));
@@ -318,7 +389,7 @@ impl MembershipState {
         self.gossip.invariant();
         let joined = from.copy(alloc)?;
         let effects = one(alloc, Effect::Joined(joined))?;
-        let mut change = self.make(alloc, effects)?;
+        let mut change = self.make(alloc, effects, tally)?;
         change.reply = Reply::Welcome;
         Ok(change)
     }
@@ -329,15 +400,18 @@ impl MembershipState {
         alloc: Global,
         incoming: &Gossip,
         at_rest: &mut bool,
+        tally: &mut Tally,
     ) -> Result<Change, MemberFault>
-        requires { RestsIf at_rest.old self.old }
+        requires rest { RestsIf at_rest.old self.old }
+        requires tally { IsTallyOf tally.old self.old.gossip }
         ensures answers { Answers (IsKnownIn incoming.now self.old) (rules.on_gossip incoming.now self.old) self.old result self.new }
         ensures rest { RestsIf at_rest.new self.new }
+        ensures tally { IsTallyOf tally.new self.new.gossip }
     {
         if !self.is_known_in(incoming) {
             return Ok(unchanged(alloc));
         }
-        match self.receive(alloc, incoming, at_rest) {
+        match self.receive(alloc, incoming, at_rest, tally) {
             Err(GossipFault::ForeignCount { own, theirs }) => {
                 return Err(MemberFault::ForeignCount { own, theirs });
             }
@@ -355,10 +429,13 @@ impl MembershipState {
         alloc: Global,
         incoming: &Gossip,
         at_rest: &mut bool,
+        tally: &mut Tally,
     ) -> Result<Received, GossipFault>
-        requires { RestsIf at_rest.old self.old }
+        requires rest { RestsIf at_rest.old self.old }
+        requires tally { IsTallyOf tally.old self.old.gossip }
         ensures received { Receives incoming.now self.old result self.new }
         ensures rest { RestsIf at_rest.new self.new }
+        ensures tally { IsTallyOf tally.new self.new.gossip }
     {
         let before = match self.gossip.copy(alloc) {
             Ok(before) => before,
@@ -366,7 +443,11 @@ impl MembershipState {
         };
         match self.gossip.receive(alloc, &self.me, incoming) {
             Ok(received) => {
-                *at_rest = *at_rest && self.stays_at_rest(received);
+                if let Err(error) = keep_received(alloc, received, &before, &self.gossip, tally) {
+                    self.gossip = before;
+                    return Err(error.into());
+                }
+                *at_rest = *at_rest && self.stays_at_rest(received, tally);
                 if is_news(received) {
                     self.moved = moves(self.moved, &before, &self.gossip);
                 }
@@ -377,11 +458,12 @@ impl MembershipState {
     }
 
     // A gossip that was received so leaves all at rest.
-    fn stays_at_rest(&self, received: Received) -> bool
+    fn stays_at_rest(&self, received: Received, tally: &Tally) -> bool
+        requires tally { IsTallyOf tally.now self.now.gossip }
         ensures { IsTrue result → LeavesAtRest received self.now }
     {
         match received {
-            Received::Same => !self.is_noted(),
+            Received::Same => !self.is_noted(tally),
             Received::Newer => false,
             Received::Older => true,
             Received::Merged => false,
@@ -417,6 +499,7 @@ impl MembershipState {
         ensures ok { OnOk result (self.new ≡ rules.on_confirmed from.now self.old) }
         ensures err { OnErr result (self.new ≡ self.old) }
         ensures memory { OnErr result (MayConfirm from.now self.old) }
+        ensures gossip { self.new.gossip ≡ self.old.gossip }
     {
         if self.has_member(from) {
             return self.confirmed.insert(alloc, from);
@@ -425,7 +508,8 @@ impl MembershipState {
     }
 
     // The founder, Joining itself, founds the cluster.
-    fn founds(&self) -> bool
+    fn founds(&self, tally: &Tally) -> bool
+        requires tally { IsTallyOf tally.now self.now.gossip }
         ensures { result ≡ ticks.founds self.now }
     {
         if !self.founder {
@@ -434,27 +518,18 @@ impl MembershipState {
         if !is_joining(self.gossip.members(), &self.me) {
             return false;
         }
-        if !converged(
-            self.gossip.members(),
-            self.gossip.rows(),
-            self.gossip.seen(),
-        ) {
+        if !tally.converged() {
             return false;
         }
         self.gossip.invariant();
         self.settings.settling() <= joining_addresses(self.gossip.members())
     }
 
-    pub(crate) fn has_settled(&self) -> bool
+    pub(crate) fn has_settled(&self, tally: &Tally) -> bool
+        requires tally { IsTallyOf tally.now self.now.gossip }
         ensures { result ≡ ticks.has_settled self.now }
     {
-        self.gossip.invariant();
-        settled_by(
-            self.settings.settling(),
-            self.gossip.members(),
-            self.gossip.rows(),
-            self.gossip.seen(),
-        )
+        tally.settled_by(self.settings.settling())
     }
 
     fn is_leader(&self) -> bool
@@ -467,37 +542,42 @@ impl MembershipState {
     }
 
     // The node leads, in a settled view.
-    fn leads(&self) -> bool
+    fn leads(&self, tally: &Tally) -> bool
+        requires tally { IsTallyOf tally.now self.now.gossip }
         ensures { result ≡ ticks.leads self.now }
     {
-        if self.has_settled() {
+        if self.has_settled(tally) {
             return self.is_leader();
         }
         false
     }
 
     // The Joining members become the first that are Up.
-    fn establish(&mut self, alloc: Global) -> Result<Change, AllocError>
-        requires { IsTrue (rules.is_member self.old) }
+    fn establish(&mut self, alloc: Global, tally: &mut Tally) -> Result<Change, AllocError>
+        requires member { IsTrue (rules.is_member self.old) }
+        requires tally { IsTallyOf tally.old self.old.gossip }
         ensures ok { IfOk result (λ change. Makes (rules.update (leads.founding_effects self.old.gossip.view.standings) self.old) self.new change) }
         ensures err { OnErr result (self.new ≡ self.old) }
+        ensures tally { IsTallyOf tally.new self.new.gossip }
     {
         self.gossip.invariant();
         let effects = founding(alloc, self.gossip.members())?;
-        self.update(alloc, effects)
+        self.update(alloc, effects, tally)
     }
 
     // What the leader does.
-    fn lead(&mut self, alloc: Global) -> Result<Change, AllocError>
+    fn lead(&mut self, alloc: Global, tally: &mut Tally) -> Result<Change, AllocError>
         requires member { IsTrue (rules.is_member self.old) }
         requires leads { true ≡ ticks.leads self.old }
+        requires tally { IsTallyOf tally.old self.old.gossip }
         ensures ok { IfOk result (λ change. Makes (rules.update_any (leads.leaders_effects self.old.gossip.view self.old.confirmed) self.old) self.new change) }
         ensures err { OnErr result (self.new ≡ self.old) }
         ensures memory { OnErr result (IsTrue (ticks.has_effect (leads.leaders_effects self.old.gossip.view self.old.confirmed))) }
+        ensures tally { IsTallyOf tally.new self.new.gossip }
     {
         self.gossip.invariant();
         let effects = self.leaders_effects(alloc)?;
-        self.update_any(alloc, effects)
+        self.update_any(alloc, effects, tally)
     }
 
     fn leaders_effects(&self, alloc: Global) -> Result<Effects, AllocError>
@@ -522,16 +602,18 @@ impl MembershipState {
     }
 
     // The node observes whom it finds silent.
-    fn observe(&mut self, alloc: Global) -> Result<Change, AllocError>
+    fn observe(&mut self, alloc: Global, tally: &mut Tally) -> Result<Change, AllocError>
         requires member { IsTrue (rules.is_member self.old) }
         requires watching { IsWatching self.old }
+        requires tally { IsTallyOf tally.old self.old.gossip }
         ensures ok { IfOk result (λ change. Makes (rules.update (Effect.Observed (ticks.silent self.old) ∷ []) self.old) self.new change) }
         ensures err { OnErr result (self.new ≡ self.old) }
+        ensures tally { IsTallyOf tally.new self.new.gossip }
     {
         self.gossip.invariant();
         let silent = self.silent(alloc)?;
         let effects = one(alloc, Effect::Observed(silent))?;
-        self.update(alloc, effects)
+        self.update(alloc, effects, tally)
     }
 
     // How long the view stood still with this tick.
@@ -573,38 +655,42 @@ impl MembershipState {
     }
 
     // Whom the decision is against goes Down.
-    fn resolve(&mut self, alloc: Global) -> Result<Change, AllocError>
-        requires { IsTrue (rules.is_member self.old) }
+    fn resolve(&mut self, alloc: Global, tally: &mut Tally) -> Result<Change, AllocError>
+        requires member { IsTrue (rules.is_member self.old) }
+        requires tally { IsTallyOf tally.old self.old.gossip }
         ensures ok { IfOk result (λ change. Makes (rules.update (ticks.decided self.old) self.old) self.new change) }
         ensures err { OnErr result (self.new ≡ self.old) }
+        ensures tally { IsTallyOf tally.new self.new.gossip }
     {
         self.gossip.invariant();
         let effects = self.decided(alloc)?;
-        self.update(alloc, effects)
+        self.update(alloc, effects, tally)
     }
 
     // At most one update, the first that applies, where a number is left for it.
-    fn updates(&mut self, alloc: Global) -> Result<Change, AllocError>
+    fn updates(&mut self, alloc: Global, tally: &mut Tally) -> Result<Change, AllocError>
         requires member { IsTrue (rules.is_member self.old) }
         requires watching { IsWatching self.old }
+        requires tally { IsTallyOf tally.old self.old.gossip }
         ensures ok { IfOk result (λ change. Makes (ticks.updates self.old) self.new change) }
         ensures err { OnErr result (self.new ≡ self.old) }
         ensures memory { OnErr result (IsTrue (ticks.is_due self.old)) }
+        ensures tally { IsTallyOf tally.new self.new.gossip }
     {
         if !self.may_count() {
             return Ok(unchanged(alloc));
         }
         if self.observes() {
-            return self.observe(alloc);
+            return self.observe(alloc, tally);
         }
         if self.decides() {
-            return self.resolve(alloc);
+            return self.resolve(alloc, tally);
         }
-        if self.founds() {
-            return self.establish(alloc);
+        if self.founds(tally) {
+            return self.establish(alloc, tally);
         }
-        if self.leads() {
-            return self.lead(alloc);
+        if self.leads(tally) {
+            return self.lead(alloc, tally);
         }
         Ok(unchanged(alloc))
     }
@@ -621,17 +707,19 @@ impl MembershipState {
         self.detector.tick(self.settings.deadline);
     }
 
-    pub(crate) fn tick(&mut self, alloc: Global) -> Result<Change, AllocError>
+    pub(crate) fn tick(&mut self, alloc: Global, tally: &mut Tally) -> Result<Change, AllocError>
         requires ticks { self.old.ticks < 2 ^ 62 }
         requires watching { IsWatching self.old }
+        requires tally { IsTallyOf tally.old self.old.gossip }
         ensures ok { IfOk result (λ change. Makes (ticks.tick self.old) self.new change) }
         ensures err { OnErr result (self.new ≡ self.old) }
         ensures memory { OnErr result (IsTrue (rules.is_member self.old) × IsTrue (ticks.is_due self.old)) }
+        ensures tally { IsTallyOf tally.new self.new.gossip }
     {
         if !self.is_member() {
             return Ok(unchanged(alloc));
         }
-        let change = self.updates(alloc)?;
+        let change = self.updates(alloc, tally)?;
         self.count();
         Ok(change)
     }
@@ -664,9 +752,11 @@ impl MembershipState {
         seen < members && seen < members - seen
     }
 
-    pub(crate) fn forget(&mut self, alloc: Global)
-        ensures { self.new ≡ rules.started self.old.me self.old.settings }
+    pub(crate) fn forget(&mut self, alloc: Global, tally: &mut Tally)
+        ensures forgot { self.new ≡ rules.started self.old.me self.old.settings }
+        ensures tally { IsTallyOf tally.new self.new.gossip }
     {
+        *tally = Tally::empty(alloc);
         self.gossip = Gossip::empty(alloc);
         self.shown = Version::empty(alloc);
         self.founder = false;

@@ -10,6 +10,7 @@ pub invariant_of-self : goal.invariant_of-self
 invariant_of-self c = (
   made_keeps c.self.inside.state c.found.new.self c.self.invariant.0 (record { founds = true; asks = None; brings = None }) (found c.self.inside.state) c.found.result (found_learns _ c.self.inside.state refl) c.found.ensures.ok c.found.ensures.err,
   λ is. absurd (true≢false (sym is)),
+  c.found.ensures.tally,
 )
 
 pub returns-clause-same : goal.returns-clause-same

@@ -11,15 +11,16 @@ use Rattle.ak_membership.proofs.membership.Membership.leave.Goals.{then-self, el
 
 pub invariant_of-self : goal.invariant_of-self
 invariant_of-self c = (
-  answered_keeps c.self.inside.state c.leave-done.new.self c.self.invariant.0 nothing_given _ _ c.leave-done.result (leave_learns nothing_given c.self.inside.state c.args.who.now) c.leave-done.ensures,
+  answered_keeps c.self.inside.state c.leave-done.new.self c.self.invariant.0 nothing_given _ _ c.leave-done.result (leave_learns nothing_given c.self.inside.state c.args.who.now) c.leave-done.ensures.answers,
   λ rests. elim c.if-self.branch [
-    | then-self w ↦ rests_left c.args.who.now c.self.inside.state c.leave-done.new.self _ c.leave-done.result c.leave-done.ensures (sym w.makes_none-self-inside.ensures ∙ sym w.self-is ∙ rests) (c.self.invariant.1 w.if-self.true)
+    | then-self w ↦ rests_left c.args.who.now c.self.inside.state c.leave-done.new.self _ c.leave-done.result c.leave-done.ensures.answers (sym w.makes_none-self-inside.ensures ∙ sym w.self-is ∙ rests) (c.self.invariant.1 w.if-self.true)
     | else-self w ↦ absurd (true≢false (sym rests ∙ w.self-is ∙ w.if-self.false))
   ],
+  c.leave-done.ensures.tally,
 )
 
 pub returns-clause-answers : goal.returns-clause-answers
-returns-clause-answers c = subst (λ (m : MembershipState). Answers (IsCounting m × IsAccepted (leave c.args.who.now m)) (leave c.args.who.now m) m c.leave-done.result c.leave-done.new.self) c.self.view_is c.leave-done.ensures
+returns-clause-answers c = subst (λ (m : MembershipState). Answers (IsCounting m × IsAccepted (leave c.args.who.now m)) (leave c.args.who.now m) m c.leave-done.result c.leave-done.new.self) c.self.view_is c.leave-done.ensures.answers
 
 pub returns-clause-same : goal.returns-clause-same
-returns-clause-same c = subst (λ (m : MembershipState). IsSameProcess m c.leave-done.new.self) c.self.view_is (answered_same c.self.inside.state c.leave-done.new.self nothing_given _ _ c.leave-done.result (leave_learns nothing_given c.self.inside.state c.args.who.now) c.leave-done.ensures)
+returns-clause-same c = subst (λ (m : MembershipState). IsSameProcess m c.leave-done.new.self) c.self.view_is (answered_same c.self.inside.state c.leave-done.new.self nothing_given _ _ c.leave-done.result (leave_learns nothing_given c.self.inside.state c.args.who.now) c.leave-done.ensures.answers)

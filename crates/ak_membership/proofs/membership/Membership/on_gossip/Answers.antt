@@ -10,6 +10,7 @@ pub invariant_of-self : goal.invariant_of-self
 invariant_of-self c = (
   answered_keeps c.self.inside.state c.on_gossip.new.self c.self.invariant.0 (record { founds = false; asks = None; brings = Some c.args.incoming.now }) _ _ c.on_gossip.result (gossip_learns _ c.self.inside.state c.args.incoming.now refl) c.on_gossip.ensures.answers,
   c.on_gossip.ensures.rest,
+  c.on_gossip.ensures.tally,
 )
 
 pub returns-clause-answers : goal.returns-clause-answers

@@ -15,6 +15,7 @@ invariant_of-self c =
     let same = (c.in_err-change.ensures {u = tt}).err in (
       made_keeps c.self.inside.state c.tick.new.self c.self.invariant.0 nothing_given (tick c.self.inside.state) c.tick.result (tick_learns nothing_given c.self.inside.state) c.tick.ensures.ok c.tick.ensures.err,
       λ rests. subst IsAtRest (sym same) (c.self.invariant.1 rests),
+      c.tick.ensures.tally,
     )
 
 pub invariant_of-self-2 : goal.invariant_of-self-2
@@ -27,6 +28,7 @@ invariant_of-self-2 c = (
         subst IsAtRest (sym made.state_after) (rests_ticked c.self.inside.state (ap (λ (change : Change). change.number) (sym made.change_told) ∙ none) (c.self.invariant.1 w.if-self.true))
     | else-self w ↦ absurd (true≢false (sym rests ∙ w.self-is ∙ w.if-self.false))
   ],
+  c.tick.ensures.tally,
 )
 
 pub returns-clause-same : goal.returns-clause-same

@@ -3,8 +3,8 @@ use Rattle.ak_membership.proofs.EffectLemmas.{effect_there}
 use Rattle.ak_membership.proofs.RuleLemmas.{may_lead}
 use Rattle.ak_membership.proofs.state.MembershipState.lead.Goals as goal
 
-pub update_any-requires : goal.update_any-requires
-update_any-requires c = may_lead c.args.self.now c.invariant.ensures c.in_ok-effects.effects c.requires.member c.requires.leads (c.in_ok-effects.ensures {u = tt}).ok
+pub update_any-requires-clause-may : goal.update_any-requires-clause-may
+update_any-requires-clause-may c = may_lead c.args.self.now c.invariant.ensures c.in_ok-effects.effects c.requires.member c.requires.leads (c.in_ok-effects.ensures {u = tt}).ok
 
 -- where it fails, there is an effect
 pub returns-in_err-effects-clause-memory : goal.returns-in_err-effects-clause-memory
