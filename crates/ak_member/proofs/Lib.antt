@@ -1,3 +1,5 @@
+pub mod AgeLemmas
+pub mod AgedSlots
 pub mod ByAgeLaws
 pub mod CountedLaws
 pub mod Folds

@@ -1,6 +1,6 @@
 -- The oldest of the counted members: found along the pairs, and what it is.
-use Rattle.std.proofs.Common.{◌≡◌, ℕ, ◌+◌, ◌<◌, ◌≤◌, true, false, cond, ltb, T, IsTrue, List, [], ◌∷◌, ◌++◌, length, drop, slice_get, Option, Some, None, option_map, option_to_list, ◌⊎◌, inl, inr, refl, sym, ap, ◌∙◌, append_assoc, append-nil, subst, arith, true≢false}
-use Rattle.std.proofs.lemmas.Bool.{ltb-true, ltb-false, lt-ltb, le-ltb}
+use Rattle.std.proofs.Common.{◌≡◌, ℕ, ◌<◌, ◌≤◌, true, false, cond, ltb, T, IsTrue, List, [], ◌∷◌, ◌++◌, Option, Some, None, option_map, ◌⊎◌, inl, inr, refl, sym, ap, ◌∙◌, subst, arith, true≢false}
+use Rattle.std.proofs.lemmas.Bool.{ltb-true, ltb-false}
 use Rattle.std.proofs.lemmas.Option.{same_Some, none-some}
 use Rattle.std.specs.declared.cmp.Ordering.TheVariants.{Less}
 use Rattle.std.specs.Ordering.{eq_by_cmp}
@@ -14,7 +14,7 @@ use Rattle.ak_member.specs.declared.standing.Standing.{Standing}
 use Rattle.ak_member.specs.declared.standing.Standing.TheVariants.{Member, Buried}
 use Rattle.ak_member.specs.Standing.{Standings, as_member, member_of, member_pairs, members_of}
 use Rattle.ak_member.specs.Age.{counts, counted_pairs, older_pair, least_pair, IsOldest}
-use Rattle.ak_member.proofs.MemberLemmas.{KeepsPairs, kept_pair, kept_at_end}
+use Rattle.ak_member.proofs.MemberLemmas.{KeepsPairs}
 
 -- ---- along the pairs
 -- the counted ones among the pairs of a table
@@ -30,59 +30,6 @@ keeps_counted = record { none = refl; more = more }
     more : (x : UniqueModel × Standing) (xs : List (UniqueModel × Standing)) → counted_among (x ∷ xs) ≡ counted_among (x ∷ []) ++ counted_among xs
     more (who, Member status number) xs = counted_more (who, (status, number)) (member_pairs xs)
     more (who, Buried confirmed) xs = refl
-
--- the older of two, the first at equal numbers
-abbrev earlier : Option (UniqueModel × ℕ) → Option (UniqueModel × ℕ) → Option (UniqueModel × ℕ)
-earlier None b = b
-earlier (Some pair) b = older_pair pair b
-
-older_grouped : (x y z : UniqueModel × ℕ) → older_pair x (older_pair y (Some z)) ≡ earlier (older_pair x (Some y)) (Some z)
-older_grouped x y z =
-    elim (ltb z.1 y.1) as (λ b. ltb z.1 y.1 ≡ b → older_pair x (cond b (Some z) (Some y)) ≡ earlier (older_pair x (Some y)) (Some z)) [
-      | true ↦ λ first.
-          elim (ltb y.1 x.1) as (λ b. ltb y.1 x.1 ≡ b → older_pair x (Some z) ≡ earlier (cond b (Some y) (Some x)) (Some z)) [
-            | true ↦ λ second. let l = ltb-true _ _ first in let m = ltb-true _ _ second in ap (λ b. cond b (Some z) (Some x)) (lt-ltb z.1 x.1 (omega arith)) ∙ sym (ap (λ b. cond b (Some z) (Some y)) first)
-            | false ↦ λ second. refl
-          ] refl
-      | false ↦ λ first.
-          elim (ltb y.1 x.1) as (λ b. ltb y.1 x.1 ≡ b → cond b (Some y) (Some x) ≡ earlier (cond b (Some y) (Some x)) (Some z)) [
-            | true ↦ λ second. sym (ap (λ b. cond b (Some z) (Some y)) first)
-            | false ↦ λ second. let l = ltb-false _ _ first in let m = ltb-false _ _ second in sym (ap (λ b. cond b (Some z) (Some x)) (le-ltb z.1 x.1 (omega arith)))
-          ] refl
-    ] refl
-
-earlier_grouped : (x : UniqueModel × ℕ) (a b : Option (UniqueModel × ℕ)) → older_pair x (earlier a b) ≡ earlier (older_pair x a) b
-earlier_grouped x None b = refl
-earlier_grouped x (Some y) None = elim (ltb y.1 x.1) as (λ t. cond t (Some y) (Some x) ≡ earlier (cond t (Some y) (Some x)) None) [ true ↦ refl | false ↦ refl ]
-earlier_grouped x (Some y) (Some z) = older_grouped x y z
-
-least-append : (xs ys : List (UniqueModel × ℕ)) → least_pair (xs ++ ys) ≡ earlier (least_pair xs) (least_pair ys)
-least-append [] ys = refl
-least-append (x ∷ xs) ys = ap (older_pair x) (least-append xs ys) ∙ earlier_grouped x (least_pair xs) (least_pair ys)
-
-itself : (a : Option (UniqueModel × ℕ)) → least_pair (option_to_list a) ≡ a
-itself None = refl
-itself (Some x) = refl
-
--- the least so far, and those of the pairs that are left
-pub least_more : {Z W : Type 0} (v : Z → UniqueModel × ℕ) (a : Option Z) (o : Option W) (w : W → UniqueModel × ℕ) (b : Option Z) (es : List (UniqueModel × Standing)) (i : ℕ) (least : Option (UniqueModel × ℕ))
-    → option_to_list (option_map w o) ≡ counted_among (option_to_list (slice_get es i))
-    → option_map v b ≡ least_pair (option_to_list (option_map v a) ++ option_to_list (option_map w o))
-    → least_pair (option_to_list (option_map v a) ++ counted_among (drop i es)) ≡ least
-    → least_pair (option_to_list (option_map v b) ++ counted_among (drop (i + 1) es)) ≡ least
-least_more v a o w b es i least pair best so_far =
-    let xs = option_to_list (option_map v a) in
-    let ys = option_to_list (option_map w o) in
-    let rest = counted_among (drop (i + 1) es) in
-    least-append (option_to_list (option_map v b)) rest
-    ∙ ap (λ r. earlier r (least_pair rest)) (itself (option_map v b) ∙ best)
-    ∙ sym (least-append (xs ++ ys) rest)
-    ∙ ap least_pair (append_assoc xs ys rest ∙ ap (λ l. xs ++ l) (sym (kept_pair counted_among keeps_counted es i (option_map w o) pair)))
-    ∙ so_far
-
-pub least_at_end : (a : Option (UniqueModel × ℕ)) (es : List (UniqueModel × Standing)) (i : ℕ) (least : Option (UniqueModel × ℕ)) → length es ≤ i → least_pair (option_to_list a ++ counted_among (drop i es)) ≡ least → a ≡ least
-least_at_end a es i least past so_far =
-    sym (itself a) ∙ sym (ap least_pair (append-nil (option_to_list a))) ∙ ap (λ l. least_pair (option_to_list a ++ l)) (sym (kept_at_end counted_among keeps_counted es i past)) ∙ so_far
 
 -- ---- what it is
 -- a counted member among these pairs, with its number

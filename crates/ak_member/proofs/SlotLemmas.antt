@@ -38,6 +38,9 @@ same_laws = on_equiv unique_key nat_list_eq_equiv
 ties : (u v : UniqueModel) → same_unique u v ≡ eq_by_cmp unique_cmp u v
 ties u v = sym (unique_keys u v (eq_by_cmp unique_cmp u v) (same_key u v, λ same. ap (eq_by_cmp unique_cmp u) (sym same) ∙ key_itself u))
 
+pub same_as_ties : (u v : UniqueModel) → same_unique u v ≡ eq_by_cmp unique_cmp u v
+same_as_ties = ties
+
 -- ---- what is found by a hash
 found_by_key : (q : UniqueModel) (slots : List Slot) → lookup (same_unique q) slots ≡ map.find unique_cmp q slots
 found_by_key q [] = refl
@@ -288,3 +291,7 @@ pub copied_past : (slots : List Slot) (i : ℕ) (next : List Slot) → None ≡ 
 copied_past slots i next none so_far =
     let more : suc i ≡ i + 1 = omega arith in
     so_far ∙ sym (take_past slots i none) ∙ ap (λ n. take n slots) more
+
+-- what is in a slot is known
+pub found_by_slot : (slots : List Slot) (i : ℕ) (who : UniqueModel) (x : Standing) → IsDistinct same_unique (keys_of slots) → slice_get slots i ≡ Some (who, x) → map.get (standings_of slots) who ≡ Some x
+found_by_slot slots i who x apart at = sym (found_in who slots) ∙ found_at who x slots i x apart at

@@ -1,4 +1,5 @@
 pub mod Age
+pub mod Ages
 pub mod Indices
 pub mod Merging
 pub mod Slots

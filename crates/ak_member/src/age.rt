@@ -18,10 +18,7 @@ impl Members {
         ensures value { option_copied result ≡ oldest self.now }
         ensures meaning { IsOldest self.now (option_copied result) }
     {
-        match oldest_pair(self) {
-            Some((unique, _)) => Some(unique),
-            None => None,
-        }
+        self.first_by_age()
     }
 
     /// The indices among the members of the Up and Leaving ones, the oldest first, each once (Akka's "Cluster Singleton"
@@ -83,35 +80,6 @@ fn counted_one<'a>(member: &Member<'a>) -> Option<(&'a Unique, u64)>
         return Some((member.unique, member.up_number));
     }
     None
-}
-
-fn oldest_pair(members: &Members) -> Option<(&Unique, u64)>
-    ensures { option_map (λ r. (r.0.now, r.1)) result ≡ least_pair (counted_pairs (members_of members.now)) }
-{
-    let mut oldest = None;
-    'pairs: for pair in 0..members.uniques() {
-        oldest = older(oldest, members.counted_at_pair(pair));
-    }
-    oldest
-}
-
-// The one with the lesser number, at equal numbers the first.
-fn older<'a>(
-    first: Option<(&'a Unique, u64)>,
-    second: Option<(&'a Unique, u64)>,
-) -> Option<(&'a Unique, u64)>
-    ensures { option_map (λ r. (r.0.now, r.1)) result ≡ least_pair (option_to_list (option_map (λ r. (r.0.now, r.1)) first.entry) ++ option_to_list (option_map (λ r. (r.0.now, r.1)) second.entry)) }
-{
-    match (first, second) {
-        (Some((one, number)), Some((other, later))) => {
-            if later < number {
-                return Some((other, later));
-            }
-            Some((one, number))
-        }
-        (Some(first), None) => Some(first),
-        (None, second) => second,
-    }
 }
 
 // The up number and the index of each member that counts, in the order of indices.

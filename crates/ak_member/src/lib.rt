@@ -3,6 +3,7 @@
 #![tactic(auto)]
 
 mod age;
+mod ages;
 mod effect;
 mod laws;
 mod members;

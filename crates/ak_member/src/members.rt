@@ -1,8 +1,9 @@
-ghost use Rattle.std.specs.Prelude.{◌≡◌, All, IsTrue, IfOk, OnOk, OnErr, IsOk, IsSome, length, slice_get, option_map, option_to_list, ◌+◌, ℕ};
+ghost use Rattle.std.specs.Prelude.{◌≡◌, All, IsTrue, IfOk, OnOk, OnErr, IsOk, IsSome, length, slice_get, option_map, option_copied, option_to_list, ◌+◌, ℕ};
 ghost use Rattle.std.specs.FinMap as map;
 ghost use Rattle.ak_address.specs.Pairs.{index};
 ghost use Rattle.ak_address.specs.Unique.{UniqueModel, unique_cmp};
 ghost use Rattle.ak_member.specs.declared.status.Status.{Status};
+ghost use Rattle.ak_member.specs.Age.{IsOldest};
 ghost use Rattle.ak_member.specs.Standing.{nobody, merged_standings, known, member_pairs, tombstone_pairs, raised, buried, is_gone, is_up, is_exiting, is_member_with, member_of, tombstone_of, members_of, tombstones_of};
 ghost use Rattle.ak_member.specs.View.{after_effect, after_effects, IsAboutKnown};
 
@@ -265,6 +266,13 @@ impl Members {
         ensures { IsTrue result → self.now ≡ other.now }
     {
         self.slots.has_slots_of(&other.slots)
+    }
+
+    // The first in the list by age. Takes no memory.
+    pub(crate) fn first_by_age(&self) -> Option<&Unique>
+        ensures { IsOldest self.now (option_copied result) }
+    {
+        self.slots.oldest()
     }
 
     // Merges the standing with what is known of the process. After an error the members are as they were; a process

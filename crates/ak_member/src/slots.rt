@@ -6,8 +6,10 @@ ghost use Rattle.std.specs.FinMap as map;
 ghost use Rattle.ak_address.specs.Unique.{UniqueModel, unique_cmp};
 ghost use Rattle.ak_address.specs.Pairs.{index};
 ghost use Rattle.ak_member.specs.declared.standing.Standing.{Standing};
+ghost use Rattle.ak_member.specs.Age.{IsOldest};
 ghost use Rattle.ak_member.specs.Slots.{standings_of, picked, no_slot};
 
+use crate::ages::{enter, leave};
 use crate::standing::Standing;
 use ak_address::Unique;
 use indexmap::IndexMap;
@@ -15,27 +17,31 @@ use std::alloc::{AllocError, Global};
 use std::marker::Model;
 
 /// Processes, each in a slot with its standing: the slots are numbered from 0 on in the order in which processes came, a process
-/// is found by its hash, and the places of the slots are kept in the order of processes (this project's choice).
+/// is found by its hash, and the places of the slots are kept in the order of processes, and those of the members that count also by
+/// age (this project's choice).
 #[derive(Drop)]
 pub(crate) struct Slots {
     slots: IndexMap<Unique, Standing>,
     order: Vec<usize>,
+    by_age: Vec<usize>,
 }
 
 impl Model for Slots {
-    ghost use Rattle.std.specs.Prelude.{min, ◌-◌};
     ghost use Rattle.std.specs.HashMap.{spare};
-    ghost use Rattle.ak_member.specs.Slots.{SlotsModel, coded_slots, InOrder};
+    ghost use Rattle.ak_member.specs.Ages.{KeepsSlots};
+    ghost use Rattle.ak_member.specs.Slots.{SlotsModel, coded_slots};
+    ghost use Rattle.std.specs.Prelude.{min, ◌-◌, length};
 
     ghost Value = { SlotsModel };
 
     ghost coded = { coded_slots };
 
-    ghost view = { λ s. record { entries = s.slots.entries; room = min (spare s.slots) (s.order.cap - s.order.len) } };
+    ghost view = { λ s. record { entries = s.slots.entries; room = min (spare s.slots) (min (s.order.cap - s.order.len) (s.by_age.cap - length s.slots.entries)) } };
 
     // Each slot has one place, and the places go by process: so an index in the order of processes is one look, and a process is
-    // placed by halves.
-    ghost invariant = { λ s. InOrder s.slots.entries s.order.items };
+    // placed by halves. Those that count stand once in the list by age, the oldest first: so the oldest is the first. That list has
+    // room for all slots: so a rise takes no memory.
+    ghost invariant = { λ s. KeepsSlots s.slots.entries s.order.items s.by_age.items s.by_age.cap };
 }
 
 impl Slots {
@@ -46,6 +52,7 @@ impl Slots {
         Slots {
             slots: IndexMap::new(alloc),
             order: Vec::new(alloc),
+            by_age: Vec::new(alloc),
         }
     }
 
@@ -56,7 +63,12 @@ impl Slots {
     {
         let slots = IndexMap::with_capacity(alloc, many)?;
         let order = Vec::with_capacity(alloc, many)?;
-        Ok(Slots { slots, order })
+        let by_age = Vec::with_capacity(alloc, many)?;
+        Ok(Slots {
+            slots,
+            order,
+            by_age,
+        })
     }
 
     /// How many processes are known.
@@ -121,6 +133,8 @@ impl Slots {
         ensures ok { OnOk result (more ≤ self.new.room) }
     {
         self.order.reserve(more)?;
+        self.by_age
+            .reserve(self.slots.len() - self.by_age.len() + more)?;
         self.slots.reserve(more)
     }
 
@@ -135,9 +149,11 @@ impl Slots {
     {
         let index = new_index(&self.slots, &self.order, &who);
         let slot = self.slots.len();
+        self.by_age.reserve(slot - self.by_age.len() + 1)?;
         self.order.reserve(1)?;
         self.slots.insert(who, standing)?;
         self.order.insert(index, slot)?;
+        enter(&self.slots, &mut self.by_age, slot);
         Ok(())
     }
 
@@ -147,8 +163,21 @@ impl Slots {
         ensures room { self.new.room ≡ self.old.room }
         ensures known { (who : UniqueModel) (x : Standing) → slice_get self.old.entries slot ≡ Some (who, x) → standings_of self.new.entries ≡ map.insert (standings_of self.old.entries) who standing }
     {
+        leave(&self.slots, &mut self.by_age, slot);
         let (_, known) = self.slots.pair_mut(slot);
         *known = standing;
+        enter(&self.slots, &mut self.by_age, slot);
+    }
+
+    /// The oldest of the members that count; none where none counts. Takes no memory.
+    pub(crate) fn oldest(&self) -> Option<&Unique>
+        ensures { IsOldest (standings_of self.now.entries) (option_copied result) }
+    {
+        let _ = self.slots.len();
+        match self.by_age.first() {
+            Some(slot) => process_of(&self.slots, *slot),
+            None => None,
+        }
     }
 
     /// Whether both have the same processes in the same slots, and know the same of each. Takes no memory.
@@ -169,7 +198,23 @@ impl Slots {
         let slots = copied(alloc, &self.slots)?;
         let mut order = Vec::with_capacity(alloc, self.order.len())?;
         order.extend_from_slice(&self.order)?;
-        Ok(Slots { slots, order })
+        let mut by_age = Vec::with_capacity(alloc, slots.len())?;
+        by_age.extend_from_slice(&self.by_age)?;
+        Ok(Slots {
+            slots,
+            order,
+            by_age,
+        })
+    }
+}
+
+// The process of a slot.
+fn process_of(slots: &IndexMap<Unique, Standing>, slot: usize) -> Option<&Unique>
+    ensures { option_copied result ≡ option_map {T = UniqueModel × Standing} (λ pair. pair.0) (slice_get slots.now.entries slot) }
+{
+    match slots.get_index(slot) {
+        Some((who, _)) => Some(who),
+        None => None,
     }
 }
 
