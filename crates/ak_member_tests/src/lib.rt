@@ -17,6 +17,8 @@ mod spelling;
 #[cfg(test)]
 mod table;
 #[cfg(test)]
+mod tally;
+#[cfg(test)]
 mod unreachable;
 #[cfg(test)]
 mod version;

@@ -174,3 +174,26 @@ fn effects_are_applied_in_order(rt: HostRuntime) -> Result<(), Fail> {
     assert!(rt; are_applied(rt.alloc(), &effects)?);
     Ok(())
 }
+
+// Whether two views know the same, and so the other way round.
+fn are_same(
+    alloc: Global,
+    own: &[(&str, Standing)],
+    other: &[(&str, Standing)],
+) -> Result<bool, Fail> {
+    let own = members_of(alloc, own)?;
+    let other = members_of(alloc, other)?;
+    Ok(own.is(&other) && other.is(&own))
+}
+
+#[test]
+fn views_are_the_same_in_whichever_order_processes_came(rt: HostRuntime) -> Result<(), Fail> {
+    let pairs = [("a:1#1", up(1)), ("b:1#1", Standing::Buried(false))];
+    let turned = [("b:1#1", Standing::Buried(false)), ("a:1#1", up(1))];
+    let confirmed = [("a:1#1", up(1)), ("b:1#1", Standing::Buried(true))];
+    assert!(rt; are_same(rt.alloc(), &pairs, &pairs)?);
+    assert!(rt; are_same(rt.alloc(), &pairs, &turned)?);
+    assert!(rt; !are_same(rt.alloc(), &pairs, &confirmed)?);
+    assert!(rt; !are_same(rt.alloc(), &pairs, &[("a:1#1", up(1))])?);
+    Ok(())
+}

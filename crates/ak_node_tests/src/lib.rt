@@ -1,5 +1,7 @@
-//! What a node does with an event.
+//! What a node does with an event, and the numbers that its membership keeps.
 #![tactic(auto)]
 
+#[cfg(test)]
+mod membership;
 #[cfg(test)]
 mod node;
