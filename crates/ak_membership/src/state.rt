@@ -160,7 +160,7 @@ impl MembershipState {
         self.gossip.version().count(&self.me) < BOUND
     }
 
-    // The next update, by these effects.
+    // The next update, by these effects. Where the tally finds no memory the gossip goes back to what it was.
     fn make(
         &mut self,
         alloc: Global,
@@ -423,7 +423,8 @@ impl MembershipState {
         }
     }
 
-    // Accepts a gossip, unless it is refused. What moves is found beside a copy, which shares all with what was known.
+    // Accepts a gossip, unless it is refused. What moves is found beside a copy, which shares all with what was known; to it the
+    // gossip goes back where its tally finds no memory.
     fn receive(
         &mut self,
         alloc: Global,
