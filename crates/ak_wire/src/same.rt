@@ -2,6 +2,7 @@ ghost use Rattle.std.specs.Prelude.{◌≡◌, ◌↔◌, IsTrue};
 ghost use Rattle.std.specs.Option.{option_copied, option_map};
 ghost use Rattle.ak_address.specs.Unique.{UniqueModel};
 ghost use Rattle.ak_member.specs.View as shown;
+ghost use Rattle.ak_member.specs.declared.standing.Standing as kept;
 
 use crate::reports::Reports;
 use ak_address::{Text, Unique, Uniques};
@@ -43,15 +44,18 @@ impl Same for Version {
     }
 }
 
-impl Same for (Unique, Standing) {
-    fn is_same(&self, other: &(Unique, Standing)) -> bool {
-        self.1 == other.1 && self.0.is(&other.0)
-    }
-}
-
 impl Same for Members {
     fn is_same(&self, other: &Members) -> bool {
-        are_same(self.pairs(), other.pairs())
+        let many = self.uniques();
+        if other.uniques() != many {
+            return false;
+        }
+        'pairs: for index in 0..many {
+            if !is_same_pair(self.pair(index), other.pair(index)) {
+                return false;
+            }
+        }
+        true
     }
 }
 
@@ -119,6 +123,19 @@ pub(crate) fn is_same_option<T: Same>(one: Option<&T>, other: Option<&T>) -> boo
     match (one, other) {
         (None, None) => true,
         (Some(one), Some(other)) => one.is_same(other),
+        _ => false,
+    }
+}
+
+// Whether both are none, or both the same process with the same standing.
+fn is_same_pair(one: Option<(&Unique, Standing)>, other: Option<(&Unique, Standing)>) -> bool
+    ensures { IsTrue result ↔ option_map {U = UniqueModel × kept.Standing} (λ pair. (pair.0.now, pair.1)) one.entry ≡ option_map {U = UniqueModel × kept.Standing} (λ pair. (pair.0.now, pair.1)) other.entry }
+{
+    match (one, other) {
+        (None, None) => true,
+        (Some((one, standing)), Some((other, other_standing))) => {
+            standing == other_standing && one.is(other)
+        }
         _ => false,
     }
 }

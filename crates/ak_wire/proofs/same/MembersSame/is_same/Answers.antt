@@ -1,9 +1,14 @@
-use Rattle.std.proofs.Common.{sym, ap, ◌∙◌}
+use Rattle.std.proofs.Common.{refl, arith}
 use Rattle.std.specs.FinMap as map
+use Rattle.ak_wire.proofs.SameLemmas.{same_elements}
 use Rattle.ak_wire.proofs.same.MembersSame.is_same.Goals as goal
 
 pub returns : goal.returns
-returns c = (
-  λ yes. map.same_entries_map c.args.self.now c.args.other.now (sym c.pairs.ensures ∙ c.are_same.ensures.0 yes ∙ c.pairs-2.ensures),
-  λ same. c.are_same.ensures.1 (c.pairs.ensures ∙ ap map.entries same ∙ sym c.pairs-2.ensures),
-)
+returns c =
+    let own = map.len-entries c.args.self.now in
+    let others = map.len-entries c.args.other.now in (
+      λ _.
+          map.same_entries_map c.args.self.now c.args.other.now
+          (same_elements (map.entries c.args.self.now) (map.entries c.args.other.now) (omega (arith, own, others, c.if-uniques-many.false)) (λ k lt. c.pairs.invariant k (omega (arith, lt, own, c.pairs-test.false)))),
+      λ _. refl,
+    )
