@@ -207,3 +207,15 @@ nobody_counts s none = ap map.len none ∙ map.len-empty unique_cmp Standing
 pub on_ok : {A E P : Type 0} (r : Result A E) → P → OnOk r P
 on_ok (Ok x) p = p
 on_ok (Err e) p = tt
+
+-- where the merge is what is known already, nothing changes
+pub noted_same : (s : Standings) (who : UniqueModel) (x y merged : Standing) → map.get s who ≡ Some x → merged ≡ merged_standing x y → x ≡ merged → s ≡ noted s (who, y)
+noted_same s who x y merged there is same =
+    sym (ap (λ o. cond (is_some o) (known s who y) s) there
+    ∙ ap (λ o. map.insert s who (value_with merged_standing o y)) there
+    ∙ ap (map.insert s who) (sym is ∙ sym same)
+    ∙ same_table _ _ (λ q. get-insert s who x q ∙ by q (eq_by_cmp unique_cmp q who) refl))
+  where
+    by : (q : UniqueModel) (t : Bool) → eq_by_cmp unique_cmp q who ≡ t → cond (eq_by_cmp unique_cmp q who) (Some x) (map.get s q) ≡ map.get s q
+    by q true tied = ap (λ b. cond b (Some x) (map.get s q)) tied ∙ sym there ∙ ap (map.get s) (sym (same_key q who tied))
+    by q false other = ap (λ b. cond b (Some x) (map.get s q)) other

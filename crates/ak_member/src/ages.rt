@@ -35,11 +35,13 @@ pub(crate) fn enter(slots: &IndexMap<Unique, Standing>, by_age: &mut Vec<usize>,
     ensures all { AreByAge slots.now.entries by_age.new.items }
     ensures room { vec_capacity by_age.new ≡ vec_capacity by_age.old }
 {
+    // `len` is called for its clause that no process has two slots.
     let _ = slots.len();
     let Some((number, who)) = age_of(slots, slot) else {
         return;
     };
     if let Err(index) = index_of_age(slots, by_age, number, who) {
+        // It cannot fail, since there is room.
         let _ = by_age.insert(index, slot);
     }
 }

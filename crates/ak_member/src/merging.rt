@@ -1,6 +1,6 @@
 //! What two views come to: of each process what both know of it.
 
-ghost use Rattle.std.specs.Prelude.{◌≡◌, ◌++◌, IfOk, OnOk, IsOk, Some, reverse, slice_get, option_to_list};
+ghost use Rattle.std.specs.Prelude.{◌≡◌, ◌++◌, IfOk, OnOk, IsOk, IsTrue, Some, reverse, slice_get, option_to_list};
 ghost use Rattle.std.specs.FinMap as map;
 ghost use Rattle.ak_address.specs.Unique.{UniqueModel};
 ghost use Rattle.ak_member.specs.declared.standing.Standing.{Standing};
@@ -22,9 +22,22 @@ pub(crate) fn note_known(slots: &mut Slots, who: &Unique, standing: Standing) ->
     let Some(slot) = slots.slot_of(who) else {
         return false;
     };
-    let standing = with_known(slots, slot, standing);
-    slots.set(slot, standing);
+    let merged = with_known(slots, slot, standing);
+    if has_standing(slots, slot, merged) {
+        return true;
+    }
+    slots.set(slot, merged);
     true
+}
+
+// Whether the slot has this standing already: then nothing is to be written, as mostly in a merge.
+fn has_standing(slots: &Slots, slot: usize, standing: Standing) -> bool
+    ensures { IsTrue result → (who : UniqueModel) (x : Standing) → slice_get slots.now.entries slot ≡ Some (who, x) → x ≡ standing }
+{
+    match slots.at_slot(slot) {
+        Some((_, known)) => *known == standing,
+        None => false,
+    }
 }
 
 // The standing, merged with what is known of the process of a slot.

@@ -173,6 +173,7 @@ impl Slots {
     pub(crate) fn oldest(&self) -> Option<&Unique>
         ensures { IsOldest (standings_of self.now.entries) (option_copied result) }
     {
+        // `len` is called for its clause that no process has two slots.
         let _ = self.slots.len();
         match self.by_age.first() {
             Some(slot) => process_of(&self.slots, *slot),
