@@ -183,7 +183,7 @@ fn print_spaced(who: &Uniques, out: &mut Vec<u8>) -> Result<(), AllocError>
 {
     'processes: for index in 0..who.len() {
         if let Some(one) = who.at(index) {
-            out.push(b' ')?;
+            print_bytes(b" ", out)?;
             one.print_into(out)?;
         }
     }
