@@ -151,8 +151,7 @@ fn print_count(name: &[u8], count: u64, out: &mut Vec<u8>) -> Result<(), AllocEr
 {
     print_bytes(name, out)?;
     print_number(count, out)?;
-    out.push(b'\n')?;
-    Ok(())
+    print_bytes(b"\n", out)
 }
 
 // The process of a start number.
@@ -178,8 +177,7 @@ fn print_margin(world: &World, margin: Margin, out: &mut Vec<u8>) -> Result<(), 
             print_name(world, node, out)?;
             print_bytes(b" member ", out)?;
             print_name(world, member, out)?;
-            out.push(b'\n')?;
-            Ok(())
+            print_bytes(b"\n", out)
         }
     }
 }
@@ -193,14 +191,13 @@ fn print_double(world: &World, double: Option<&Double>, out: &mut Vec<u8>) -> Re
     };
     print_bytes(b"double ", out)?;
     print_bytes(double.entity.bytes(), out)?;
-    out.push(b' ')?;
+    print_bytes(b" ", out)?;
     print_name(world, double.first, out)?;
-    out.push(b' ')?;
+    print_bytes(b" ", out)?;
     print_name(world, double.second, out)?;
     print_bytes(b" step ", out)?;
     print_number(double.step, out)?;
-    out.push(b'\n')?;
-    Ok(())
+    print_bytes(b"\n", out)
 }
 
 /// Appends the summary of a replay of so many steps. Its margin and its first double are those of the events that the world
