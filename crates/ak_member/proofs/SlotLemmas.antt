@@ -295,3 +295,8 @@ copied_past slots i next none so_far =
 -- what is in a slot is known
 pub found_by_slot : (slots : List Slot) (i : ℕ) (who : UniqueModel) (x : Standing) → IsDistinct same_unique (keys_of slots) → slice_get slots i ≡ Some (who, x) → map.get (standings_of slots) who ≡ Some x
 found_by_slot slots i who x apart at = sym (found_in who slots) ∙ found_at who x slots i x apart at
+
+-- where there is no slot nobody is known
+pub in_no_slot : (slots : List Slot) (who : UniqueModel) → length slots ≡ 0 → None ≡ map.get (standings_of slots) who
+in_no_slot [] who none = sym (map.get-empty unique_cmp who)
+in_no_slot (slot ∷ slots) who none = absurd (omega (arith, none))

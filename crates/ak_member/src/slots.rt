@@ -92,6 +92,10 @@ impl Slots {
     pub(crate) fn get(&self, who: &Unique) -> Option<&Standing>
         ensures { option_copied result ≡ map.get (standings_of self.now.entries) who.now }
     {
+        // A node that knows nobody yet is asked often, and no hash is needed for it.
+        if self.slots.len() == 0 {
+            return None;
+        }
         self.slots.get(who)
     }
 
@@ -99,6 +103,9 @@ impl Slots {
     pub(crate) fn find(&self, who: &Unique) -> Option<(&Unique, &Standing)>
         ensures { option_map (λ pair. (pair.0.now, pair.1.now)) result ≡ option_map {U = UniqueModel × Standing} (λ x. (who.now, x)) (map.get (standings_of self.now.entries) who.now) }
     {
+        if self.slots.len() == 0 {
+            return None;
+        }
         self.slots.get_key_value(who)
     }
 
