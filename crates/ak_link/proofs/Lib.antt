@@ -1,1 +1,2 @@
+pub mod HeardPackets
 pub mod Longest
