@@ -282,7 +282,8 @@ impl Members {
         ensures err { OnErr result (self.new ≡ self.old) }
         ensures present { IsSome (map.get self.old who.now) → IsOk result }
     {
-        if note_known(&mut self.slots, who, standing) {
+        // Nothing tells where it stands, so that any index will do.
+        if note_known(&mut self.slots, 0, who, standing) {
             return Ok(());
         }
         let who = who.copy(alloc)?;

@@ -13,13 +13,14 @@ use crate::standing::Standing;
 use ak_address::Unique;
 use std::alloc::{AllocError, Global};
 
-/// Merges the standing with what is known of the process, where something is; whether something is. Takes no memory.
-pub(crate) fn note_known(slots: &mut Slots, who: &Unique, standing: Standing) -> bool
+/// Merges the standing with what is known of the process, where something is; whether something is. The slot at this index in the order
+/// of processes is looked at first. Takes no memory.
+pub(crate) fn note_known(slots: &mut Slots, near: usize, who: &Unique, standing: Standing) -> bool
     ensures has { result ≡ map.contains_key (standings_of slots.old.entries) who.now }
     ensures after { standings_of slots.new.entries ≡ noted (standings_of slots.old.entries) (who.now, standing) }
     ensures room { slots.new.room ≡ slots.old.room }
 {
-    let Some(slot) = slots.slot_of(who) else {
+    let Some(slot) = slots.slot_near(near, who) else {
         return false;
     };
     let merged = with_known(slots, slot, standing);
@@ -55,9 +56,13 @@ pub(crate) fn note_all(slots: &mut Slots, other: &Slots)
     ensures after { standings_of slots.new.entries ≡ all_noted (map.entries (standings_of other.now.entries)) (standings_of slots.old.entries) }
     ensures room { slots.new.room ≡ slots.old.room }
 {
+    // Where the process stands here, if those before it are known to both alike.
+    let mut near = 0_usize;
     'pairs: for pair in 0..other.len() {
         if let Some((who, standing)) = other.at(pair) {
-            let _ = note_known(slots, who, *standing);
+            if note_known(slots, near, who, *standing) {
+                near = near.saturating_add(1);
+            }
         }
     }
 }
@@ -72,29 +77,35 @@ pub(crate) fn unknown_of(
 {
     let mut new = Vec::new(alloc);
     let mut pair = other.len();
+    // How many processes of the other view are left, if both know the same.
+    let mut near = slots.len();
     'pairs: while pair > 0 {
         pair -= 1;
         if let Some((who, standing)) = other.at(pair) {
-            push_unknown(alloc, &mut new, slots, who, *standing)?;
+            near = push_unknown(alloc, &mut new, slots, near, who, *standing)?;
         }
     }
     Ok(new)
 }
 
-// Appends a copy, where nothing is known of the process.
+// Appends a copy, where nothing is known of the process. It stands before this index, if both views know the same: the answer is the
+// index for the process before it.
 fn push_unknown(
     alloc: Global,
     new: &mut Vec<(Unique, Standing)>,
     slots: &Slots,
+    near: usize,
     who: &Unique,
     standing: Standing,
-) -> Result<(), AllocError>
+) -> Result<usize, AllocError>
     ensures { OnOk result (new.new.items ≡ new.old.items ++ unknown (standings_of slots.now.entries) (option_to_list (Some (who.now, standing)))) }
 {
-    if slots.get(who).is_none() {
-        new.push((who.copy(alloc)?, standing))?;
+    let before = near.saturating_sub(1);
+    if slots.slot_near(before, who).is_some() {
+        return Ok(before);
     }
-    Ok(())
+    new.push((who.copy(alloc)?, standing))?;
+    Ok(near)
 }
 
 /// Gives each of these processes a slot, the last of them first, which is the first process: so most go to the end. Nothing is known

@@ -88,6 +88,31 @@ impl Slots {
         }
     }
 
+    /// The slot of the process, as `slot_of` answers it. The slot at this index in the order of processes is looked at before anything
+    /// is hashed: two views mostly know the same processes, so whoever walks along one of them is mostly right. Takes no memory.
+    pub(crate) fn slot_near(&self, index: usize, who: &Unique) -> Option<usize>
+        ensures { MatchOption result (map.get (standings_of self.now.entries) who.now ≡ None) (λ slot. (x : Standing) × (slice_get self.now.entries slot ≡ Some (who.now, x)) × (map.get (standings_of self.now.entries) who.now ≡ Some x)) }
+    {
+        if let Some(slot) = self.order.get(index) {
+            if self.has_at(*slot, who) {
+                return Some(*slot);
+            }
+        }
+        self.slot_of(who)
+    }
+
+    // Whether this is the slot of the process. A yes says what is known of it, too.
+    fn has_at(&self, slot: usize, who: &Unique) -> bool
+        ensures { IsTrue result → (x : Standing) × (slice_get self.now.entries slot ≡ Some (who.now, x)) × (map.get (standings_of self.now.entries) who.now ≡ Some x) }
+    {
+        // `len` is called for its clause that no process has two slots.
+        let _ = self.slots.len();
+        match self.slots.get_index(slot) {
+            Some((there, _)) => there.is(who),
+            None => false,
+        }
+    }
+
     /// What is known of the process. Takes no memory.
     pub(crate) fn get(&self, who: &Unique) -> Option<&Standing>
         ensures { option_copied result ≡ map.get (standings_of self.now.entries) who.now }

@@ -4,14 +4,20 @@ use Rattle.ak_member.specs.Slots.{SlotsModel, standings_of}
 use Rattle.ak_member.specs.Merging.{all_noted}
 use Rattle.ak_member.proofs.MergeLemmas.{noted_from, noted_past, noted_end}
 use Rattle.ak_member.proofs.merging.note_all.Goals as goal
-use Rattle.ak_member.proofs.merging.note_all.Goals.{in-Some, in_default}
+use Rattle.ak_member.proofs.merging.note_all.Goals.{in-Some+then-note_known, in-Some+else-note_known, in_default}
 
 pub pairs-preserved : goal.pairs-preserved
 pairs-preserved c =
     let es = map.entries (standings_of c.args.other.now.entries) in
     let now = standings_of c.pairs.slots.entries in
     elim c.match-at.branch [
-      | in-Some w ↦ record {
+      | in-Some+then-note_known w ↦ record {
+        left =
+            noted_from now (standings_of c.match-at.slots.entries) es c.pairs.pair (w.in-Some.who.now, w.in-Some.standing.now) w.in-Some.ensures (ap (λ (s : SlotsModel). standings_of s.entries) w.slots-is ∙ w.note_known.ensures.after)
+            ∙ c.pairs.invariant.left;
+        room = ap (λ (s : SlotsModel). s.room) w.slots-is ∙ w.note_known.ensures.room ∙ c.pairs.invariant.room;
+      }
+      | in-Some+else-note_known w ↦ record {
         left =
             noted_from now (standings_of c.match-at.slots.entries) es c.pairs.pair (w.in-Some.who.now, w.in-Some.standing.now) w.in-Some.ensures (ap (λ (s : SlotsModel). standings_of s.entries) w.slots-is ∙ w.note_known.ensures.after)
             ∙ c.pairs.invariant.left;

@@ -16,8 +16,8 @@ pairs-init c =
           ∙ ap (unknown (standings_of c.args.slots.now.entries)) (sym (drop_all c.len-pair.result (map.entries s) (omega (arith, c.len-pair.ensures, map.len-entries s))));
     }
 
-pub pairs-preserved-in-Continue-1 : goal.pairs-preserved-in-Continue-1
-pairs-preserved-in-Continue-1 c =
+pub pairs-preserved-in-Some : goal.pairs-preserved-in-Some
+pairs-preserved-in-Some c =
     let es = map.entries (standings_of c.args.other.now.entries) in
     let own = standings_of c.args.slots.now.entries in
     let next : c.pairs.pair ≡ (c.pairs.pair - 1) + 1 = omega (arith, c.pairs-test.true) in
@@ -26,7 +26,7 @@ pairs-preserved-in-Continue-1 c =
       so_far =
           unknown_from own es (c.pairs.pair - 1) (Some (c.in-Some.who.now, c.in-Some.standing.now)) c.pairs.new.items _ c.in-Some.ensures
           (c.pairs.invariant.so_far ∙ ap (λ i. unknown own (drop i es)) next)
-          c.in_ok-push_unknown.ensures;
+          c.in_ok-near.ensures;
     }
 
 pub pairs-preserved : goal.pairs-preserved
