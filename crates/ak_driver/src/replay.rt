@@ -1,6 +1,6 @@
 //! The replay of a recorded schedule: reads one line after another, applies it, and prints its step before the next is read.
 
-ghost use Rattle.std.specs.Prelude.{◌≡◌, ◌⊎◌, ◌+◌, ◌≤◌, ◌<◌, ◌^◌, ◌++◌, ℕ, List, Err, OnOk, OnErr, Some, IfSome, IfNone, length, true};
+ghost use Rattle.std.specs.Prelude.{◌≡◌, ◌⊎◌, ◌+◌, ◌≤◌, ◌<◌, ◌++◌, ℕ, List, Err, OnOk, OnErr, Some, IfSome, IfNone, length, true};
 ghost use Rattle.ak_outside.specs.Lines.{to_come, Gives, NextCause, EndedBy};
 ghost use Rattle.ak_outside.specs.Outside.{Rose, AppendsPrefix};
 ghost use Rattle.ak_schedule.specs.Draft.{first_draft};

@@ -98,6 +98,76 @@ fn standings_of_one_process_merge(rt: HostRuntime) -> Result<(), Fail> {
     Ok(())
 }
 
+// Views by the letters of their processes, in the order in which these came: the own one, in which they are Up, and the other, in
+// which they are Down. The first or the last process, or one between, is missing at either, or no process is of both.
+static VIEWS: [(&[u8], &[u8]); 10] = [
+    (b"abcd", b"abcd"),
+    (b"dbca", b"abcd"),
+    (b"bcd", b"abcd"),
+    (b"acd", b"dcab"),
+    (b"abc", b"abcd"),
+    (b"abcd", b"bcd"),
+    (b"abcd", b"abd"),
+    (b"dcba", b"abc"),
+    (b"ca", b"bd"),
+    (b"bd", b"dac"),
+];
+
+fn process(alloc: Global, letter: u8) -> Result<Unique, Fail> {
+    Ok(parse_unique(alloc, &[letter, b':', b'1', b'#', b'1'])?)
+}
+
+fn raise(alloc: Global, members: &mut Members, letter: u8, status: Status) -> Result<(), Fail> {
+    let who = process(alloc, letter)?;
+    Ok(members.raise(alloc, &who, status, 1)?)
+}
+
+fn view_of(alloc: Global, letters: &[u8], status: Status) -> Result<Members, Fail> {
+    let mut members = Members::empty(alloc);
+    'letters: for letter in letters {
+        raise(alloc, &mut members, *letter, status)?;
+    }
+    Ok(members)
+}
+
+fn merge_views(alloc: Global, own: &[u8], other: &[u8]) -> Result<Members, Fail> {
+    let mut both = view_of(alloc, own, Status::Up)?;
+    let down = view_of(alloc, other, Status::Down)?;
+    both.merge(alloc, &down)?;
+    Ok(both)
+}
+
+// What is known of the process of the letter is what the other knows, or else what was known here, or nothing.
+fn is_of_both(both: &Members, who: &Unique, letter: u8, own: &[u8], other: &[u8]) -> bool {
+    let status = both.get(who).map(|member| member.status);
+    if other.contains(&letter) {
+        return status == Some(Status::Down);
+    }
+    if own.contains(&letter) {
+        return status == Some(Status::Up);
+    }
+    status.is_none()
+}
+
+fn are_of_both(alloc: Global, both: &Members, own: &[u8], other: &[u8]) -> Result<bool, Fail> {
+    'letters: for letter in b"abcde" {
+        let who = process(alloc, *letter)?;
+        if !is_of_both(both, &who, *letter, own, other) {
+            return Ok(false);
+        }
+    }
+    Ok(true)
+}
+
+#[test]
+fn views_merge_wherever_their_processes_stand(rt: HostRuntime) -> Result<(), Fail> {
+    for (own, other) in &VIEWS {
+        let both = merge_views(rt.alloc(), own, other)?;
+        assert!(rt; are_of_both(rt.alloc(), &both, own, other)?);
+    }
+    Ok(())
+}
+
 // Whether b is the oldest, two addresses are counted, and the three members of them stand in this order by age.
 fn stand_by_age(alloc: Global, members: &Members) -> Result<bool, Fail> {
     if members.uniques() >= 100 {

@@ -420,7 +420,8 @@ pub fn append_action(
 ) -> Result<(), AllocError>
     ensures { OnOk result (out.new.items ≡ out.old.items ++ text.item (text.action_text gossip.now number action.now)) }
 {
-    print_bytes(b"  ", out)?;
+    out.push(b' ')?;
+    out.push(b' ')?;
     print_action(gossip, number, action, out)?;
     out.push(b'\n')?;
     Ok(())

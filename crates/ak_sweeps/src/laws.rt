@@ -1,4 +1,4 @@
-ghost use Rattle.std.specs.Prelude.{◌≡◌, ℕ, List, Ok, Err, Some};
+ghost use Rattle.std.specs.Prelude.{◌≡◌, ℕ, List};
 ghost use Rattle.ak_schedule.specs.declared.event.Event.{Event};
 ghost use Rattle.ak_sweep.specs.declared.line.Line.{Line};
 ghost use Rattle.ak_sweeps.specs.GeneratedRun.{IsRun, IsLineOf, KeepsApart};

@@ -1,7 +1,7 @@
 //! The text of a sweep.
 
-ghost use Rattle.std.specs.Prelude.{◌≡◌, ◌++◌, ◌<◌, ◌^◌, OnOk, OnErr, length};
-ghost use Rattle.std.specs.List.{count_by, list_any};
+ghost use Rattle.std.specs.Prelude.{◌≡◌, ◌++◌, ◌<◌, OnOk, OnErr};
+ghost use Rattle.std.specs.List.{count_by};
 ghost use Rattle.ak_sweep.specs.declared.line.Line.{Line};
 ghost use Rattle.ak_sweeps.specs.SweepText as rules;
 

@@ -1,9 +1,9 @@
 //! Sweeps of generated runs.
 
-ghost use Rattle.std.specs.Prelude.{◌≡◌, ◌≤◌, ◌<◌, ◌^◌, ◌+◌, ℕ, List, IfOk};
+ghost use Rattle.std.specs.Prelude.{◌≡◌, ◌≤◌, ◌<◌, ◌^◌, ◌+◌, List, IfOk};
 ghost use Rattle.ak_outside.specs.Outside.{Rose};
 ghost use Rattle.ak_sweep.specs.declared.line.Line.{Line};
-ghost use Rattle.ak_sweeps.specs.GeneratedRun.{IsLineOf, KeepsApart};
+ghost use Rattle.ak_sweeps.specs.GeneratedRun.{IsLineOf};
 ghost use Rattle.ak_sweeps.specs.RunContracts.{WritesLines};
 ghost use Rattle.ak_sweeps.specs.SweepPromise.{Sweeps, IsCompleted, EachKeepsApart, status_of};
 ghost use Rattle.ak_sweeps.specs.SweepText.{AreLines};

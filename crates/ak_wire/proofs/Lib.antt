@@ -6,6 +6,3 @@ pub mod DatagramFields
 pub mod Lengths
 pub mod Numbered
 pub mod Decided
-pub mod SameLemmas
-pub mod HashLemmas
-pub mod PacketLemmas

@@ -1,6 +1,4 @@
-pub mod Carried
 pub mod Datagram
-pub mod Hashed
 pub mod Laws
 pub mod ReadingDatagram
 pub mod Wire

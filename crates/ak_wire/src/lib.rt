@@ -3,18 +3,13 @@
 
 mod action;
 mod bodies;
-mod carried;
 mod checking;
 mod cover;
 mod envelope;
-mod hashing;
 mod laws;
 mod measuring;
-mod packet;
 mod reading;
 mod reports;
-mod same;
-mod same_envelope;
 mod shared;
 mod writing;
 
@@ -26,8 +21,7 @@ pub use envelope::{Envelope, Message};
 pub use laws::{
     bytes_are_a_datagram_or_at_fault, datagrams_are_their_spellings, no_datagram_begins_another,
 };
-pub use packet::Packet;
 pub use reading::decode;
 pub use reports::Reports;
 pub use shared::SharedEnvelope;
-pub use writing::encode;
+pub use writing::{encode, kind_number};

@@ -46,8 +46,8 @@ fn parts_in(alloc: Global, message: &Message) -> Result<Parts, AllocError>
     }
 }
 
-/// The number of its kind, from 1 to 25.
-pub(crate) fn kind_number(message: &Message) -> u8
+/// The number of its kind, from 1 to 25: what a datagram has of it (this project's format). Takes no memory.
+pub fn kind_number(message: &Message) -> u8
     ensures { result ≡ kind_number message.now }
 {
     match message {

@@ -11,7 +11,7 @@ use Rattle.ak_address.proofs.Pairs.{not_None, same_Some}
 use Rattle.ak_wire.specs.declared.envelope.Envelope.{Envelope}
 use Rattle.ak_wire.specs.Datagram.{datagram, IsValid}
 use Rattle.ak_wire.specs.Wire.{put}
-use Rattle.ak_wire.proofs.PacketLemmas.{of_same_bytes}
+use Rattle.ak_packet.proofs.PacketLemmas.{of_same_bytes}
 use Rattle.ak_world.specs.World.{numbered}
 use Rattle.ak_world.specs.Stored.{is_same, different, at_places, place_at, AreStored}
 

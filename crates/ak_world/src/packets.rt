@@ -6,7 +6,8 @@ ghost use Rattle.ak_wire.specs.Datagram.{IsValid};
 ghost use Rattle.ak_world.specs.World.{numbered};
 ghost use Rattle.ak_world.specs.Stored.{different, place_at};
 
-use ak_wire::{Packet, SharedEnvelope};
+use ak_packet::Packet;
+use ak_wire::SharedEnvelope;
 use indexmap::IndexSet;
 use std::alloc::{AllocError, Global};
 use std::marker::Model;

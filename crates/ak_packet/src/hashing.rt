@@ -1,0 +1,105 @@
+ghost use Rattle.std.specs.Prelude.{◌≡◌, fold};
+ghost use Rattle.std.specs.Option.{option_copied};
+ghost use Rattle.ak_packet.specs.Hashed.{total, total_of, known_total, seen_by_many, term_of, uid_of, name_of, hashed_message, hashed};
+
+use crate::carried::{
+    ballot_in, entity_in, gossip_of, number_in, process_in, shard_in, version_in,
+};
+use ak_address::{Text, Unique};
+use ak_clock::Version;
+use ak_gossip::Gossip;
+use ak_promise::Ballot;
+use ak_wire::{Envelope, Message, kind_number};
+use std::hash::{Hash, Hasher};
+
+/// Feeds a hash with an envelope: with who sends it to whom, its kind, and numbers of what it carries. Takes no memory.
+pub(crate) fn hash_envelope<H: Hasher>(envelope: &Envelope, state: &mut H)
+    ensures { state.new ≡ fold H.write state.old (hashed envelope.now) }
+{
+    envelope.from.hash(state);
+    envelope.to.hash(state);
+    state.write_u64(envelope.uid);
+    hash_message(&envelope.message, state);
+}
+
+fn hash_message<H: Hasher>(message: &Message, state: &mut H)
+    ensures { state.new ≡ fold H.write state.old (hashed_message message.now) }
+{
+    state.write_u8(kind_number(message));
+    state.write_u64(known_total(gossip_of(message)));
+    state.write_u64(seen_by_many(gossip_of(message)));
+    state.write_u64(total_of(version_in(message)));
+    state.write_u64(term_of(ballot_in(message)));
+    state.write_u64(uid_of(process_in(message)));
+    state.write_u64(shard_in(message).unwrap_or(0));
+    state.write_u64(number_in(message).unwrap_or(0));
+    state.write(name_of(entity_in(message)));
+}
+
+// How many entries a version counts, up to what 64 bits hold.
+fn total(version: &Version) -> u64
+    ensures { result ≡ total version.now }
+{
+    let mut sum = 0_u64;
+    'counts: for index in 0..version.len() {
+        if let Some((_, count)) = version.at(index) {
+            sum = sum.saturating_add(count);
+        }
+    }
+    sum
+}
+
+fn total_of(version: Option<&Version>) -> u64
+    ensures { result ≡ total_of (option_copied version.entry) }
+{
+    match version {
+        Some(version) => total(version),
+        None => 0,
+    }
+}
+
+fn known_total(gossip: Option<&Gossip>) -> u64
+    ensures { result ≡ known_total (option_copied gossip.entry) }
+{
+    match gossip {
+        Some(gossip) => total(gossip.version()),
+        None => 0,
+    }
+}
+
+// How many have seen the gossip.
+fn seen_by_many(gossip: Option<&Gossip>) -> u64
+    ensures { result ≡ seen_by_many (option_copied gossip.entry) }
+{
+    match gossip {
+        Some(gossip) => gossip.seen().len() as u64,
+        None => 0,
+    }
+}
+
+fn term_of(ballot: Option<&Ballot>) -> u64
+    ensures { result ≡ term_of (option_copied ballot.entry) }
+{
+    match ballot {
+        Some(ballot) => ballot.term,
+        None => 0,
+    }
+}
+
+fn uid_of(who: Option<&Unique>) -> u64
+    ensures { result ≡ uid_of (option_copied who.entry) }
+{
+    match who {
+        Some(who) => who.uid,
+        None => 0,
+    }
+}
+
+fn name_of(entity: Option<&Text>) -> &[u8]
+    ensures { result.now ≡ name_of (option_copied entity.entry) }
+{
+    match entity {
+        Some(entity) => entity.bytes(),
+        None => &[],
+    }
+}

@@ -1,7 +1,0 @@
-use Rattle.std.proofs.Common.{◌≡◌, take, fold}
-use Rattle.std.specs.FinMap as map
-use Rattle.ak_wire.specs.Hashed.{plus}
-use Rattle.ak_wire.proofs.hashing.total.Given as goal
-
-abbrev pub invariant-counts : goal.invariant-counts
-invariant-counts l = l.sum ≡ fold plus 0 (take l.index (map.entries l.version))
