@@ -27,7 +27,7 @@ use Rattle.ak_member.specs.declared.effect.Effect.TheVariants.{Joined, Rise, Obs
 use Rattle.ak_member.specs.declared.status.Status.{Status}
 use Rattle.ak_member.specs.declared.status.Status.TheVariants.{Joining, Up, Leaving, Exiting, Down}
 use Rattle.ak_member.specs.Standing as standing
-use Rattle.ak_member.specs.Standing.{Standings, members_of, member_of, has_status, is_down, is_up, is_joining, is_member_with}
+use Rattle.ak_member.specs.Standing.{members_of, member_of, is_down, is_up, is_joining, is_member_with}
 use Rattle.ak_member.proofs.MembersLaws.{members_have}
 use Rattle.ak_membership.specs.declared.change.Change.{Change}
 use Rattle.ak_membership.specs.declared.change.MemberFault.{MemberFault}

@@ -20,7 +20,7 @@ use Rattle.ak_node.specs.declared.node.NodeEvent.{NodeEvent}
 use Rattle.ak_node.specs.declared.node.NodeEvent.TheVariants as event
 use Rattle.ak_node.specs.declared.node.State.{State}
 use Rattle.ak_node.specs.Node as node
-use Rattle.ak_node.specs.Node.{known, me_of, is_member, is_gone, nothing, and_then, does, does_for, unless_refused, to_each, update_by, leave, down, asks_at, asks_as, status_of, ends_phase, exits, gossips, gossips_to, shards_do, rest, may_leave, leaves, goes_on, ends, beats, ticked, on_message, is_asked, answers_ask, takes_grant, has_handed_over, told_its_own, answered, needed_others, answer, rule, if_so, closes, told_active, becomes_active, activates, forgets, concludes, settled_of, margin_of, is_dead, running_step, step}
+use Rattle.ak_node.specs.Node.{known, me_of, is_member, is_gone, nothing, and_then, does, does_for, unless_refused, update_by, leave, down, asks_at, asks_as, status_of, ends_phase, exits, gossips_to, shards_do, rest, may_leave, leaves, goes_on, ends, beats, ticked, on_message, is_asked, answers_ask, takes_grant, has_handed_over, answered, needed_others, answer, rule, if_so, closes, told_active, becomes_active, activates, forgets, concludes, settled_of, margin_of, is_dead, running_step, step}
 use Rattle.ak_node.proofs.ChangeLemmas.{each_made}
 use Rattle.ak_node.proofs.StepChanges.{goes_quiet, of_tells, own_tells, step_is}
 use Rattle.ak_promise.specs.declared.promise.Answer.{Answer}
