@@ -537,9 +537,25 @@ fn cut_after_two_steps<R: Threads + Sync>(
     ends_at_writes(rt, alloc, &REPLAY, &mut input, &[], unread)
 }
 
+// The headers and the first two events of the schedule in which two nodes find each other.
+const TWO_STARTS: &[u8] =
+    b"listed a:1 b:1\nstrategy static-quorum 2\nmargin 2\ndeadline 9\nstable 9\nshards 10\nbuffer 2\nthreshold 1\nlimit 1\nstart a:1#1\nstart b:1#1\n";
+
+const STARTED_AND_UNREAD: &[u8] = b"1 start a:1#1\n2 start b:1#1\nerror 5 read\n";
+
+// A replay of that schedule, of whose input the first read gives these lines, and the second one fails; the third would give more.
+fn cut_after_two_starts<R: Threads + Sync>(rt: &R, alloc: Global) -> Result<bool, AllocError> {
+    let mut text = TWO_STARTS.to_vec(alloc)?;
+    text.extend_from_slice(b"found a:1#1\njoin b:1#1 a:1\n")?;
+    let mut input = MemorySource::new(alloc, &text, TWO_STARTS.len().max(1), &[2])?;
+    let unread: Wanted = (Status::Read, STARTED_AND_UNREAD, 1, 0);
+    ends_at_writes(rt, alloc, &REPLAY, &mut input, &[], unread)
+}
+
 // Where the source fails, the steps of all lines stand that it had given whole; what it gave of one more line is no line.
 #[test]
 fn whole_lines_stand_before_a_failed_read(rt: HostRuntime) -> Result<(), Fail> {
+    assert!(rt; cut_after_two_starts(&rt, rt.alloc())?);
     'bytes: for past in 0..13 {
         assert!(rt; cut_after_two_steps(&rt, rt.alloc(), past)?);
     }
