@@ -4,7 +4,7 @@ ghost use Rattle.ak_region.specs.Slot.{is_known_at, at_home, host_answer, after_
 ghost use Rattle.ak_region.specs.Region.{new_region, slot_of, with_slot, entity_shard, route, TakesRoom, after_offer, flushed, after_flush, wanted, after_forget, hosts_any, reports};
 
 use crate::buffer::{take_those_for, wait, wanted_in};
-use crate::homes::{add_home, are_members, keep_members};
+use crate::homes::{Home, add_home, are_members, keep_members};
 use crate::slot::{Hosting, Slot};
 use crate::told::{can_flush_at, home_at, hosted_at, hosting_at, is_known_at, reach, receives_at};
 use crate::walks::{any_hosted, forget_strangers, reports_of};
@@ -53,7 +53,7 @@ pub struct Region {
     // The slots up to the last shard that was told of, in room for all.
     told: Vec<Slot>,
     // Each home that one of these slots has, once, and maybe more: whether there is a home to forget is read off these few.
-    homes: Vec<Unique>,
+    homes: Vec<Home>,
     shards: u32,
     buffer: HeapCircularBuffer<Waiting>,
     most: u32,
@@ -271,7 +271,7 @@ impl Region {
         ensures { self.new ≡ after_forget members.now self.old }
     {
         // Mostly there is none, and then no slot is looked at.
-        if are_members(&self.homes, members) {
+        if are_members(&mut self.homes, members) {
             return;
         }
         forget_strangers(&mut self.told, members);
