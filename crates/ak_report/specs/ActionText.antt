@@ -30,9 +30,13 @@ separator index = if index == 0 then [] else codes ", "
 abbrev pub none_text : ℕ → List ℕ
 none_text printed = if printed == 0 then codes "-" else []
 
--- an item stands on a line of its own, after two spaces
+-- after two spaces
+abbrev pub begun : List ℕ → List ℕ
+begun text = codes "  " ++ text
+
+-- an item stands on a line of its own
 abbrev pub item : List ℕ → List ℕ
-item text = codes "  " ++ text ++ 10 ∷ []
+item text = begun text ++ 10 ∷ []
 
 abbrev pub count_text : UniqueModel × ℕ → List ℕ
 count_text e = unique_text e.0 ++ codes "=" ++ decimal e.1

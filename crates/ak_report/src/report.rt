@@ -4,13 +4,13 @@ ghost use Rattle.ak_address.specs.Uniques.{in_order};
 ghost use Rattle.ak_member.specs.Standing.{member_pairs, tombstone_pairs, members_of, tombstones_of};
 ghost use Rattle.std.specs.Fmt.{decimal};
 ghost use Rattle.ak_report.specs.ActionText as text;
-ghost use Rattle.ak_wire.specs.Wire.{sent};
+ghost use Rattle.ak_wire.specs.Wire.{kind_text, sent};
 
 use ak_address::{Text, Unique, Uniques, print_number, print_wide_number};
 use ak_clock::Version;
 use ak_gossip::Gossip;
 use ak_member::{Effect, Members, Standing, Status};
-use ak_wire::{Action, Actions, Envelope};
+use ak_wire::{Action, Actions, Envelope, Message};
 use std::alloc::{AllocError, Global};
 
 // Each printer below may leave a part of its text where memory ends, and so may `append_actions`; `print_actions` prints into a text
@@ -167,9 +167,9 @@ fn print_none(printed: usize, out: &mut Vec<u8>) -> Result<(), AllocError>
 }
 
 fn print_view(gossip: &Gossip, out: &mut Vec<u8>) -> Result<(), AllocError>
-    ensures { OnOk result (out.new.items ≡ out.old.items ++ text.view_text gossip.now) }
+    ensures { OnOk result (out.new.items ≡ out.old.items ++ text.begun (text.view_text gossip.now)) }
 {
-    print_bytes(b"view ", out)?;
+    print_bytes(b"  view ", out)?;
     print_version(gossip.version(), out)?;
     print_bytes(b" | ", out)?;
     print_members(gossip.members(), out)?;
@@ -265,21 +265,52 @@ fn print_receiver(envelope: &Envelope, out: &mut Vec<u8>) -> Result<(), AllocErr
     print_number(envelope.uid, out)
 }
 
-fn print_send(number: u128, envelope: &Envelope, out: &mut Vec<u8>) -> Result<(), AllocError>
-    ensures { OnOk result (out.new.items ≡ out.old.items ++ text.send_text number envelope.now) }
+// What a packet is, between the words around it: most lines tell of a packet, and take one piece for it.
+fn kind_to(message: &Message) -> &'static [u8]
+    ensures { result.now ≡ codes " " ++ kind_text message.now ++ codes " to " }
 {
-    print_bytes(b"send ", out)?;
+    match message {
+        Message::Join => b" join to ",
+        Message::Welcome(_) => b" welcome to ",
+        Message::Gossip(_) => b" gossip to ",
+        Message::Heartbeat => b" heartbeat to ",
+        Message::HeartbeatReply => b" heartbeat-reply to ",
+        Message::ExitingConfirmed => b" exiting-confirmed to ",
+        Message::Ask(_) => b" ask to ",
+        Message::Granted(_, _, _) => b" granted to ",
+        Message::Busy(_, _) => b" busy to ",
+        Message::Old(_, _) => b" old to ",
+        Message::HandOverToMe(_) => b" hand-over-to-me to ",
+        Message::HandOverDone(_, _) => b" hand-over-done to ",
+        Message::Release(_, _) => b" release to ",
+        Message::GetHome(_, _) => b" get-home to ",
+        Message::Home(_, _, _) => b" home to ",
+        Message::HostShard(_, _, _) => b" host-shard to ",
+        Message::ShardStarted(_, _, _) => b" shard-started to ",
+        Message::BeginHandOff(_, _, _) => b" begin-hand-off to ",
+        Message::BeginHandOffAck(_, _, _) => b" begin-hand-off-ack to ",
+        Message::HandOff(_, _, _) => b" hand-off to ",
+        Message::ShardStopped(_, _, _) => b" shard-stopped to ",
+        Message::Forward(_, _) => b" forward to ",
+        Message::Leave(_) => b" leave to ",
+        Message::Down(_) => b" down to ",
+        Message::Offer(_, _) => b" offer to ",
+    }
+}
+
+fn print_send(number: u128, envelope: &Envelope, out: &mut Vec<u8>) -> Result<(), AllocError>
+    ensures { OnOk result (out.new.items ≡ out.old.items ++ text.begun (text.send_text number envelope.now)) }
+{
+    print_bytes(b"  send ", out)?;
     print_wide_number(number, out)?;
-    out.push(b' ')?;
-    print_bytes(envelope.message.kind(), out)?;
-    print_bytes(b" to ", out)?;
+    print_bytes(kind_to(&envelope.message), out)?;
     print_receiver(envelope, out)
 }
 
 fn print_update(number: u64, effects: &[Effect], out: &mut Vec<u8>) -> Result<(), AllocError>
-    ensures { OnOk result (out.new.items ≡ out.old.items ++ (codes "update " ++ decimal number ++ codes " " ++ text.listed_text (map text.effect_text effects.now))) }
+    ensures { OnOk result (out.new.items ≡ out.old.items ++ text.begun (codes "update " ++ decimal number ++ codes " " ++ text.listed_text (map text.effect_text effects.now))) }
 {
-    print_numbered(b"update ", number, out)?;
+    print_numbered(b"  update ", number, out)?;
     out.push(b' ')?;
     print_effects(effects, out)
 }
@@ -293,16 +324,16 @@ fn print_numbered(name: &[u8], number: u64, out: &mut Vec<u8>) -> Result<(), All
 }
 
 fn print_host(shard: u32, number: u64, out: &mut Vec<u8>) -> Result<(), AllocError>
-    ensures { OnOk result (out.new.items ≡ out.old.items ++ (codes "host " ++ decimal shard ++ codes " " ++ decimal number)) }
+    ensures { OnOk result (out.new.items ≡ out.old.items ++ text.begun (codes "host " ++ decimal shard ++ codes " " ++ decimal number)) }
 {
-    print_numbered(b"host ", u64::from(shard), out)?;
+    print_numbered(b"  host ", u64::from(shard), out)?;
     print_numbered(b" ", number, out)
 }
 
 fn print_entity(entity: &Text, out: &mut Vec<u8>) -> Result<(), AllocError>
-    ensures { OnOk result (out.new.items ≡ out.old.items ++ (codes "entity " ++ entity.now)) }
+    ensures { OnOk result (out.new.items ≡ out.old.items ++ text.begun (codes "entity " ++ entity.now)) }
 {
-    print_bytes(b"entity ", out)?;
+    print_bytes(b"  entity ", out)?;
     print_bytes(entity.bytes(), out)
 }
 
@@ -320,39 +351,40 @@ fn print_payload(
     print_numbered(b" ", payload, out)
 }
 
-// What an action prints, with the number of the packet that it may send.
+// What an action prints, with the number of the packet that it may send, after the two spaces with which an item begins: they
+// stand in the first piece of each.
 fn print_action(
     gossip: &Gossip,
     number: u128,
     action: &Action,
     out: &mut Vec<u8>,
 ) -> Result<(), AllocError>
-    ensures { OnOk result (out.new.items ≡ out.old.items ++ text.action_text gossip.now number action.now) }
+    ensures { OnOk result (out.new.items ≡ out.old.items ++ text.begun (text.action_text gossip.now number action.now)) }
 {
     match action {
         Action::Send(envelope) => print_send(number, envelope.get(), out),
         Action::Update(update, effects) => print_update(*update, effects.as_slice(), out),
         Action::View => print_view(gossip, out),
         Action::Settled => {
-            print_bytes(b"settled ", out)?;
+            print_bytes(b"  settled ", out)?;
             print_version(gossip.version(), out)
         }
-        Action::Active(term) => print_numbered(b"active ", *term, out),
-        Action::Ended(term) => print_numbered(b"ended ", *term, out),
+        Action::Active(term) => print_numbered(b"  active ", *term, out),
+        Action::Ended(term) => print_numbered(b"  ended ", *term, out),
         Action::Host(shard, number) => print_host(*shard, *number, out),
-        Action::Gone(shard) => print_numbered(b"gone ", u64::from(*shard), out),
+        Action::Gone(shard) => print_numbered(b"  gone ", u64::from(*shard), out),
         Action::Entity(entity) => print_entity(entity, out),
-        Action::Deliver(entity, payload) => print_payload(b"deliver ", entity, *payload, out),
-        Action::Forward(entity, payload) => print_payload(b"forward ", entity, *payload, out),
-        Action::Buffer(entity, payload) => print_payload(b"buffer ", entity, *payload, out),
-        Action::Drop(entity, payload) => print_payload(b"drop ", entity, *payload, out),
+        Action::Deliver(entity, payload) => print_payload(b"  deliver ", entity, *payload, out),
+        Action::Forward(entity, payload) => print_payload(b"  forward ", entity, *payload, out),
+        Action::Buffer(entity, payload) => print_payload(b"  buffer ", entity, *payload, out),
+        Action::Drop(entity, payload) => print_payload(b"  drop ", entity, *payload, out),
         Action::MarginEnd(who) => {
-            print_bytes(b"margin-end ", out)?;
+            print_bytes(b"  margin-end ", out)?;
             who.print_into(out)
         }
-        Action::Refused(why) => print_numbered(b"refused N", u64::from(*why), out),
-        Action::Dead => print_bytes(b"dead", out),
-        Action::Stopped => print_bytes(b"stopped", out),
+        Action::Refused(why) => print_numbered(b"  refused N", u64::from(*why), out),
+        Action::Dead => print_bytes(b"  dead", out),
+        Action::Stopped => print_bytes(b"  stopped", out),
     }
 }
 
@@ -420,8 +452,6 @@ pub fn append_action(
 ) -> Result<(), AllocError>
     ensures { OnOk result (out.new.items ≡ out.old.items ++ text.item (text.action_text gossip.now number action.now)) }
 {
-    out.push(b' ')?;
-    out.push(b' ')?;
     print_action(gossip, number, action, out)?;
     out.push(b'\n')?;
     Ok(())
