@@ -1,10 +1,11 @@
 -- What is at rest stays so, and a closing of it finds nothing due.
-use Rattle.std.proofs.Common.{◌≡◌, ℕ, Bool, true, false, not, ◌&&◌, ◌||◌, if◌then◌else◌, List, [], ◌∷◌, Option, Some, None, is_some, Result, Ok, Err, nat_le, refl, sym, ap, ◌∙◌, subst, true≢false}
+use Rattle.std.proofs.Common.{◌≡◌, ℕ, ◌==◌, arith, Bool, true, false, not, ◌&&◌, ◌||◌, if◌then◌else◌, List, [], ◌∷◌, Option, Some, None, is_some, Result, Ok, Err, nat_le, refl, sym, ap, ◌∙◌, subst, true≢false}
 use Rattle.std.specs.Bool.{⊤}
+use Rattle.std.proofs.lemmas.Bool.Decides.{nat_tests}
 use Rattle.std.specs.FinMap as map
 use Rattle.ak_address.specs.Changed.{keys_of}
 use Rattle.ak_address.specs.Counters.{Counters}
-use Rattle.ak_address.specs.Unique.{UniqueModel}
+use Rattle.ak_address.specs.Unique.{UniqueModel, unique_cmp}
 use Rattle.ak_clock.specs.Version.{Counts, relation_by}
 use Rattle.ak_clock.proofs.VersionLaws.{covers_itself, test_from_covers}
 use Rattle.ak_detector.specs.Detector.{watch_ring, watching, heard}
@@ -13,7 +14,11 @@ use Rattle.ak_detector.proofs.DetectorLemmas.{keys-heard, keys-ticked}
 use Rattle.ak_detector.proofs.RingLaws.{watches_on}
 use Rattle.ak_member.specs.declared.effect.Effect.{Effect}
 use Rattle.ak_member.specs.declared.effect.Effect.TheVariants.{Rise, Observed}
+use Rattle.ak_member.specs.declared.standing.Standing.{Standing}
+use Rattle.ak_member.specs.declared.standing.Standing.TheVariants.{Member, Buried}
 use Rattle.ak_member.specs.declared.status.Status.TheVariants.{Leaving, Down}
+use Rattle.ak_member.proofs.MergeLemmas.{knows_nobody}
+use Rattle.ak_address.proofs.Pairs.{not_None}
 use Rattle.ak_gossip.specs.Gossip.{is_known}
 use Rattle.ak_member.specs.Standing as standing
 use Rattle.ak_member.specs.Standing.{is_up, is_down}
@@ -31,7 +36,7 @@ use Rattle.ak_member.specs.Standing.{is_member_with}
 use Rattle.ak_membership.specs.Membership.{Outcome, unchanged, made, update, update_any, may_count, is_gone, is_member, has_member_beside, replaced, most_at_join, admitted, on_join, leave, down}
 use Rattle.ak_membership.specs.Tick.{tick, updates, counted, silent, decided, observes, decides, founds, leads, has_settled}
 use Rattle.ak_membership.specs.Closing.{is_other, is_same, is_viewed, stops, is_noted, notes, settled_after, stable_after, close}
-use Rattle.ak_membership.specs.MembershipContracts.{Answers, IsAtRest, Closes, makes_none}
+use Rattle.ak_membership.specs.MembershipContracts.{Answers, IsAtRest, IsMembership, Closes, makes_none}
 
 -- ---- what does not look at what is known
 pub rests_heard : (m : MembershipState) (who : UniqueModel) (detector : Counters) → detector ≡ heard who m.detector → IsAtRest m → IsAtRest (record m { detector = detector })
@@ -242,3 +247,23 @@ module _ (stopping : Bool) (m : MembershipState) (running : stops stopping m ≡
     },
     record { viewed = no_other m.gossip.version i; stopped = here i; settled = none_due i },
   )
+
+-- ---- who is at rest and knows anybody is a member
+pub member_at_rest : (m : MembershipState) → IsMembership m → IsAtRest m → not (map.len m.gossip.view.standings == 0) ≡ is_member m
+member_at_rest m is rest = by (map.get m.gossip.view.standings m.me) refl
+  where
+    others : map.len m.gossip.view.standings ≡ 0 → map.get m.gossip.view.standings m.me ≡ None
+    others none = ap (λ s. map.get s m.me) (knows_nobody m.gossip.view.standings none) ∙ map.get-empty unique_cmp m.me
+
+    some_known : (n : ℕ) → (n ≡ 0 → ⊥) → not (n == 0) ≡ true
+    some_known n some = by_count (n == 0) refl
+      where
+        by_count : (b : Bool) → (n == 0) ≡ b → not b ≡ true
+        by_count true is = absurd (some (grind (arith, nat_tests)))
+        by_count false is = refl
+
+    by : (o : Option Standing) → map.get m.gossip.view.standings m.me ≡ o → not (map.len m.gossip.view.standings == 0) ≡ is_member m
+    by None there = ap (λ n. not (n == 0)) (is.itself (ap is_some there)) ∙ ap (λ o. is_some (standing.member_of o)) (sym there)
+    by (Some (Member status number)) there =
+        some_known (map.len m.gossip.view.standings) (λ none. not_None (Member status number) (sym there ∙ others none)) ∙ ap (λ o. is_some (standing.member_of o)) (sym there)
+    by (Some (Buried confirmed)) there = absurd (true≢false (sym (ap standing.is_gone there) ∙ rest.here))

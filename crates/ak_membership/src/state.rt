@@ -1,4 +1,4 @@
-ghost use Rattle.std.specs.Prelude.{◌≡◌, ◌≢◌, ◌<◌, ◌^◌, nat_le, [], ◌∷◌, IfOk, OnOk, OnErr, IsTrue, true, false, None, option_copied};
+ghost use Rattle.std.specs.Prelude.{◌≡◌, ◌≢◌, ◌<◌, ◌^◌, ◌==◌, not, nat_le, [], ◌∷◌, IfOk, OnOk, OnErr, IsTrue, true, false, None, option_copied};
 ghost use Rattle.std.specs.FinMap as map;
 ghost use Rattle.ak_address.specs.Uniques.{has};
 ghost use Rattle.ak_gossip.specs.Gossip.{MayUpdate, is_known};
@@ -106,6 +106,13 @@ impl MembershipState {
         ensures { result ≡ rules.is_member self.now }
     {
         self.gossip.members().get(&self.me).is_some()
+    }
+
+    /// Whether anybody is known, a tombstone too. Takes no memory.
+    pub(crate) fn knows_anybody(&self) -> bool
+        ensures { result ≡ not (map.len self.now.gossip.view.standings == 0) }
+    {
+        self.gossip.members().uniques() != 0
     }
 
     pub(crate) fn has_member(&self, who: &Unique) -> bool
