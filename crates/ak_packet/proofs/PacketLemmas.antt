@@ -1,28 +1,51 @@
--- Packets are the same where their bytes are, and of equal bytes a hash is fed alike.
-use Rattle.std.proofs.Common.{◌≡◌, ℕ, Bool, List, IsTrue, nat_eq, fold, sym, ap, ◌∙◌}
-use Rattle.std.specs.Cmp.Lexicographic.{pointwise, bytes_decides}
-use Rattle.std.specs.Bool.{one_answer}
+-- A hash is fed alike of packets that are alike.
+use Rattle.std.proofs.Common.{◌≡◌, List, ◌++◌, ℕ, refl, sym, ap, fold, ◌∙◌}
+use Rattle.std.specs.Hash as fed
+use Rattle.ak_address.specs.Keys.{address_key, unique_key, fed_of_address, fed_of_unique}
 use Rattle.ak_field.proofs.Combined.{ok_is}
 use Rattle.ak_wire.specs.declared.envelope.Envelope.{Envelope}
+use Rattle.ak_wire.specs.declared.envelope.Message.{Message}
+use Rattle.ak_wire.specs.declared.envelope.Message.TheVariants.{Join, Welcome, Gossip, Heartbeat, HeartbeatReply, ExitingConfirmed, Ask, Granted, Busy, Old, HandOverToMe, HandOverDone, Release, GetHome, Home, HostShard, ShardStarted, BeginHandOff, BeginHandOffAck, HandOff, ShardStopped, Forward, Leave, Down, Offer}
 use Rattle.ak_wire.specs.Datagram.{datagram, IsValid}
 use Rattle.ak_wire.specs.ReadingDatagram.{read}
-use Rattle.ak_packet.specs.Hashed.{hashed, hashed_if_read, hashed_bytes}
 use Rattle.ak_wire.proofs.DatagramFields.{read_again}
+use Rattle.ak_packet.specs.Alike.{bare, bare_message}
+use Rattle.ak_packet.specs.Hashed.{hashed_message, hashed}
 
 -- two valid envelopes with the same bytes are the same
 pub of_same_bytes : (d e : Envelope) → IsValid d → IsValid e → datagram d ≡ datagram e → d ≡ e
 of_same_bytes d e valid too same = ok_is d e (sym (read_again d valid) ∙ ap read same ∙ read_again e too)
 
--- whoever tells whether two valid envelopes are the same tells whether their bytes are
-pub tells_bytes : (d e : Envelope) → IsValid d → IsValid e → (told : Bool) → (IsTrue told → d ≡ e) × (d ≡ e → IsTrue told) → told ≡ pointwise nat_eq (datagram d) (datagram e)
-tells_bytes d e valid too told tells =
-    one_answer {P = d ≡ e} told (pointwise nat_eq (datagram d) (datagram e)) tells
-    (λ same. of_same_bytes d e valid too ((bytes_decides (datagram d) (datagram e)).0 same), λ same. (bytes_decides (datagram d) (datagram e)).1 (ap datagram same))
+-- nothing is fed of what a version shows
+of_bare : (m : Message) → hashed_message (bare_message m) ≡ hashed_message m
+of_bare Join = refl
+of_bare (Welcome g) = refl
+of_bare (Gossip g) = refl
+of_bare Heartbeat = refl
+of_bare HeartbeatReply = refl
+of_bare ExitingConfirmed = refl
+of_bare (Ask b) = refl
+of_bare (Granted b v rs) = refl
+of_bare (Busy b c) = refl
+of_bare (Old b c) = refl
+of_bare (HandOverToMe b) = refl
+of_bare (HandOverDone b v) = refl
+of_bare (Release b v) = refl
+of_bare (GetHome b s) = refl
+of_bare (Home b s u) = refl
+of_bare (HostShard b s n) = refl
+of_bare (ShardStarted b s n) = refl
+of_bare (BeginHandOff b s n) = refl
+of_bare (BeginHandOffAck b s n) = refl
+of_bare (HandOff b s n) = refl
+of_bare (ShardStopped b s n) = refl
+of_bare (Forward name bits) = refl
+of_bare (Leave u) = refl
+of_bare (Down u) = refl
+of_bare (Offer name bits) = refl
 
--- of the bytes of a valid envelope the envelope is fed
-pub hashed_again : (e : Envelope) → IsValid e → hashed_bytes (datagram e) ≡ hashed e
-unfolding hashed_bytes
-hashed_again e valid = ap hashed_if_read (read_again e valid)
+hashed_bare : (e : Envelope) → hashed (bare e) ≡ hashed e
+hashed_bare e = λ i. fed_of_unique (unique_key e.from) ++ (fed_of_address (address_key e.to) ++ (fed.u64 e.uid ++ of_bare e.message i))
 
-pub fed_again : {S : Type 0} (write : S → List ℕ → S) (s t : S) (e : Envelope) → IsValid e → t ≡ fold write s (hashed e) → t ≡ fold write s (hashed_bytes (datagram e))
-fed_again write s t e valid is = is ∙ ap (fold write s) (sym (hashed_again e valid))
+pub fed_alike : {S : Type 0} (write : S → List ℕ → S) (s t : S) (e : Envelope) → t ≡ fold write s (hashed e) → t ≡ fold write s (hashed (bare e))
+fed_alike write s t e is = is ∙ ap (fold write s) (sym (hashed_bare e))

@@ -1,12 +1,14 @@
 -- What a message carries beside its kind, field by field.
-use Rattle.std.specs.Prelude.{◌≡◌, ℕ, List, Option, None, Some}
+use Rattle.std.specs.Prelude.{◌≡◌, ℕ, Bool, true, false, List, Option, None, Some}
+use Rattle.std.specs.Option.{option_map}
 use Rattle.ak_address.specs.Unique.{UniqueModel}
 use Rattle.ak_clock.specs.Version.{Counts}
 use Rattle.ak_promise.specs.Ballot.{BallotModel}
 use Rattle.ak_shard_id.specs.declared.report.Report.{Report}
 use Rattle.ak_wire.specs.declared.envelope.Message.{Message}
-use Rattle.ak_wire.specs.declared.envelope.Message.TheVariants.{Ask, Granted, Busy, Old, HandOverToMe, HandOverDone, Release, GetHome, Home, HostShard, ShardStarted, BeginHandOff, BeginHandOffAck, HandOff, ShardStopped, Forward, Leave, Down, Offer}
+use Rattle.ak_wire.specs.declared.envelope.Message.TheVariants.{Join, Heartbeat, HeartbeatReply, ExitingConfirmed, Ask, Granted, Busy, Old, HandOverToMe, HandOverDone, Release, GetHome, Home, HostShard, ShardStarted, BeginHandOff, BeginHandOffAck, HandOff, ShardStopped, Forward, Leave, Down, Offer}
 use Rattle.ak_wire.specs.Wire.{gossip_of}
+use Rattle.ak_packet.specs.Alike.{bare_gossip}
 
 -- the ballot, of two the one that asked
 abbrev pub ballot_in : Message → Option BallotModel
@@ -78,9 +80,17 @@ number_in (Forward name bits) = Some bits
 number_in (Offer name bits) = Some bits
 number_in other = None
 
--- two messages carry the same
-pub record CarriesSame (m n : Message) : Type 0 where
-  pub gossip : gossip_of m ≡ gossip_of n
+-- its kind is all that a message says
+abbrev pub carries_nothing : Message → Bool
+carries_nothing Join = true
+carries_nothing Heartbeat = true
+carries_nothing HeartbeatReply = true
+carries_nothing ExitingConfirmed = true
+carries_nothing other = false
+
+-- two messages carry the same, but for what a version shows
+pub record CarriesAlike (m n : Message) : Type 0 where
+  pub gossip : option_map bare_gossip (gossip_of m) ≡ option_map bare_gossip (gossip_of n)
   pub version : version_in m ≡ version_in n
   pub reports : reports_in m ≡ reports_in n
   pub ballot : ballot_in m ≡ ballot_in n

@@ -1,21 +1,19 @@
 -- What a hash is fed of a packet (this project's choice): who sends it to whom, its kind, and numbers of what it carries. One
 -- process sends equal numbers only in equal packets, or nearly so: its counts grow, and who has seen a version grows.
-use Rattle.std.specs.Prelude.{ℕ, ◌+◌, ◌-◌, ◌^◌, min, List, [], ◌∷◌, ◌++◌, fold, Option, None, Some, Result, Ok, Err}
+use Rattle.std.specs.Prelude.{ℕ, ◌+◌, ◌-◌, ◌^◌, min, List, [], ◌∷◌, ◌++◌, fold, Option, None, Some, if◌then◌else◌}
 use Rattle.std.specs.FinMap as map
 use Rattle.std.specs.Hash as fed
 use Rattle.ak_address.specs.Keys.{address_key, unique_key, fed_of_address, fed_of_unique}
 use Rattle.ak_address.specs.Unique.{UniqueModel}
 use Rattle.ak_address.specs.Uniques.{how_many}
 use Rattle.ak_clock.specs.Version.{Counts}
-use Rattle.ak_field.specs.declared.fault.WireFault.{WireFault}
 use Rattle.ak_gossip.specs.Gossip.{GossipState}
 use Rattle.ak_promise.specs.Ballot.{BallotModel}
 use Rattle.ak_wire.specs.declared.envelope.Envelope.{Envelope}
 use Rattle.ak_wire.specs.declared.envelope.Message.{Message}
 use Rattle.ak_wire.specs.Wire.{gossip_of}
 use Rattle.ak_wire.specs.Datagram.{kind_number}
-use Rattle.ak_packet.specs.Carried.{ballot_in, version_in, process_in, entity_in, shard_in, number_in}
-use Rattle.ak_wire.specs.ReadingDatagram.{read}
+use Rattle.ak_packet.specs.Carried.{carries_nothing, ballot_in, version_in, process_in, entity_in, shard_in, number_in}
 
 -- the calls of `write`, in their order
 abbrev pub Writes : Type 0
@@ -57,24 +55,19 @@ abbrev pub name_of : Option (List ℕ) → List ℕ
 name_of None = []
 name_of (Some name) = name
 
-abbrev pub hashed_message : Message → Writes
-hashed_message m =
-    fed.u8 (kind_number m)
-    ++ (fed.u64 (known_total (gossip_of m))
+-- numbers of what a message carries
+abbrev pub hashed_carried : Message → Writes
+hashed_carried m =
+    fed.u64 (known_total (gossip_of m))
     ++ (fed.u64 (seen_by_many (gossip_of m))
     ++ (fed.u64 (total_of (version_in m))
     ++ (fed.u64 (term_of (ballot_in m))
     ++ (fed.u64 (uid_of (process_in m))
     ++ (fed.u64 (number_of (shard_in m))
-    ++ (fed.u64 (number_of (number_in m)) ++ name_of (entity_in m) ∷ [])))))))
+    ++ (fed.u64 (number_of (number_in m)) ++ name_of (entity_in m) ∷ []))))))
+
+abbrev pub hashed_message : Message → Writes
+hashed_message m = fed.u8 (kind_number m) ++ (if carries_nothing m then [] else hashed_carried m)
 
 abbrev pub hashed : Envelope → Writes
 hashed e = fed_of_unique (unique_key e.from) ++ (fed_of_address (address_key e.to) ++ (fed.u64 e.uid ++ hashed_message e.message))
-
-abbrev pub hashed_if_read : Result Envelope WireFault → Writes
-hashed_if_read (Ok e) = hashed e
-hashed_if_read (Err fault) = []
-
--- what is fed of a datagram's bytes: of the envelope that they spell
-unfoldable pub hashed_bytes : List ℕ → Writes
-hashed_bytes bytes = hashed_if_read (read bytes)

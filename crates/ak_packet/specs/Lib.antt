@@ -1,2 +1,4 @@
+pub mod Alike
+pub mod AlikeLaws
 pub mod Carried
 pub mod Hashed

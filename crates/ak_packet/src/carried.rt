@@ -1,13 +1,23 @@
 ghost use Rattle.std.specs.Prelude.{◌≡◌};
 ghost use Rattle.std.specs.Option.{option_copied};
 ghost use Rattle.ak_wire.specs.Wire.{gossip_of};
-ghost use Rattle.ak_packet.specs.Carried.{ballot_in, promised_in, version_in, reports_in, process_in, entity_in, shard_in, number_in};
+ghost use Rattle.ak_packet.specs.Carried.{carries_nothing, ballot_in, promised_in, version_in, reports_in, process_in, entity_in, shard_in, number_in};
 
 use ak_address::{Text, Unique};
 use ak_clock::Version;
 use ak_gossip::Gossip;
 use ak_promise::Ballot;
 use ak_wire::{Message, Reports};
+
+/// Whether its kind is all that a message says, as of most.
+pub(crate) fn carries_nothing(message: &Message) -> bool
+    ensures { result ≡ carries_nothing message.now }
+{
+    matches!(
+        message,
+        Message::Join | Message::Heartbeat | Message::HeartbeatReply | Message::ExitingConfirmed
+    )
+}
 
 /// The gossip that a message carries.
 pub(crate) fn gossip_of(message: &Message) -> Option<&Gossip>

@@ -1,9 +1,9 @@
 ghost use Rattle.std.specs.Prelude.{◌≡◌, fold};
 ghost use Rattle.std.specs.Option.{option_copied};
-ghost use Rattle.ak_packet.specs.Hashed.{total, total_of, known_total, seen_by_many, term_of, uid_of, name_of, hashed_message, hashed};
+ghost use Rattle.ak_packet.specs.Hashed.{total, total_of, known_total, seen_by_many, term_of, uid_of, name_of, hashed_carried, hashed_message, hashed};
 
 use crate::carried::{
-    ballot_in, entity_in, gossip_of, number_in, process_in, shard_in, version_in,
+    ballot_in, carries_nothing, entity_in, gossip_of, number_in, process_in, shard_in, version_in,
 };
 use ak_address::{Text, Unique};
 use ak_clock::Version;
@@ -26,6 +26,14 @@ fn hash_message<H: Hasher>(message: &Message, state: &mut H)
     ensures { state.new ≡ fold H.write state.old (hashed_message message.now) }
 {
     state.write_u8(kind_number(message));
+    if !carries_nothing(message) {
+        hash_carried(message, state);
+    }
+}
+
+fn hash_carried<H: Hasher>(message: &Message, state: &mut H)
+    ensures { state.new ≡ fold H.write state.old (hashed_carried message.now) }
+{
     state.write_u64(known_total(gossip_of(message)));
     state.write_u64(seen_by_many(gossip_of(message)));
     state.write_u64(total_of(version_in(message)));

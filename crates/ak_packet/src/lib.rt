@@ -1,10 +1,12 @@
-//! Packets that were sent: an envelope that has a spelling, and whether two have the same bytes.
+//! Packets that were sent: an envelope that has a spelling, and whether two are alike.
 #![tactic(auto)]
 
+mod alike;
 mod carried;
 mod hashing;
+mod laws;
 mod packet;
 mod same;
-mod same_envelope;
 
+pub use laws::alike_packets_say_the_same;
 pub use packet::Packet;

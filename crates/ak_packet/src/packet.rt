@@ -1,12 +1,13 @@
-ghost use Rattle.std.specs.Prelude.{◌≡◌, IfOk, nat_eq};
-ghost use Rattle.std.specs.Cmp.{on_per, on_equiv, partial_equiv_from_equiv};
-ghost use Rattle.std.specs.Cmp.Lexicographic.{pointwise, bytes_decides, nat_list_eq_equiv};
-ghost use Rattle.ak_wire.specs.Datagram.{datagram, IsValid, Spells};
-ghost use Rattle.ak_packet.specs.Hashed.{hashed_bytes};
+ghost use Rattle.std.specs.Prelude.{◌≡◌, IfOk};
+ghost use Rattle.std.specs.Cmp.{partial_equiv_from_equiv};
+ghost use Rattle.ak_wire.specs.Datagram.{IsValid, Spells};
+ghost use Rattle.ak_packet.specs.Alike.{bare, is_alike};
+ghost use Rattle.ak_packet.specs.Hashed.{hashed};
+ghost use Rattle.ak_packet.specs.AlikeLaws.{alike_decides, alike_equiv};
 ghost use Rattle.std.proofs.Common.{ap};
 
+use crate::alike::is_alike;
 use crate::hashing::hash_envelope;
-use crate::same::Same;
 use ak_wire::{Envelope, SharedEnvelope, encode};
 use std::alloc::{AllocError, Global};
 use std::hash::{Hash, Hasher};
@@ -49,6 +50,14 @@ impl Packet {
         Ok(Packet { envelope })
     }
 
+    /// The same packet once more, whose envelope both share. It fails only as `share` of an envelope does.
+    pub fn share(&self) -> Result<Packet, AllocError>
+        ensures { IfOk result (λ packet. packet ≡ self.now) }
+    {
+        let envelope = self.envelope.share()?;
+        Ok(Packet { envelope })
+    }
+
     /// What it says: an envelope that has a spelling, as each packet does.
     pub fn envelope(&self) -> &Envelope
         ensures same { result.now ≡ self.now }
@@ -65,27 +74,28 @@ impl Packet {
     }
 }
 
-/// Two packets are equal exactly where their bytes are. They are compared without their bytes, field by field.
+/// Two packets are equal where they say the same, but for what the versions in them show: what is known is what its version shows
+/// of the history of its cluster, so that packets of one cluster that are equal have the same bytes. Whoever keeps packets as keys
+/// need not compare what each process of a gossip is known as.
 impl PartialEq for Packet {
-    ghost eq = { λ x y. pointwise nat_eq (datagram x) (datagram y) };
+    ghost eq = { is_alike };
 
-    ghost laws = { on_per datagram (partial_equiv_from_equiv nat_list_eq_equiv) };
+    ghost laws = { partial_equiv_from_equiv alike_equiv };
 
     fn eq(&self, other: &Packet) -> bool {
-        self.envelope.get().is_same(other.envelope.get())
+        is_alike(self.envelope.get(), other.envelope.get())
     }
 }
 
 impl Eq for Packet {
-    ghost laws = { on_equiv datagram nat_list_eq_equiv };
+    ghost laws = { alike_equiv };
 }
 
-/// A hash is fed with who sends it to whom, with its kind and with numbers of what it carries (this project's choice), which
-/// its bytes show.
+/// A hash is fed with who sends it to whom, with its kind and with numbers of what it carries (this project's choice).
 impl Hash for Packet {
-    ghost hash_input = { λ p. hashed_bytes (datagram p) };
+    ghost hash_input = { λ p. hashed (bare p) };
 
-    ghost respects_eq = { λ x y same. ap hashed_bytes ((bytes_decides (datagram x) (datagram y)).0 same) };
+    ghost respects_eq = { λ x y same. ap hashed ((alike_decides x y).0 same) };
 
     fn hash<H: Hasher>(&self, state: &mut H) {
         hash_envelope(self.envelope.get(), state);

@@ -1,14 +1,9 @@
 ghost use Rattle.std.specs.Prelude.{◌≡◌, ◌↔◌, IsTrue};
-ghost use Rattle.std.specs.Option.{option_copied, option_map};
-ghost use Rattle.ak_address.specs.Unique.{UniqueModel};
-ghost use Rattle.ak_member.specs.View as shown;
+ghost use Rattle.std.specs.Option.{option_copied};
 
 use ak_address::{Text, Unique, Uniques};
 use ak_clock::{Relation, Version};
-use ak_gossip::Gossip;
-use ak_member::Members;
 use ak_promise::Ballot;
-use ak_reach::{Row, Rows};
 use ak_shard_id::Report;
 use ak_wire::Reports;
 
@@ -43,12 +38,6 @@ impl Same for Version {
     }
 }
 
-impl Same for Members {
-    fn is_same(&self, other: &Members) -> bool {
-        self.is(other)
-    }
-}
-
 impl Same for Uniques {
     fn is_same(&self, other: &Uniques) -> bool {
         let many = self.len();
@@ -61,36 +50,6 @@ impl Same for Uniques {
             }
         }
         true
-    }
-}
-
-impl Same for Row {
-    fn is_same(&self, other: &Row) -> bool {
-        self.number == other.number && self.subjects.is_same(&other.subjects)
-    }
-}
-
-impl Same for Rows {
-    fn is_same(&self, other: &Rows) -> bool {
-        let many = self.len();
-        if other.len() != many {
-            return false;
-        }
-        'rows: for index in 0..many {
-            if !is_same_row(self.at(index), other.at(index)) {
-                return false;
-            }
-        }
-        true
-    }
-}
-
-impl Same for Gossip {
-    fn is_same(&self, other: &Gossip) -> bool {
-        self.seen().is_same(other.seen())
-            && self.version().is_same(other.version())
-            && self.rows().is_same(other.rows())
-            && self.members().is_same(other.members())
     }
 }
 
@@ -113,17 +72,6 @@ pub(crate) fn is_same_option<T: Same>(one: Option<&T>, other: Option<&T>) -> boo
     match (one, other) {
         (None, None) => true,
         (Some(one), Some(other)) => one.is_same(other),
-        _ => false,
-    }
-}
-
-// Whether both are none, or both the same observer with the same row.
-fn is_same_row(one: Option<(&Unique, &Row)>, other: Option<(&Unique, &Row)>) -> bool
-    ensures { IsTrue result ↔ option_map {U = UniqueModel × shown.Row} (λ row. (row.0.now, row.1.now)) one.entry ≡ option_map {U = UniqueModel × shown.Row} (λ row. (row.0.now, row.1.now)) other.entry }
-{
-    match (one, other) {
-        (None, None) => true,
-        (Some((one, row)), Some((other, other_row))) => one.is(other) && row.is_same(other_row),
         _ => false,
     }
 }

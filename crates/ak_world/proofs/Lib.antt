@@ -1,6 +1,7 @@
 pub mod Addressed
 pub mod Ages
 pub mod Agreed
+pub mod AlikeRuns
 pub mod AsLine
 pub mod Basis
 pub mod ByStart

@@ -17,7 +17,7 @@ use Rattle.ak_world.specs.declared.margin.Margin.TheVariants.{Kept, Broken}
 use Rattle.ak_world.specs.Margin.{IsMargin}
 use Rattle.ak_world.specs.Double.{Doubled, IsFirstDouble}
 use Rattle.ak_settings.specs.Settings.{SettingsModel}
-use Rattle.ak_world.specs.World.{WorldState, Done, packet_at}
+use Rattle.ak_world.specs.World.{WorldState, Done, arrived_in}
 
 -- to whom a packet was given, what it is and from whom
 abbrev pub packet_text : UniqueModel → Envelope → List ℕ
@@ -30,16 +30,16 @@ arrival_text (Some n) None = item (codes "dead")
 arrival_text None e = item (codes "dead")
 
 -- a delivery begins with what arrived
-abbrev pub delivery_text : Event → WorldState → Option State → List ℕ
-delivery_text (event.TheVariants.Deliver number) w n = arrival_text n (packet_at w number)
-delivery_text (event.TheVariants.Start u) w n = []
-delivery_text (event.TheVariants.Found u) w n = []
-delivery_text (event.TheVariants.Join u target) w n = []
-delivery_text (event.TheVariants.Tick u word) w n = []
-delivery_text (event.TheVariants.Leave u who) w n = []
-delivery_text (event.TheVariants.Down u who) w n = []
-delivery_text (event.TheVariants.Offer u entity payload) w n = []
-delivery_text (event.TheVariants.Stop u) w n = []
+abbrev pub delivery_text : Event → Option Envelope → Option State → List ℕ
+delivery_text (event.TheVariants.Deliver number) e n = arrival_text n e
+delivery_text (event.TheVariants.Start u) e n = []
+delivery_text (event.TheVariants.Found u) e n = []
+delivery_text (event.TheVariants.Join u target) e n = []
+delivery_text (event.TheVariants.Tick u word) e n = []
+delivery_text (event.TheVariants.Leave u who) e n = []
+delivery_text (event.TheVariants.Down u who) e n = []
+delivery_text (event.TheVariants.Offer u entity payload) e n = []
+delivery_text (event.TheVariants.Stop u) e n = []
 
 -- what the node knows after the step; a dead delivery shows none
 abbrev pub shown : Option State → GossipState
@@ -53,7 +53,7 @@ acting done = option_and_then (slice_get done.world.nodes) done.node
 abbrev pub step_text : ℕ → ℕ → Event → Done → List ℕ
 step_text first number event done =
     decimal number ++ codes " " ++ event_text event ++ 10 ∷ []
-    ++ delivery_text event done.world (acting done)
+    ++ delivery_text event (arrived_in event done.world) (acting done)
     ++ actions_text (shown (acting done)) first done.actions
 
 -- the process of a start number

@@ -1,11 +1,14 @@
 -- Packets, of which each different one is stored once (this project's choice).
-use Rattle.std.specs.Prelude.{◌≡◌, ℕ, ◌-◌, ◌<◌, ◌==◌, Bool, nat_eq, List, [], ◌∷◌, map, length, slice_get, Option, None, if◌then◌else◌}
-use Rattle.std.specs.List.{AllByRecursion}
+use Rattle.std.specs.Prelude.{◌≡◌, ℕ, ◌-◌, ◌<◌, ◌==◌, Bool, true, nat_eq, List, [], ◌∷◌, map, length, slice_get, Option, None, Result, Ok, if◌then◌else◌}
+use Rattle.std.specs.List.{AllByRecursion, Contains}
 use Rattle.std.specs.Set.{is_member, distinct_count}
 use Rattle.std.specs.Cmp.Lexicographic.{pointwise}
 use Rattle.ak_wire.specs.declared.envelope.Envelope.{Envelope}
 use Rattle.ak_wire.specs.Datagram.{datagram, IsValid}
 use Rattle.ak_wire.specs.Wire.{put}
+use Rattle.ak_packet.specs.Alike.{is_alike}
+use Rattle.ak_world.specs.declared.world.Reason.{Reason}
+use Rattle.ak_world.specs.World.{Done}
 
 -- the bytes of two packets are the same
 abbrev pub is_same : Envelope → Envelope → Bool
@@ -29,3 +32,11 @@ pub record AreStored (stored : List Envelope) (places : List ℕ) : Type 0 where
   pub placed : AllByRecursion (λ place. place < length stored) places
   pub sent : (e : Envelope) → is_member is_same stored e ≡ is_member is_same (at_places stored places) e
   pub valid : AllByRecursion IsValid stored
+
+-- Those that are alike are the same: what a version shows need not be compared.
+abbrev pub AreToldApart : List Envelope → Type 0
+AreToldApart packets = (d e : Envelope) → Contains packets d → Contains packets e → is_alike d e ≡ true → d ≡ e
+
+-- so it is of the packets that an event leaves
+abbrev pub LeavesToldApart : Result Done Reason → Type 0
+LeavesToldApart answer = (done : Done) → answer ≡ Ok done → AreToldApart done.world.packets

@@ -4,7 +4,7 @@ ghost use Rattle.std.specs.Prelude.{◌≡◌, ◌<◌, ◌^◌, ◌++◌, ◌�
 ghost use Rattle.std.specs.Option.{option_copied};
 ghost use Rattle.ak_wire.specs.Datagram.{IsValid};
 ghost use Rattle.ak_world.specs.World.{numbered};
-ghost use Rattle.ak_world.specs.Stored.{different, place_at};
+ghost use Rattle.ak_world.specs.Stored.{AreToldApart, different, place_at};
 
 use ak_packet::Packet;
 use ak_wire::SharedEnvelope;
@@ -78,9 +78,11 @@ impl Packets {
     }
 
     /// One more packet, which is shared. It is stored where none with the same bytes is; that is asked by its hash, so that nobody
-    /// looks at all packets. An error leaves the packets as they were; only memory can fail.
+    /// looks at all packets, and by the versions of gossips, so that nobody compares what two show: among packets of one world, those
+    /// that are alike are the same. An error leaves the packets as they were; only memory can fail.
     pub(crate) fn push(&mut self, envelope: &SharedEnvelope) -> Result<(), AllocError>
-        requires { IsValid envelope.now }
+        requires valid { IsValid envelope.now }
+        requires apart { AreToldApart (self.old ++ envelope.now ∷ []) }
         ensures ok { OnOk result (self.new ≡ self.old ++ envelope.now ∷ []) }
         ensures err { OnErr result (self.new ≡ self.old) }
     {

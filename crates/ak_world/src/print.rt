@@ -5,7 +5,8 @@ ghost use Rattle.std.specs.Fmt.{decimal};
 ghost use Rattle.std.specs.Option.{option_and_then, option_copied, option_map};
 ghost use Rattle.ak_schedule.specs.Schedule.{event_text};
 ghost use Rattle.ak_report.specs.ActionText.{actions_text};
-ghost use Rattle.ak_world.specs.World.{packet_at};
+ghost use Rattle.ak_wire.specs.Wire.{kind_text};
+ghost use Rattle.ak_world.specs.World.{arrived_in};
 ghost use Rattle.ak_world.specs.StepText as text;
 ghost use Rattle.ak_world.specs.WorldContracts.{doubled_of};
 
@@ -15,51 +16,85 @@ use crate::world::{Step, World};
 use ak_address::{Unique, print_number};
 use ak_gossip::Gossip;
 use ak_node::Node;
+use ak_packet::Packet;
 use ak_report::{append_actions, print_bytes};
 use ak_schedule::{Event, print_event};
-use ak_wire::Envelope;
+use ak_wire::{Envelope, Message};
 use std::alloc::{AllocError, Global};
 
-// To whom a packet was given, what it is and from whom.
-fn print_packet(who: &Unique, envelope: &Envelope, out: &mut Vec<u8>) -> Result<(), AllocError>
-    ensures { OnOk result (out.new.items ≡ out.old.items ++ text.packet_text who.now envelope.now) }
+// What a packet is, between the words around it: most lines tell of a packet, and take one piece for it.
+fn kind_from(message: &Message) -> &'static [u8]
+    ensures { result.now ≡ codes " " ++ kind_text message.now ++ codes " from " }
 {
-    print_bytes(b"  at ", out)?;
+    match message {
+        Message::Join => b" join from ",
+        Message::Welcome(_) => b" welcome from ",
+        Message::Gossip(_) => b" gossip from ",
+        Message::Heartbeat => b" heartbeat from ",
+        Message::HeartbeatReply => b" heartbeat-reply from ",
+        Message::ExitingConfirmed => b" exiting-confirmed from ",
+        Message::Ask(_) => b" ask from ",
+        Message::Granted(_, _, _) => b" granted from ",
+        Message::Busy(_, _) => b" busy from ",
+        Message::Old(_, _) => b" old from ",
+        Message::HandOverToMe(_) => b" hand-over-to-me from ",
+        Message::HandOverDone(_, _) => b" hand-over-done from ",
+        Message::Release(_, _) => b" release from ",
+        Message::GetHome(_, _) => b" get-home from ",
+        Message::Home(_, _, _) => b" home from ",
+        Message::HostShard(_, _, _) => b" host-shard from ",
+        Message::ShardStarted(_, _, _) => b" shard-started from ",
+        Message::BeginHandOff(_, _, _) => b" begin-hand-off from ",
+        Message::BeginHandOffAck(_, _, _) => b" begin-hand-off-ack from ",
+        Message::HandOff(_, _, _) => b" hand-off from ",
+        Message::ShardStopped(_, _, _) => b" shard-stopped from ",
+        Message::Forward(_, _) => b" forward from ",
+        Message::Leave(_) => b" leave from ",
+        Message::Down(_) => b" down from ",
+        Message::Offer(_, _) => b" offer from ",
+    }
+}
+
+// To whom a packet was given, what it is and from whom, after the end of the line before.
+fn print_packet(who: &Unique, envelope: &Envelope, out: &mut Vec<u8>) -> Result<(), AllocError>
+    ensures { OnOk result (out.new.items ≡ out.old.items ++ (10 ∷ text.packet_text who.now envelope.now)) }
+{
+    print_bytes(b"\n  at ", out)?;
     who.print_into(out)?;
-    out.push(b' ')?;
-    print_bytes(envelope.message.kind(), out)?;
-    print_bytes(b" from ", out)?;
+    print_bytes(kind_from(&envelope.message), out)?;
     envelope.from.print_into(out)?;
     out.push(b'\n')?;
     Ok(())
 }
 
-// What a delivered packet was, or that it reached nobody.
+// What a delivered packet was, or that it reached nobody, after the end of the line before.
 fn print_arrival(
-    world: &World,
-    number: u64,
+    arrived: Option<&Packet>,
     node: Option<&Node>,
     out: &mut Vec<u8>,
 ) -> Result<(), AllocError>
     ensures { OnOk result (out.new.items
-        ≡ out.old.items ++ text.arrival_text (option_map (λ n. n.now.state) node.entry) (packet_at world.now.state number)) }
+        ≡ out.old.items ++ (10 ∷ text.arrival_text (option_map (λ n. n.now.state) node.entry) (option_copied arrived.entry))) }
 {
     if let Some(node) = node {
-        if let Some(envelope) = world.envelope(number) {
-            return print_packet(node.me(), envelope, out);
+        if let Some(packet) = arrived {
+            return print_packet(node.me(), packet.envelope(), out);
         }
     }
-    print_bytes(b"  dead\n", out)
+    print_bytes(b"\n  dead\n", out)
 }
 
+// Its number and the event. Most events are deliveries, whose line takes a piece less.
 fn print_head(number: u64, event: &Event, out: &mut Vec<u8>) -> Result<(), AllocError>
-    ensures { OnOk result (out.new.items ≡ out.old.items ++ (decimal number ++ codes " " ++ event_text event.now ++ 10 ∷ [])) }
+    ensures { OnOk result (out.new.items ≡ out.old.items ++ (decimal number ++ codes " " ++ event_text event.now)) }
 {
     print_number(number, out)?;
+    if let Event::Deliver(packet) = event {
+        print_bytes(b" deliver ", out)?;
+        return print_number(*packet, out);
+    }
     out.push(b' ')?;
-    print_event(event, out)?;
-    out.push(b'\n')?;
-    Ok(())
+    print_event(event, out)
 }
 
 // So many bytes are set aside for the text of a step; most have fewer.
@@ -75,6 +110,7 @@ pub fn print_step(
     step: &Step,
     out: &mut Vec<u8>,
 ) -> Result<(), AllocError>
+    requires { step.now.arrived ≡ arrived_in event.now world.now.state }
     ensures ok { OnOk result (out.new.items
         ≡ out.old.items ++ text.step_text step.now.first_packet step_number event.now (record { world = world.now.state; node = step.now.node; actions = step.now.actions })) }
     ensures err { OnErr result (out.new.items ≡ out.old.items) }
@@ -94,28 +130,32 @@ pub fn append_step(
     step: &Step,
     out: &mut Vec<u8>,
 ) -> Result<(), AllocError>
+    requires { step.now.arrived ≡ arrived_in event.now world.now.state }
     ensures { OnOk result (out.new.items
         ≡ out.old.items ++ text.step_text step.now.first_packet step_number event.now (record { world = world.now.state; node = step.now.node; actions = step.now.actions })) }
 {
     let node = acting(world, step);
     print_head(step_number, event, out)?;
-    print_delivery(world, event, node, out)?;
+    print_delivery(event, step.arrived.as_ref(), node, out)?;
     print_done(alloc, node, step, out)
 }
 
-// What arrived, where the event is a delivery.
+// The end of the line of the event, and what arrived, where it is a delivery.
 fn print_delivery(
-    world: &World,
     event: &Event,
+    arrived: Option<&Packet>,
     node: Option<&Node>,
     out: &mut Vec<u8>,
 ) -> Result<(), AllocError>
     ensures { OnOk result (out.new.items
-        ≡ out.old.items ++ text.delivery_text event.now world.now.state (option_map (λ n. n.now.state) node.entry)) }
+        ≡ out.old.items ++ (10 ∷ text.delivery_text event.now (option_copied arrived.entry) (option_map (λ n. n.now.state) node.entry))) }
 {
     match event {
-        Event::Deliver(number) => print_arrival(world, *number, node, out),
-        _ => Ok(()),
+        Event::Deliver(_) => print_arrival(arrived, node, out),
+        _ => {
+            out.push(b'\n')?;
+            Ok(())
+        }
     }
 }
 

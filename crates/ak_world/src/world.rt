@@ -25,7 +25,7 @@ ghost use Rattle.ak_world.specs.Double.{IsFirstDouble};
 ghost use Rattle.ak_world.specs.Homes.{HasOneHome};
 ghost use Rattle.ak_world.specs.WorldContracts.{AreSpelled, Applies, Scenes, IsNoMemory, IsReady, Acts, Keeps, state_of, doubled_of};
 ghost use Rattle.ak_world.specs.DoubleMark.{NextDouble};
-ghost use Rattle.ak_world.specs.Stored.{different};
+ghost use Rattle.ak_world.specs.Stored.{AreToldApart, LeavesToldApart, different};
 
 use crate::double::{Double, first_made};
 use crate::kept::{KeptEvent, Names};
@@ -36,6 +36,7 @@ use ak_address::{Address, Unique};
 use ak_field::EntityId;
 use ak_history::History;
 use ak_node::{Node, NodeEvent};
+use ak_packet::Packet;
 use ak_schedule::Event;
 use ak_settings::Settings;
 use ak_wire::{Action, Actions, Envelope};
@@ -75,11 +76,12 @@ pub enum Refused {
 }
 
 /// What an event did: the acting node, by its start number from 0 on, or none for a delivery that reached nobody;
-/// the number of the first packet that it may have sent; and its actions.
+/// the number of the first packet that it may have sent; the packet that came, where the event is a delivery; and its actions.
 #[derive(Drop)]
 pub struct Step {
     pub node: Option<u32>,
     pub first_packet: u64,
+    pub arrived: Option<Packet>,
     pub actions: Actions,
 }
 
@@ -101,6 +103,7 @@ pub(crate) struct Scene {
 
 impl Scene {
     fn start(&mut self, alloc: Global, who: &Unique) -> Result<Step, Refused>
+        ensures arrived { IfOk result (λ step. step.arrived ≡ None) }
         ensures settings { self.new.settings ≡ self.old.settings }
         ensures scenes { Scenes (state_of self.old) (rules.happens self.old.settings (Event.Start who.now) (state_of self.old)) result (state_of self.new) }
     {
@@ -124,6 +127,7 @@ impl Scene {
 
     fn start_node(&mut self, alloc: Global, who: &Unique) -> Result<Step, Refused>
         requires { length self.old.nodes.items < 64 }
+        ensures arrived { IfOk result (λ step. step.arrived ≡ None) }
         ensures settings { self.new.settings ≡ self.old.settings }
         ensures scenes { Scenes (state_of self.old) (Ok (rules.starts self.old.settings who.now (state_of self.old))) result (state_of self.new) }
     {
@@ -134,12 +138,15 @@ impl Scene {
         Ok(Step {
             node: number_of(index),
             first_packet: self.next_packet(),
+            arrived: None,
             actions: Actions::empty(alloc),
         })
     }
 
     fn found(&mut self, alloc: Global, who: &Unique) -> Result<Step, Refused>
         requires ready { IsReady (state_of self.old) }
+        requires apart { LeavesToldApart (rules.happens self.old.settings (Event.Found who.now) (state_of self.old)) }
+        ensures arrived { IfOk result (λ step. step.arrived ≡ None) }
         ensures settings { self.new.settings ≡ self.old.settings }
         ensures scenes { Scenes (state_of self.old) (rules.happens self.old.settings (Event.Found who.now) (state_of self.old)) result (state_of self.new) }
     {
@@ -157,6 +164,8 @@ impl Scene {
 
     fn join(&mut self, alloc: Global, who: &Unique, target: &Address) -> Result<Step, Refused>
         requires ready { IsReady (state_of self.old) }
+        requires apart { LeavesToldApart (rules.happens self.old.settings (Event.Join who.now target.now) (state_of self.old)) }
+        ensures arrived { IfOk result (λ step. step.arrived ≡ None) }
         ensures settings { self.new.settings ≡ self.old.settings }
         ensures scenes { Scenes (state_of self.old) (rules.happens self.old.settings (Event.Join who.now target.now) (state_of self.old)) result (state_of self.new) }
     {
@@ -173,6 +182,8 @@ impl Scene {
 
     fn tick(&mut self, alloc: Global, who: &Unique, word: u32) -> Result<Step, Refused>
         requires ready { IsReady (state_of self.old) }
+        requires apart { LeavesToldApart (rules.happens self.old.settings (Event.Tick who.now word) (state_of self.old)) }
+        ensures arrived { IfOk result (λ step. step.arrived ≡ None) }
         ensures settings { self.new.settings ≡ self.old.settings }
         ensures scenes { Scenes (state_of self.old) (rules.happens self.old.settings (Event.Tick who.now word) (state_of self.old)) result (state_of self.new) }
     {
@@ -181,6 +192,8 @@ impl Scene {
 
     fn stop(&mut self, alloc: Global, who: &Unique) -> Result<Step, Refused>
         requires ready { IsReady (state_of self.old) }
+        requires apart { LeavesToldApart (rules.happens self.old.settings (Event.Stop who.now) (state_of self.old)) }
+        ensures arrived { IfOk result (λ step. step.arrived ≡ None) }
         ensures settings { self.new.settings ≡ self.old.settings }
         ensures scenes { Scenes (state_of self.old) (rules.happens self.old.settings (Event.Stop who.now) (state_of self.old)) result (state_of self.new) }
     {
@@ -189,6 +202,8 @@ impl Scene {
 
     fn leave(&mut self, alloc: Global, who: &Unique, member: &Unique) -> Result<Step, Refused>
         requires ready { IsReady (state_of self.old) }
+        requires apart { LeavesToldApart (rules.happens self.old.settings (Event.Leave who.now member.now) (state_of self.old)) }
+        ensures arrived { IfOk result (λ step. step.arrived ≡ None) }
         ensures settings { self.new.settings ≡ self.old.settings }
         ensures scenes { Scenes (state_of self.old) (rules.happens self.old.settings (Event.Leave who.now member.now) (state_of self.old)) result (state_of self.new) }
     {
@@ -202,6 +217,8 @@ impl Scene {
 
     fn down(&mut self, alloc: Global, who: &Unique, member: &Unique) -> Result<Step, Refused>
         requires ready { IsReady (state_of self.old) }
+        requires apart { LeavesToldApart (rules.happens self.old.settings (Event.Down who.now member.now) (state_of self.old)) }
+        ensures arrived { IfOk result (λ step. step.arrived ≡ None) }
         ensures settings { self.new.settings ≡ self.old.settings }
         ensures scenes { Scenes (state_of self.old) (rules.happens self.old.settings (Event.Down who.now member.now) (state_of self.old)) result (state_of self.new) }
     {
@@ -221,6 +238,8 @@ impl Scene {
         payload: u64,
     ) -> Result<Step, Refused>
         requires ready { IsReady (state_of self.old) }
+        requires apart { LeavesToldApart (rules.happens self.old.settings (Event.Offer who.now entity.now payload) (state_of self.old)) }
+        ensures arrived { IfOk result (λ step. step.arrived ≡ None) }
         ensures settings { self.new.settings ≡ self.old.settings }
         ensures scenes { Scenes (state_of self.old) (rules.happens self.old.settings (Event.Offer who.now entity.now payload) (state_of self.old)) result (state_of self.new) }
     {
@@ -234,6 +253,8 @@ impl Scene {
 
     fn deliver(&mut self, alloc: Global, number: u64) -> Result<Step, Refused>
         requires ready { IsReady (state_of self.old) }
+        requires apart { LeavesToldApart (rules.happens self.old.settings (Event.Deliver number) (state_of self.old)) }
+        ensures arrived { IfOk result (λ step. step.arrived ≡ rules.numbered self.new.packets number) }
         ensures settings { self.new.settings ≡ self.old.settings }
         ensures scenes { Scenes (state_of self.old) (rules.happens self.old.settings (Event.Deliver number) (state_of self.old)) result (state_of self.new) }
     {
@@ -245,15 +266,17 @@ impl Scene {
         if is_full {
             return Err(Refused::Invalid(Reason::TooManyPackets));
         }
+        let packet = packet.share()?;
         let Some(index) = receiver_of(&self.nodes, packet.envelope()) else {
             return Ok(Step {
                 node: None,
                 first_packet: self.next_packet(),
+                arrived: Some(packet),
                 actions: Actions::empty(alloc),
             });
         };
         let actions = self.nodes[index].receive_own(alloc, packet.envelope())?;
-        self.keep(alloc, index, actions)
+        self.keep(alloc, index, Some(packet), actions)
     }
 
     // As many packets were sent as may be.
@@ -282,7 +305,9 @@ impl Scene {
     // The process is given an event.
     fn act(&mut self, alloc: Global, who: &Unique, event: &NodeEvent) -> Result<Step, Refused>
         requires ready { IsReady (state_of self.old) }
+        requires apart { LeavesToldApart (rules.acts event.now (rules.node_of who.now (state_of self.old)) (state_of self.old)) }
         requires comes { ComesValid event.now }
+        ensures arrived { IfOk result (λ step. step.arrived ≡ None) }
         ensures settings { self.new.settings ≡ self.old.settings }
         ensures scenes { Scenes (state_of self.old) (rules.acts event.now (rules.node_of who.now (state_of self.old)) (state_of self.old)) result (state_of self.new) }
     {
@@ -295,20 +320,30 @@ impl Scene {
     // The node at an index is given an event; what it sends and updates is kept.
     fn give(&mut self, alloc: Global, index: usize, event: &NodeEvent) -> Result<Step, Refused>
         requires ready { IsReady (state_of self.old) }
+        requires apart { LeavesToldApart (rules.gives event.now index (slice_get (state_of self.old).nodes index) (state_of self.old)) }
         requires index { index < length self.old.nodes.items }
         requires comes { ComesValid event.now }
+        ensures arrived { IfOk result (λ step. step.arrived ≡ None) }
         ensures settings { self.new.settings ≡ self.old.settings }
         ensures scenes { Scenes (state_of self.old) (rules.gives event.now index (slice_get (state_of self.old).nodes index) (state_of self.old)) result (state_of self.new) }
     {
         let actions = self.nodes[index].step_on(alloc, event)?;
-        self.keep(alloc, index, actions)
+        self.keep(alloc, index, None, actions)
     }
 
-    // What the node at an index sends and updates is kept.
-    fn keep(&mut self, alloc: Global, index: usize, actions: Actions) -> Result<Step, Refused>
+    // What the node at an index sends and updates is kept, after it was given a packet or another event.
+    fn keep(
+        &mut self,
+        alloc: Global,
+        index: usize,
+        arrived: Option<Packet>,
+        actions: Actions,
+    ) -> Result<Step, Refused>
         requires valid { AreValid actions }
+        requires apart { AreToldApart (self.old.packets ++ sent actions) }
         requires number { index < 64 }
         requires index { index < length self.old.nodes.items }
+        ensures arrived { IfOk result (λ step. step.arrived ≡ arrived) }
         ensures settings { self.new.settings ≡ self.old.settings }
         ensures kept { (n : State) → slice_get (state_of self.old).nodes index ≡ Some n → IfOk result (λ step. Keeps index (rules_of_nodes.me_of n) actions (state_of self.old) step (state_of self.new)) }
         ensures refused { IfErr result IsNoMemory }
@@ -324,6 +359,7 @@ impl Scene {
         Ok(Step {
             node: number_of(index),
             first_packet,
+            arrived,
             actions,
         })
     }
@@ -331,6 +367,8 @@ impl Scene {
     // What an event makes of the world, or the first reason why it is refused.
     fn happens(&mut self, alloc: Global, event: &Event) -> Result<Step, Refused>
         requires ready { IsReady (state_of self.old) }
+        requires apart { LeavesToldApart (rules.happens self.old.settings event.now (state_of self.old)) }
+        ensures arrived { IfOk result (λ step. step.arrived ≡ rules.arrived_in event.now (state_of self.new)) }
         ensures settings { self.new.settings ≡ self.old.settings }
         ensures scenes { Scenes (state_of self.old) (rules.happens self.old.settings event.now (state_of self.old)) result (state_of self.new) }
     {
@@ -416,7 +454,8 @@ pub(crate) fn number_of(index: usize) -> Option<u32>
 
 // What the actions send is kept, each packet once.
 fn keep_packets(actions: &[Action], packets: &mut Packets) -> Result<(), AllocError>
-    requires { AreValid actions.now }
+    requires valid { AreValid actions.now }
+    requires apart { AreToldApart (packets.old ++ sent actions.now) }
     ensures kept { OnOk result (packets.new ≡ packets.old ++ sent actions.now) }
     ensures numbered { OnOk result (length packets.new < 2 ^ 63) }
 {
@@ -642,6 +681,7 @@ impl World {
     pub fn apply(&mut self, alloc: Global, event: &Event) -> Result<Step, Refused>
         requires { length self.old.events < 2 ^ 62 }
         ensures applied { Applies event.now self.old result self.new }
+        ensures arrived { IfOk result (λ step. step.arrived ≡ rules.arrived_in event.now self.new.state) }
         ensures numbered { IfOk result (λ step. step.first_packet + length (sent step.actions) < 2 ^ 64) }
         ensures run { self.new.spent ≡ false → self.new.state ≡ rules.run self.new.settings self.new.events }
         ensures folded { self.new.spent ≡ false → (g : GossipState) → IsIn g self.new.state → IsFold self.new.state.history g }

@@ -5,13 +5,19 @@ use Rattle.ak_wire.specs.declared.action.Action.{Action}
 use Rattle.ak_wire.specs.declared.envelope.Envelope.{Envelope}
 use Rattle.ak_wire.specs.Wire.{sent}
 use Rattle.ak_world.proofs.WorldLemmas.{sent-kept, sent-none, sent-there}
+use Rattle.ak_world.proofs.AlikeRuns.{apart_pushed}
 use Rattle.ak_world.proofs.world.keep_packets.Goals as goal
 use Rattle.ak_world.proofs.world.keep_packets.Goals.{in-Send+in_ok-push, in_default}
 
-pub push-requires : goal.push-requires
-push-requires c =
+pub push-requires-clause-apart : goal.push-requires-clause-apart
+push-requires-clause-apart c =
     let at = slice_get_read c.args.actions.now _ c.actions.action-index c.action-item.result refl c.actions-test.true c.action-item.is in
-    c.requires c.in-Send.envelope (sent-there c.args.actions.now c.actions.action-index c.action-item.result c.in-Send.envelope at c.in-Send.is)
+    apart_pushed c.args.packets.now c.actions.packets c.args.actions.now c.actions.action-index c.action-item.result c.in-Send.envelope c.actions.invariant at c.in-Send.is c.requires.apart
+
+pub push-requires-clause-valid : goal.push-requires-clause-valid
+push-requires-clause-valid c =
+    let at = slice_get_read c.args.actions.now _ c.actions.action-index c.action-item.result refl c.actions-test.true c.action-item.is in
+    c.requires.valid c.in-Send.envelope (sent-there c.args.actions.now c.actions.action-index c.action-item.result c.in-Send.envelope at c.in-Send.is)
 
 pub actions-preserved : goal.actions-preserved
 actions-preserved c =

@@ -1,7 +1,7 @@
 use Rattle.std.proofs.Common.{List, [], ◌∷◌, ◌++◌, sym, subst, ap, ◌∙◌}
 use Rattle.ak_wire.specs.declared.envelope.Envelope.{Envelope}
 use Rattle.ak_wire.specs.Datagram.{IsValid}
-use Rattle.ak_world.specs.Stored.{at_places, AreStored}
+use Rattle.ak_world.specs.Stored.{at_places, AreStored, AreToldApart}
 use Rattle.ak_world.proofs.StoredLemmas.{pushed}
 use Rattle.ak_world.proofs.packets.Packets.push.Goals as goal
 
@@ -10,8 +10,10 @@ invariant_of-self-2 c =
     let stored = c.self.inside.stored.keys in
     let e = c.in_ok-packet.packet in
     let are : AreStored stored c.reserve.new.self.items = subst (AreStored stored) (sym c.in_ok-reserve.ensures.items) c.self.invariant in
+    let told : AreToldApart (at_places stored c.reserve.new.self.items ++ e ∷ []) =
+    subst AreToldApart (sym (λ i. (ap (at_places stored) c.in_ok-reserve.ensures.items ∙ c.self.view_is) i ++ c.in_ok-packet.ensures i ∷ [])) c.requires.apart in
     let there = c.in_ok-place.ensures.stored in
-    let done = pushed stored c.reserve.new.self.items e are (subst IsValid (sym c.in_ok-packet.ensures) c.requires) c.insert_full.new.self.keys c.in_ok-place.place there.0 c.in_ok-place.ensures.keys c.in_ok-place.ensures.within there.1 there.2 in
+    let done = pushed stored c.reserve.new.self.items e are (subst IsValid (sym c.in_ok-packet.ensures) c.requires.valid) told c.insert_full.new.self.keys c.in_ok-place.place there.0 c.in_ok-place.ensures.keys c.in_ok-place.ensures.within there.1 there.2 in
     subst (AreStored c.insert_full.new.self.keys) (sym c.push_reserved.ensures.items) done.are
 
 pub returns-clause-ok : goal.returns-clause-ok
@@ -19,8 +21,10 @@ returns-clause-ok c =
     let stored = c.self.inside.stored.keys in
     let e = c.in_ok-packet.packet in
     let are : AreStored stored c.reserve.new.self.items = subst (AreStored stored) (sym c.in_ok-reserve.ensures.items) c.self.invariant in
+    let told : AreToldApart (at_places stored c.reserve.new.self.items ++ e ∷ []) =
+    subst AreToldApart (sym (λ i. (ap (at_places stored) c.in_ok-reserve.ensures.items ∙ c.self.view_is) i ++ c.in_ok-packet.ensures i ∷ [])) c.requires.apart in
     let there = c.in_ok-place.ensures.stored in
-    let done = pushed stored c.reserve.new.self.items e are (subst IsValid (sym c.in_ok-packet.ensures) c.requires) c.insert_full.new.self.keys c.in_ok-place.place there.0 c.in_ok-place.ensures.keys c.in_ok-place.ensures.within there.1 there.2 in
+    let done = pushed stored c.reserve.new.self.items e are (subst IsValid (sym c.in_ok-packet.ensures) c.requires.valid) told c.insert_full.new.self.keys c.in_ok-place.place there.0 c.in_ok-place.ensures.keys c.in_ok-place.ensures.within there.1 there.2 in
     ap (at_places c.insert_full.new.self.keys) c.push_reserved.ensures.items
     ∙ done.packets
     ∙ ap (λ (es : List Envelope). es ++ e ∷ []) (ap (at_places stored) c.in_ok-reserve.ensures.items ∙ c.self.view_is)

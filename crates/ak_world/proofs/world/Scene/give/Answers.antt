@@ -3,6 +3,7 @@ use Rattle.std.proofs.Math.ListN.{length-set}
 use Rattle.ak_node.specs.declared.node.State.{State}
 use Rattle.ak_world.specs.WorldContracts.{state_of, states}
 use Rattle.ak_world.proofs.WorldLemmas.{state-at, state-set, set-states, kept-scenes}
+use Rattle.ak_world.proofs.AlikeRuns.{apart_given}
 use Rattle.ak_world.proofs.world.Scene.give.Goals as goal
 
 pub step_on-requires-clause-steps : goal.step_on-requires-clause-steps
@@ -27,3 +28,9 @@ returns-clause-scenes c =
     (ap (λ (xs : List State). record w { nodes = xs }) (set-states nodes c.args.index m))
     (c.keep.ensures.kept m.state (state-set nodes c.args.index m c.requires.index))
     c.keep.ensures.refused
+
+pub keep-requires-clause-apart : goal.keep-requires-clause-apart
+keep-requires-clause-apart c =
+    apart_given (state_of c.args.self.now) c.args.index c.args.event.now c.index_mut.result.now.state c.in_ok-actions.actions
+    (state-at c.args.self.now.nodes.items c.args.index c.index_mut.result.now c.requires.index c.index_mut.ensures.value)
+    c.in_ok-actions.ensures.ok.actions_done c.requires.apart

@@ -5,12 +5,16 @@ use Rattle.ak_node.specs.Node.{me_of}
 use Rattle.ak_node.specs.Sends.{AreValid}
 use Rattle.ak_wire.specs.declared.action.Action.{Action}
 use Rattle.ak_wire.specs.Wire.{sent}
+use Rattle.ak_world.specs.Stored.{AreToldApart}
 use Rattle.ak_world.specs.World.{recorded}
 use Rattle.ak_world.proofs.WorldLemmas.{state-at}
 use Rattle.ak_world.proofs.world.Scene.keep.Goals as goal
 
-pub keep_packets-requires : goal.keep_packets-requires
-keep_packets-requires c = subst AreValid (sym c.as_slice.ensures) c.requires.valid
+pub keep_packets-requires-clause-valid : goal.keep_packets-requires-clause-valid
+keep_packets-requires-clause-valid c = subst AreValid (sym c.as_slice.ensures) c.requires.valid
+
+pub keep_packets-requires-clause-apart : goal.keep_packets-requires-clause-apart
+keep_packets-requires-clause-apart c = subst (λ (xs : List Action). AreToldApart (c.args.self.now.packets ++ sent xs)) (sym c.as_slice.ensures) c.requires.apart
 
 pub returns-clause-kept : goal.returns-clause-kept
 returns-clause-kept c = λ n at.

@@ -19,6 +19,7 @@ use Rattle.ak_world.proofs.OneHomeRuns.{one_home-of_run}
 use Rattle.ak_world.proofs.DoubleMarks.{went_double}
 use Rattle.ak_world.proofs.DoubleRuns.{no_double-of_run}
 use Rattle.ak_world.proofs.UidsOfStarts.{next_uids}
+use Rattle.ak_world.proofs.AlikeRuns.{apart_next}
 use Rattle.ak_world.proofs.WorldLemmas.{ready_run, few_run, length-states, run-went, at-ok}
 use Rattle.ak_world.proofs.world.World.apply.Goals as goal
 
@@ -26,7 +27,11 @@ pub happens-requires : goal.happens-requires
 happens-requires c =
     let few : length c.self.inside.accepted.events.items < 2 ^ 62 =
     subst (λ (events : List Event). length events < 2 ^ 62) (sym (ap (λ (w : WorldModel). w.events) c.self.view_is)) c.requires in
-    record { ready = subst IsReady (sym (c.self.invariant.is_run (ap is_some c.in_default.is))) (ready_run c.self.inside.scene.settings c.self.inside.accepted.events.items few) }
+    let is_run = c.self.invariant.is_run (ap is_some c.in_default.is) in
+    record {
+      ready = subst IsReady (sym is_run) (ready_run c.self.inside.scene.settings c.self.inside.accepted.events.items few);
+      apart = apart_next c.self.inside.scene.settings c.self.inside.accepted.events.items (state_of c.self.inside.scene) c.args.event.now is_run;
+    }
 
 pub invariant_of-self-in_default-kept : goal.invariant_of-self-in_default-kept
 invariant_of-self-in_default-kept c =

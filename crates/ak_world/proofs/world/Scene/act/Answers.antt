@@ -1,0 +1,5 @@
+use Rattle.ak_world.proofs.AlikeRuns.{apart_too}
+use Rattle.ak_world.proofs.world.Scene.act.Goals as goal
+
+pub give-requires-clause-apart : goal.give-requires-clause-apart
+give-requires-clause-apart c = apart_too _ _ (c.in-Ok.ensures.1 c.args.event.now) c.requires.apart
