@@ -70,23 +70,36 @@ pub fn print_unique(host: &[u8], port: u16, uid: u64, out: &mut Vec<u8>) -> Resu
 }
 
 // Where memory runs out some of it may stand after what `out` had.
-#[inline]
+#[inline(always)]
 fn append_address(host: &[u8], port: u16, out: &mut Vec<u8>) -> Result<(), AllocError>
     ensures ok { OnOk result (out.new.items ≡ out.old.items ++ (host.now ++ 58 ∷ decimal port)) }
     ensures err { OnErr result (take (vec_len out.old) out.new.items ≡ out.old.items) }
 {
     out.extend_from_slice(host)?;
-    out.push(b':')?;
-    print_number(u64::from(port), out)
+    append_after(b':', u64::from(port), out)
 }
 
 // Where memory runs out some of it may stand after what `out` had.
-#[inline]
+#[inline(always)]
 fn append_unique(host: &[u8], port: u16, uid: u64, out: &mut Vec<u8>) -> Result<(), AllocError>
     ensures ok { OnOk result (out.new.items ≡ out.old.items ++ (host.now ++ 58 ∷ decimal port ++ 35 ∷ decimal uid)) }
     ensures err { OnErr result (take (vec_len out.old) out.new.items ≡ out.old.items) }
 {
-    print_address(host, port, out)?;
-    out.push(b'#')?;
-    print_number(uid, out)
+    append_address(host, port, out)?;
+    append_after(b'#', uid, out)
+}
+
+// Appends a byte and a number after it. There is room for one digit once there is room for the byte.
+#[inline(always)]
+fn append_after(byte: u8, number: u64, out: &mut Vec<u8>) -> Result<(), AllocError>
+    ensures ok { OnOk result (out.new.items ≡ out.old.items ++ byte ∷ decimal number) }
+    ensures err { OnErr result (take (vec_len out.old) out.new.items ≡ out.old.items) }
+{
+    out.reserve(2)?;
+    out.push_reserved(byte);
+    if number < 10 {
+        out.push_reserved(b'0' + number as u8);
+        return Ok(());
+    }
+    print_digits(number, out)
 }
