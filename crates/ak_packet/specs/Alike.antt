@@ -1,6 +1,6 @@
 -- Packets that say the same beside what a version shows. What is known is what its version shows of the history of its cluster, so
 -- that among the packets of one world those that are alike are the same.
-use Rattle.std.specs.Prelude.{ℕ, Bool, true, false, ◌&&◌, ◌==◌}
+use Rattle.std.specs.Prelude.{Bool, true, false, ◌&&◌, ◌==◌}
 use base.Stored.{Gv, gnil, gnum, gcons}
 use Rattle.ak_gossip.specs.Gossip.{GossipState}
 use Rattle.ak_member.specs.View.{empty_view}

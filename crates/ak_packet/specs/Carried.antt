@@ -1,14 +1,11 @@
--- What a message carries beside its kind, field by field.
+-- What a message carries beside its kind and a gossip, field by field.
 use Rattle.std.specs.Prelude.{◌≡◌, ℕ, Bool, true, false, List, Option, None, Some}
-use Rattle.std.specs.Option.{option_map}
 use Rattle.ak_address.specs.Unique.{UniqueModel}
 use Rattle.ak_clock.specs.Version.{Counts}
 use Rattle.ak_promise.specs.Ballot.{BallotModel}
 use Rattle.ak_shard_id.specs.declared.report.Report.{Report}
 use Rattle.ak_wire.specs.declared.envelope.Message.{Message}
 use Rattle.ak_wire.specs.declared.envelope.Message.TheVariants.{Join, Heartbeat, HeartbeatReply, ExitingConfirmed, Ask, Granted, Busy, Old, HandOverToMe, HandOverDone, Release, GetHome, Home, HostShard, ShardStarted, BeginHandOff, BeginHandOffAck, HandOff, ShardStopped, Forward, Leave, Down, Offer}
-use Rattle.ak_wire.specs.Wire.{gossip_of}
-use Rattle.ak_packet.specs.Alike.{bare_gossip}
 
 -- the ballot, of two the one that asked
 abbrev pub ballot_in : Message → Option BallotModel
@@ -88,9 +85,8 @@ carries_nothing HeartbeatReply = true
 carries_nothing ExitingConfirmed = true
 carries_nothing other = false
 
--- two messages carry the same, but for what a version shows
-pub record CarriesAlike (m n : Message) : Type 0 where
-  pub gossip : option_map bare_gossip (gossip_of m) ≡ option_map bare_gossip (gossip_of n)
+-- two messages carry the same beside a gossip
+pub record CarriesSame (m n : Message) : Type 0 where
   pub version : version_in m ≡ version_in n
   pub reports : reports_in m ≡ reports_in n
   pub ballot : ballot_in m ≡ ballot_in n

@@ -11,7 +11,7 @@ use Rattle.ak_gossip.specs.Gossip.{GossipState}
 use Rattle.ak_promise.specs.Ballot.{BallotModel}
 use Rattle.ak_wire.specs.declared.envelope.Envelope.{Envelope}
 use Rattle.ak_wire.specs.declared.envelope.Message.{Message}
-use Rattle.ak_wire.specs.Wire.{gossip_of}
+use Rattle.ak_wire.specs.declared.envelope.Message.TheVariants.{Welcome, Gossip}
 use Rattle.ak_wire.specs.Datagram.{kind_number}
 use Rattle.ak_packet.specs.Carried.{carries_nothing, ballot_in, version_in, process_in, entity_in, shard_in, number_in}
 
@@ -31,14 +31,6 @@ abbrev pub total_of : Option Counts → ℕ
 total_of None = 0
 total_of (Some v) = total v
 
-abbrev pub known_total : Option GossipState → ℕ
-known_total None = 0
-known_total (Some g) = total g.version
-
-abbrev pub seen_by_many : Option GossipState → ℕ
-seen_by_many None = 0
-seen_by_many (Some g) = how_many g.seen
-
 abbrev pub term_of : Option BallotModel → ℕ
 term_of None = 0
 term_of (Some b) = b.term
@@ -55,16 +47,23 @@ abbrev pub name_of : Option (List ℕ) → List ℕ
 name_of None = []
 name_of (Some name) = name
 
--- numbers of what a message carries
-abbrev pub hashed_carried : Message → Writes
-hashed_carried m =
-    fed.u64 (known_total (gossip_of m))
-    ++ (fed.u64 (seen_by_many (gossip_of m))
-    ++ (fed.u64 (total_of (version_in m))
+-- how many entries a gossip knows, and how many have seen it
+abbrev pub hashed_gossip : GossipState → Writes
+hashed_gossip g = fed.u64 (total g.version) ++ fed.u64 (how_many g.seen)
+
+-- numbers of what another message carries
+abbrev pub hashed_fields : Message → Writes
+hashed_fields m =
+    fed.u64 (total_of (version_in m))
     ++ (fed.u64 (term_of (ballot_in m))
     ++ (fed.u64 (uid_of (process_in m))
     ++ (fed.u64 (number_of (shard_in m))
-    ++ (fed.u64 (number_of (number_in m)) ++ name_of (entity_in m) ∷ []))))))
+    ++ (fed.u64 (number_of (number_in m)) ++ name_of (entity_in m) ∷ []))))
+
+abbrev pub hashed_carried : Message → Writes
+hashed_carried (Welcome g) = hashed_gossip g
+hashed_carried (Gossip g) = hashed_gossip g
+hashed_carried other = hashed_fields other
 
 abbrev pub hashed_message : Message → Writes
 hashed_message m = fed.u8 (kind_number m) ++ (if carries_nothing m then [] else hashed_carried m)

@@ -1,12 +1,10 @@
 ghost use Rattle.std.specs.Prelude.{◌≡◌, ◌↔◌, IsTrue};
-ghost use Rattle.std.specs.Option.{option_copied, option_map};
-ghost use Rattle.ak_wire.specs.Wire.{gossip_of};
 ghost use Rattle.ak_packet.specs.Alike.{bare, bare_gossip, bare_message};
-ghost use Rattle.ak_packet.specs.Carried.{ballot_in, promised_in, version_in, reports_in, process_in, entity_in, shard_in, number_in, CarriesAlike};
+ghost use Rattle.ak_packet.specs.Carried.{ballot_in, promised_in, version_in, reports_in, process_in, entity_in, shard_in, number_in, CarriesSame};
 
 use crate::carried::{
-    ballot_in, carries_nothing, entity_in, gossip_of, number_in, process_in, promised_in,
-    reports_in, shard_in, version_in,
+    ballot_in, carries_nothing, entity_in, number_in, process_in, promised_in, reports_in,
+    shard_in, version_in,
 };
 use crate::same::{Same, is_same_option};
 use ak_gossip::Gossip;
@@ -22,41 +20,42 @@ pub(crate) fn is_alike(one: &Envelope, other: &Envelope) -> bool
         && says_alike(&one.message, &other.message)
 }
 
+// Most packets carry a gossip or nothing, so that these are told first.
 fn says_alike(one: &Message, other: &Message) -> bool
     ensures { IsTrue result ↔ bare_message one.now ≡ bare_message other.now }
 {
-    kind_number(one) == kind_number(other) && (carries_nothing(one) || carries_alike(one, other))
+    match (one, other) {
+        (Message::Welcome(one), Message::Welcome(other)) => is_alike_gossip(one, other),
+        (Message::Gossip(one), Message::Gossip(other)) => is_alike_gossip(one, other),
+        _ => {
+            kind_number(one) == kind_number(other)
+                && (carries_nothing(one) || carries_same(one, other))
+        }
+    }
 }
 
-// Whether two messages carry the same, beside their kinds, but for what a version shows.
-fn carries_alike(one: &Message, other: &Message) -> bool
-    ensures { IsTrue result ↔ CarriesAlike one.now other.now }
+// Whether both are the same version, which the same have seen.
+fn is_alike_gossip(one: &Gossip, other: &Gossip) -> bool
+    ensures { IsTrue result ↔ bare_gossip one.now ≡ bare_gossip other.now }
 {
-    knows_alike(one, other)
+    one.version().is_same(other.version()) && one.seen().is_same(other.seen())
+}
+
+// Whether two messages carry the same, beside their kinds and a gossip.
+fn carries_same(one: &Message, other: &Message) -> bool
+    ensures { IsTrue result ↔ CarriesSame one.now other.now }
+{
+    reports_same(one, other)
         && asks_same(one, other)
         && names_same(one, other)
         && numbers_same(one, other)
 }
 
-fn knows_alike(one: &Message, other: &Message) -> bool
-    ensures { IsTrue result ↔ ((option_map bare_gossip (gossip_of one.now) ≡ option_map bare_gossip (gossip_of other.now)) × (version_in one.now ≡ version_in other.now) × (reports_in one.now ≡ reports_in other.now)) }
+fn reports_same(one: &Message, other: &Message) -> bool
+    ensures { IsTrue result ↔ ((version_in one.now ≡ version_in other.now) × (reports_in one.now ≡ reports_in other.now)) }
 {
-    is_alike_gossip(gossip_of(one), gossip_of(other))
-        && is_same_option(version_in(one), version_in(other))
+    is_same_option(version_in(one), version_in(other))
         && is_same_option(reports_in(one), reports_in(other))
-}
-
-// Whether both are none, or the same version that the same have seen.
-fn is_alike_gossip(one: Option<&Gossip>, other: Option<&Gossip>) -> bool
-    ensures { IsTrue result ↔ option_map bare_gossip (option_copied one.entry) ≡ option_map bare_gossip (option_copied other.entry) }
-{
-    match (one, other) {
-        (None, None) => true,
-        (Some(one), Some(other)) => {
-            one.version().is_same(other.version()) && one.seen().is_same(other.seen())
-        }
-        _ => false,
-    }
 }
 
 fn asks_same(one: &Message, other: &Message) -> bool

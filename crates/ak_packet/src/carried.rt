@@ -1,11 +1,9 @@
 ghost use Rattle.std.specs.Prelude.{◌≡◌};
 ghost use Rattle.std.specs.Option.{option_copied};
-ghost use Rattle.ak_wire.specs.Wire.{gossip_of};
 ghost use Rattle.ak_packet.specs.Carried.{carries_nothing, ballot_in, promised_in, version_in, reports_in, process_in, entity_in, shard_in, number_in};
 
 use ak_address::{Text, Unique};
 use ak_clock::Version;
-use ak_gossip::Gossip;
 use ak_promise::Ballot;
 use ak_wire::{Message, Reports};
 
@@ -17,17 +15,6 @@ pub(crate) fn carries_nothing(message: &Message) -> bool
         message,
         Message::Join | Message::Heartbeat | Message::HeartbeatReply | Message::ExitingConfirmed
     )
-}
-
-/// The gossip that a message carries.
-pub(crate) fn gossip_of(message: &Message) -> Option<&Gossip>
-    ensures { option_copied result ≡ gossip_of message.now }
-{
-    match message {
-        Message::Welcome(gossip) => Some(gossip),
-        Message::Gossip(gossip) => Some(gossip),
-        _ => None,
-    }
 }
 
 /// The ballot that it carries, of two the one that asked.

@@ -1,9 +1,9 @@
 ghost use Rattle.std.specs.Prelude.{◌≡◌, fold};
 ghost use Rattle.std.specs.Option.{option_copied};
-ghost use Rattle.ak_packet.specs.Hashed.{total, total_of, known_total, seen_by_many, term_of, uid_of, name_of, hashed_carried, hashed_message, hashed};
+ghost use Rattle.ak_packet.specs.Hashed.{total, total_of, term_of, uid_of, name_of, hashed_gossip, hashed_fields, hashed_carried, hashed_message, hashed};
 
 use crate::carried::{
-    ballot_in, carries_nothing, entity_in, gossip_of, number_in, process_in, shard_in, version_in,
+    ballot_in, carries_nothing, entity_in, number_in, process_in, shard_in, version_in,
 };
 use ak_address::{Text, Unique};
 use ak_clock::Version;
@@ -34,8 +34,24 @@ fn hash_message<H: Hasher>(message: &Message, state: &mut H)
 fn hash_carried<H: Hasher>(message: &Message, state: &mut H)
     ensures { state.new ≡ fold H.write state.old (hashed_carried message.now) }
 {
-    state.write_u64(known_total(gossip_of(message)));
-    state.write_u64(seen_by_many(gossip_of(message)));
+    match message {
+        Message::Welcome(gossip) => hash_gossip(gossip, state),
+        Message::Gossip(gossip) => hash_gossip(gossip, state),
+        _ => hash_fields(message, state),
+    }
+}
+
+// How many entries it knows, and how many have seen it.
+fn hash_gossip<H: Hasher>(gossip: &Gossip, state: &mut H)
+    ensures { state.new ≡ fold H.write state.old (hashed_gossip gossip.now) }
+{
+    state.write_u64(total(gossip.version()));
+    state.write_u64(gossip.seen().len() as u64);
+}
+
+fn hash_fields<H: Hasher>(message: &Message, state: &mut H)
+    ensures { state.new ≡ fold H.write state.old (hashed_fields message.now) }
+{
     state.write_u64(total_of(version_in(message)));
     state.write_u64(term_of(ballot_in(message)));
     state.write_u64(uid_of(process_in(message)));
@@ -62,25 +78,6 @@ fn total_of(version: Option<&Version>) -> u64
 {
     match version {
         Some(version) => total(version),
-        None => 0,
-    }
-}
-
-fn known_total(gossip: Option<&Gossip>) -> u64
-    ensures { result ≡ known_total (option_copied gossip.entry) }
-{
-    match gossip {
-        Some(gossip) => total(gossip.version()),
-        None => 0,
-    }
-}
-
-// How many have seen the gossip.
-fn seen_by_many(gossip: Option<&Gossip>) -> u64
-    ensures { result ≡ seen_by_many (option_copied gossip.entry) }
-{
-    match gossip {
-        Some(gossip) => gossip.seen().len() as u64,
         None => 0,
     }
 }

@@ -1,6 +1,5 @@
 -- The walk along the homes that asks of each whether it is a member.
-use Rattle.std.proofs.Common.{◌≡◌, ℕ, zero, suc, Bool, true, false, ◌&&◌, is_some, ◌+◌, ◌<◌, ◌≤◌, List, [], ◌∷◌, ◌++◌, append-nil, length, take, drop, set, get_or, slice_get, Some, refl, sym, ap, subst, ◌∙◌, add-one, arith}
-use Rattle.std.proofs.lemmas.List.{take_all, drop_all}
+use Rattle.std.proofs.Common.{◌≡◌, ℕ, zero, suc, Bool, true, false, ◌&&◌, is_some, ◌+◌, ◌<◌, ◌≤◌, List, [], ◌∷◌, ◌++◌, length, take, drop, set, get_or, slice_get, Some, refl, sym, ap, subst, ◌∙◌, add-one, arith}
 use Rattle.std.specs.List.{list_all}
 use Rattle.std.specs.FinMap as map
 use Rattle.ak_address.specs.Unique.{UniqueModel}
@@ -9,6 +8,7 @@ use Rattle.ak_member.specs.declared.standing.Standing.{Standing}
 use Rattle.ak_member.specs.declared.standing.Standing.TheVariants.{Member}
 use Rattle.ak_member.specs.declared.status.Status.{Status}
 use Rattle.ak_member.specs.Standing.{Standings, is_member, member_of}
+use Rattle.ak_region.proofs.StoredLemmas.{whole_written}
 
 -- who stands at a pair as a member is one
 pub stands_at : (s : Standings) (place : ℕ) (there who : UniqueModel) (standing : Standing) (status : Status) (number : ℕ) → Some (there, standing) ≡ slice_get (map.entries s) place → standing ≡ Member status number
@@ -47,11 +47,6 @@ nothing_left p (x ∷ xs) (suc i) past = nothing_left p xs i (omega (arith, past
 pub all_over : {X : Type 0} (p : X → Bool) (xs : List X) (i : ℕ) → length xs ≤ i → list_all p xs ≡ list_all p (drop i xs) → true ≡ list_all p xs
 all_over p xs i past before = sym (before ∙ nothing_left p xs i past)
 
--- what was walked and left as it was, in the room that it had
+-- what was walked and left as it was
 pub left_whole : {X : Type 0} (len : ℕ) (xs now : List X) → len ≡ length xs → now ≡ xs → take len (now ++ drop (length now) xs) ≡ xs
-left_whole len xs now long is =
-    let many : length now ≡ length xs = ap length is in
-    ap (λ l. take len (now ++ l)) (drop_all (length now) xs (omega (arith, many)))
-    ∙ ap (take len) (append-nil now)
-    ∙ take_all len now (omega (arith, many, long))
-    ∙ is
+left_whole len xs now long is = whole_written len xs now long (ap length is) ∙ is

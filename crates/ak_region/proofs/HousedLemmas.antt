@@ -161,7 +161,7 @@ stored_with shards capacity most homes more new told messages stored is =
 pub stored_forgotten : (s : Standings) (shards capacity most len : ℕ) (homes left : List UniqueModel) (told now : List ShardSlot) (messages : List Message) → IsStored shards capacity most homes told messages
     → len ≡ length told → now ≡ map (without_stranger s) told → left ≡ filter (is_member s) homes → IsStored shards capacity most left (take len (now ++ drop (length now) told)) messages
 stored_forgotten s shards capacity most len homes left told now messages stored long is leave =
-    let whole = whole_written s len told now long is ∙ is in
+    let whole = whole_written len told now long (ap length is ∙ map_length s told) ∙ is in
     record {
       some = stored.some;
       few = stored.few;

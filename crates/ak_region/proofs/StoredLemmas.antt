@@ -143,14 +143,14 @@ changed_fits region shards told now messages most shard s same fits inside reach
     let long : length (set now shard s) ≡ length now = set_length now shard s in
     omega (arith, many, long, below, fits)
 
-pub whole_written : (s : Standings) (len : ℕ) (told now : List ShardSlot) → len ≡ length told → now ≡ map (without_stranger s) told → take len (now ++ drop (length now) told) ≡ now
-whole_written s len told now long is =
-    let many : length now ≡ length told = ap length is ∙ map_length s told in
-    ap (λ l. take len (now ++ l)) (drop_all (length now) told (omega (arith, many)))
+-- what was written over a whole list, in the room that it had
+pub whole_written : {X : Type 0} (len : ℕ) (before now : List X) → len ≡ length before → length now ≡ length before → take len (now ++ drop (length now) before) ≡ now
+whole_written len before now long many =
+    ap (λ l. take len (now ++ l)) (drop_all (length now) before (omega (arith, many)))
     ∙ ap (take len) (append-nil now)
     ∙ take_all len now (omega (arith, many, long))
 
 pub strangers_gone : (s : Standings) (region : RegionModel) (shards len : ℕ) (told now : List ShardSlot) (messages : List Message) (most : ℕ) → kept_as shards told messages most ≡ region
     → len ≡ length told → now ≡ map (without_stranger s) told → kept_as shards (take len (now ++ drop (length now) told)) messages most ≡ after_forget s region
 strangers_gone s region shards len told now messages most same long is =
-    ap (λ l. kept_as shards l messages most) (whole_written s len told now long is ∙ is) ∙ ap (λ l. record { slots = l; messages = messages; most = most }) (all_forgotten s shards told) ∙ ap (after_forget s) same
+    ap (λ l. kept_as shards l messages most) (whole_written len told now long (ap length is ∙ map_length s told) ∙ is) ∙ ap (λ l. record { slots = l; messages = messages; most = most }) (all_forgotten s shards told) ∙ ap (after_forget s) same

@@ -7,7 +7,7 @@ use Rattle.std.proofs.lemmas.List.Sums.{AllPass-from_list_all}
 use Rattle.std.proofs.lemmas.Bool.Decides.{nat_tests}
 use Rattle.ak_field.specs.Ranges.{is_entity_byte, IsEntity}
 use Rattle.ak_address.specs.Unique.{AddressModel, UniqueModel, IsUnique, IsAddress}
-use Rattle.ak_address.specs.Spelling.{IsWord, address_text, unique_text}
+use Rattle.ak_address.specs.Spelling.{IsWord, IsNumber, address_text, unique_text}
 use Rattle.ak_address.proofs.SpellingLemmas.{number_word, address_word, unique_word, number_text_spells, address_text_spells, unique_text_spells}
 use Rattle.ak_schedule.specs.declared.event.Event.{Event}
 use Rattle.ak_schedule.specs.declared.event.Event.TheVariants.{Start, Found, Join, Tick, Deliver, Leave, Down, Offer, Stop}
@@ -140,6 +140,14 @@ canonical_words (Offer u entity n) range = (
   unique_text_spells u range.0,
   range.1,
   number_spelled 0 (2 ^ 63 - 1) n (omega arith) (omega arith) (omega arith),
+)
+
+-- a delivery is `deliver`, a space and a number, whatever zeros that begins with
+pub delivered_words : (digits : List ℕ) (packet : ℕ) → IsNumber digits packet → packet ≤ 2 ^ 63 - 1 → SpellsWords (words (codes "deliver " ++ digits)) (Deliver packet)
+delivered_words digits packet number to = (
+  digits,
+  two (codes "deliver") digits (plain_name kind.Deliver) (plain_word digits (number_word digits packet number)),
+  record { number = number; from = omega arith; to = to },
 )
 
 -- texts are short

@@ -1,4 +1,4 @@
-ghost use Rattle.std.specs.Prelude.{◌≡◌, ◌-◌, ◌∷◌, codes};
+ghost use Rattle.std.specs.Prelude.{◌≡◌, ◌-◌, ◌∷◌, codes, IfSome};
 ghost use Rattle.ak_address.specs.Spelling.{SpellsAddress, SpellsUnique};
 ghost use Rattle.ak_schedule.specs.Line.{words};
 ghost use Rattle.ak_schedule.specs.Reading.{Reads, SpellsOne, SpellsTwo};
@@ -6,7 +6,7 @@ ghost use Rattle.ak_schedule.specs.Schedule.{SpellsEvent, SpellsWords};
 
 use crate::event::Event;
 use crate::fault::LineFault;
-use crate::kind::{is_deliver, is_text};
+use crate::kind::is_text;
 use crate::line::{MOST_BYTES, next_word, one_word, three_words, two_words};
 use ak_address::{
     Address, AddressFault, Text, Unique, is_address, is_unique, parse_address, parse_number,
@@ -28,13 +28,29 @@ pub fn read_line(alloc: Global, line: &[u8]) -> Result<Event, LineFault>
     if line.len() > MOST_BYTES {
         return Err(LineFault::Malformed);
     }
+    if let Some(packet) = delivered(line) {
+        return Ok(Event::Deliver(packet));
+    }
     let Some((name, rest)) = next_word(line) else {
         return Err(LineFault::Malformed);
     };
-    if is_deliver(name) {
+    if is_text(name, b"deliver") {
         return read_deliver(rest);
     }
     read_other(alloc, name, rest)
+}
+
+// The packet of a line that is `deliver`, one space and a number, as nearly all lines are: nobody looks for its words. Other lines
+// may spell a delivery too, with more spaces.
+fn delivered(line: &[u8]) -> Option<u64>
+    ensures { IfSome result (λ packet. SpellsWords (words line.now) (Event.Deliver packet)) }
+{
+    match line {
+        [b'd', b'e', b'l', b'i', b'v', b'e', b'r', b' ', number @ ..] => {
+            parse_number(number, 0, MOST_NUMBER)
+        }
+        _ => None,
+    }
 }
 
 // An event that is no delivery, from the first word of its line and the words after it.

@@ -4,12 +4,12 @@ use Rattle.std.specs.Prelude.{codes}
 use Rattle.std.specs.Fmt.{decimal}
 use Rattle.ak_report.specs.ActionText.{actions_text}
 use Rattle.ak_wire.specs.declared.envelope.Envelope.{Envelope}
-use Rattle.ak_world.specs.StepText.{summary_text, margin_text, double_text, IsSummary, step_text, delivery_text, shown, acting}
+use Rattle.ak_world.specs.StepText.{summary_text, margin_text, double_text, IsSummary, text_with, delivery_text, shown, acting}
 use Rattle.ak_world.specs.declared.margin.Margin.{Margin}
 use Rattle.ak_settings.specs.Settings.{SettingsModel}
 use Rattle.ak_world.specs.Margin.{IsMargin}
 use Rattle.ak_world.specs.Double.{Doubled, IsFirstDouble}
-use Rattle.ak_world.specs.World.{WorldState, Done, arrived_in}
+use Rattle.ak_world.specs.World.{WorldState, Done}
 use Rattle.ak_node.specs.declared.node.State.{State}
 use Rattle.ak_schedule.specs.Schedule.{event_text}
 use Rattle.ak_schedule.specs.declared.event.Event.{Event}
@@ -65,12 +65,12 @@ margin_done a b c d e f g text t0 t1 t2 t3 t4 t5 t6 t7 e1 e2 e3 e4 e5 e6 is prin
     margin_printed a b c d e f g t0 t1 t2 t3 t4 t5 t6 t7 e1 e2 e3 e4 e5 e6 printed ∙ ap (λ (t : List ℕ). t0 ++ t) (sym is)
 
 -- the parts of a step, one after another
-pub step_printed : (first number : ℕ) (e : Event) (done : Done) (n : Option State) (came : Option Envelope) (t0 t1 t2 t3 : List ℕ) → n ≡ acting done → came ≡ arrived_in e done.world
+pub step_printed : (told : Option Envelope) (first number : ℕ) (e : Event) (done : Done) (n : Option State) (came : Option Envelope) (t0 t1 t2 t3 : List ℕ) → n ≡ acting done → came ≡ told
     → t1 ≡ t0 ++ (decimal number ++ codes " " ++ event_text e)
     → t2 ≡ t1 ++ (10 ∷ delivery_text e came n)
     → t3 ≡ t2 ++ actions_text (shown n) first done.actions
-    → t3 ≡ t0 ++ step_text first number e done
-step_printed first number e done n came t0 t1 t2 t3 acts same e1 e2 e3 =
+    → t3 ≡ t0 ++ text_with told first number e done
+step_printed told first number e done n came t0 t1 t2 t3 acts same e1 e2 e3 =
     let head = decimal number ++ codes " " ++ event_text e in
     let arrival = 10 ∷ delivery_text e came n in
     let items = actions_text (shown n) first done.actions in
@@ -80,7 +80,7 @@ step_printed first number e done n came t0 t1 t2 t3 acts same e1 e2 e3 =
     ∙ append_assoc t0 head (arrival ++ items)
     ∙ ap (λ (m : Option State). t0 ++ (head ++ ((10 ∷ delivery_text e came m) ++ actions_text (shown m) first done.actions))) acts
     ∙ ap (λ (o : Option Envelope). t0 ++ (head ++ ((10 ∷ delivery_text e o (acting done)) ++ actions_text (shown (acting done)) first done.actions))) same
-    ∙ ap (λ (t : List ℕ). t0 ++ t) (in_order (decimal number) (codes " ") (event_text e) (10 ∷ []) (delivery_text e (arrived_in e done.world) (acting done)) (actions_text (shown (acting done)) first done.actions))
+    ∙ ap (λ (t : List ℕ). t0 ++ t) (in_order (decimal number) (codes " ") (event_text e) (10 ∷ []) (delivery_text e told (acting done)) (actions_text (shown (acting done)) first done.actions))
   where
     in_order : (a b c d e f : List ℕ) → ((a ++ b ++ c) ++ ((d ++ e) ++ f)) ≡ a ++ b ++ c ++ d ++ e ++ f
     in_order a b c d e f = simp append_assoc

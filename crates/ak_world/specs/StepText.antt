@@ -49,12 +49,15 @@ shown None = nothing_known
 abbrev pub acting : Done → Option State
 acting done = option_and_then (slice_get done.world.nodes) done.node
 
--- The text of a step: its number and event, what arrived, and an item for each action. The first packet that it may have sent has the number `first`.
+-- The text of a step with which this packet came, if one did: its number and event, what arrived, and an item for each action. The first
+-- packet that it may have sent has the number `first`.
+abbrev pub text_with : Option Envelope → ℕ → ℕ → Event → Done → List ℕ
+text_with came first number event done =
+    decimal number ++ codes " " ++ event_text event ++ 10 ∷ [] ++ delivery_text event came (acting done) ++ actions_text (shown (acting done)) first done.actions
+
+-- the text of a step of a world: the packet that a delivery names came with it
 abbrev pub step_text : ℕ → ℕ → Event → Done → List ℕ
-step_text first number event done =
-    decimal number ++ codes " " ++ event_text event ++ 10 ∷ []
-    ++ delivery_text event (arrived_in event done.world) (acting done)
-    ++ actions_text (shown (acting done)) first done.actions
+step_text first number event done = text_with (arrived_in event done.world) first number event done
 
 -- the process of a start number
 abbrev pub name_text : Option State → List ℕ

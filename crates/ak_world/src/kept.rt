@@ -1,6 +1,6 @@
 //! What a world keeps of the events that it accepted.
 
-ghost use Rattle.std.specs.Prelude.{◌≡◌, IfOk, IfSome};
+ghost use Rattle.std.specs.Prelude.{◌≡◌, ◌++◌, ◌∷◌, [], length, IfOk, IfSome, OnOk, OnErr};
 ghost use Rattle.ak_world.specs.Kept.{event_of};
 
 use ak_address::{Address, Unique};
@@ -14,10 +14,10 @@ use std::rc::Rc;
 // As many names that are no node's as kept events share: who is asked about and was never started.
 const MOST_OTHERS: usize = 256;
 
-/// The names that kept events share, so that an event is kept in a few bytes however long its names are. No contract speaks of
-/// them.
+// The names that kept events share, so that an event is kept in a few bytes however long its names are. No contract speaks of
+// them.
 #[derive(Drop)]
-pub(crate) struct Names {
+struct Names {
     // The processes that were started, by their start numbers.
     started: Vec<Rc<Unique>>,
     // Others that were named, up to a limit: each is sought along them.
@@ -27,8 +27,8 @@ pub(crate) struct Names {
 }
 
 impl Names {
-    /// No names. Takes no memory.
-    pub(crate) fn none(alloc: Global) -> Names {
+    // No names. Takes no memory.
+    fn none(alloc: Global) -> Names {
         Names {
             started: Vec::new(alloc),
             others: Vec::new(alloc),
@@ -156,8 +156,8 @@ impl Model for KeptEvent {
 }
 
 impl KeptEvent {
-    /// An event, to be kept, of the node of this start number; it shares its names with those kept before. Only memory can fail.
-    pub(crate) fn of(
+    // An event, to be kept, of the node of this start number; it shares its names with those kept before. Only memory can fail.
+    fn of(
         alloc: Global,
         event: &Event,
         node: Option<u32>,
@@ -204,5 +204,46 @@ fn form_of(
             Ok(Form::Offer(Box::new(alloc, (who, entity, *payload))?))
         }
         Event::Stop(who) => Ok(Form::Stop(names.actor(alloc, node, who)?)),
+    }
+}
+
+/// The events that a world accepted, and the names that they share.
+#[derive(Drop)]
+pub(crate) struct Accepted {
+    pub(crate) events: Vec<KeptEvent>,
+    names: Names,
+}
+
+impl Accepted {
+    /// No event. Takes no memory.
+    pub(crate) fn none(alloc: Global) -> Accepted
+        ensures { result.events.items ≡ [] }
+    {
+        Accepted {
+            events: Vec::new(alloc),
+            names: Names::none(alloc),
+        }
+    }
+
+    /// How many events there are.
+    pub(crate) fn len(&self) -> u64
+        ensures { result ≡ length self.now.events.items }
+    {
+        self.events.len() as u64
+    }
+
+    /// One more event, of the node of this start number. An error leaves the events as they were; only memory can fail.
+    pub(crate) fn push(
+        &mut self,
+        alloc: Global,
+        event: &Event,
+        node: Option<u32>,
+    ) -> Result<(), AllocError>
+        ensures ok { OnOk result (self.new.events.items ≡ self.old.events.items ++ event.now ∷ []) }
+        ensures err { OnErr result (self.new.events.items ≡ self.old.events.items) }
+    {
+        let kept = KeptEvent::of(alloc, event, node, &mut self.names)?;
+        self.events.push(kept)?;
+        Ok(())
     }
 }

@@ -6,7 +6,6 @@ ghost use Rattle.std.specs.Option.{option_and_then, option_copied, option_map};
 ghost use Rattle.ak_schedule.specs.Schedule.{event_text};
 ghost use Rattle.ak_report.specs.ActionText.{actions_text};
 ghost use Rattle.ak_wire.specs.Wire.{kind_text};
-ghost use Rattle.ak_world.specs.World.{arrived_in};
 ghost use Rattle.ak_world.specs.StepText as text;
 ghost use Rattle.ak_world.specs.WorldContracts.{doubled_of};
 
@@ -101,7 +100,8 @@ fn print_head(number: u64, event: &Event, out: &mut Vec<u8>) -> Result<(), Alloc
 const STEP_BYTES: usize = 512;
 
 /// Appends the text of a step: its number and event, what arrived, and an item for each action. The event is the last
-/// that the world accepted, and the step the one that it gave. An error leaves the text as it was; only memory can fail.
+/// that the world accepted, and the step the one that it gave: what arrived is the packet in the step. An error leaves the text as it
+/// was; only memory can fail.
 pub fn print_step(
     alloc: Global,
     world: &World,
@@ -110,9 +110,8 @@ pub fn print_step(
     step: &Step,
     out: &mut Vec<u8>,
 ) -> Result<(), AllocError>
-    requires { step.now.arrived ≡ arrived_in event.now world.now.state }
     ensures ok { OnOk result (out.new.items
-        ≡ out.old.items ++ text.step_text step.now.first_packet step_number event.now (record { world = world.now.state; node = step.now.node; actions = step.now.actions })) }
+        ≡ out.old.items ++ text.text_with step.now.arrived step.now.first_packet step_number event.now (record { world = world.now.state; node = step.now.node; actions = step.now.actions })) }
     ensures err { OnErr result (out.new.items ≡ out.old.items) }
 {
     let mut text = Vec::with_capacity(alloc, STEP_BYTES)?;
@@ -130,9 +129,8 @@ pub fn append_step(
     step: &Step,
     out: &mut Vec<u8>,
 ) -> Result<(), AllocError>
-    requires { step.now.arrived ≡ arrived_in event.now world.now.state }
     ensures { OnOk result (out.new.items
-        ≡ out.old.items ++ text.step_text step.now.first_packet step_number event.now (record { world = world.now.state; node = step.now.node; actions = step.now.actions })) }
+        ≡ out.old.items ++ text.text_with step.now.arrived step.now.first_packet step_number event.now (record { world = world.now.state; node = step.now.node; actions = step.now.actions })) }
 {
     let node = acting(world, step);
     print_head(step_number, event, out)?;

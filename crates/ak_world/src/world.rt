@@ -28,7 +28,7 @@ ghost use Rattle.ak_world.specs.DoubleMark.{NextDouble};
 ghost use Rattle.ak_world.specs.Stored.{AreToldApart, LeavesToldApart, different};
 
 use crate::double::{Double, first_made};
-use crate::kept::{KeptEvent, Names};
+use crate::kept::Accepted;
 use crate::margin::{Margin, first_end};
 use crate::packets::Packets;
 use crate::seek::{is_in_use, node_of, receiver_of};
@@ -503,28 +503,6 @@ impl<T: Drop> From<AllocFailed<T>> for Refused {
     }
 }
 
-// The events that a world accepted, and the names that they share.
-#[derive(Drop)]
-struct Accepted {
-    events: Vec<KeptEvent>,
-    names: Names,
-}
-
-// An event of the node of this start number is added to the accepted ones. An error leaves these as they were.
-fn keep_event(
-    alloc: Global,
-    event: &Event,
-    node: Option<u32>,
-    accepted: &mut Accepted,
-) -> Result<(), AllocError>
-    ensures ok { OnOk result (accepted.new.events.items ≡ accepted.old.events.items ++ event.now ∷ []) }
-    ensures err { OnErr result (accepted.new.events.items ≡ accepted.old.events.items) }
-{
-    let kept = KeptEvent::of(alloc, event, node, &mut accepted.names)?;
-    accepted.events.push(kept)?;
-    Ok(())
-}
-
 // What a world keeps in mind of its events: whether the removal margin was kept, and the first double.
 #[derive(Drop)]
 struct Marks {
@@ -549,15 +527,15 @@ fn keep_step(
     ensures left { OnErr result (accepted.new.events.items ≡ accepted.old.events.items) }
     ensures same { OnErr result (marks.new ≡ marks.old) }
 {
-    let number = count_of(&accepted.events) + 1;
+    let number = accepted.len() + 1;
     if marks.double.is_none() {
         let double = scene.double_at(alloc, number, step)?;
-        keep_event(alloc, event, step.node, accepted)?;
+        accepted.push(alloc, event, step.node)?;
         if let Some(double) = double {
             marks.double = Some(double);
         }
     } else {
-        keep_event(alloc, event, step.node, accepted)?;
+        accepted.push(alloc, event, step.node)?;
     }
     marks.margin = scene.marked(marks.margin, number, step);
     Ok(())
@@ -576,13 +554,6 @@ fn start_has_uid(event: &Event)
     if let Event::Start(who) = event {
         process(who);
     }
-}
-
-// How many events there are.
-fn count_of(events: &[KeptEvent]) -> u64
-    ensures { result ≡ length events.now }
-{
-    events.len() as u64
 }
 
 /// A world: the run of its settings over the events that it accepted. Once out of memory it is spent: it still shows its
@@ -635,10 +606,7 @@ impl World {
         };
         World {
             scene,
-            accepted: Accepted {
-                events: Vec::new(alloc),
-                names: Names::none(alloc),
-            },
+            accepted: Accepted::none(alloc),
             marks: Marks {
                 margin: Margin::Kept,
                 double: None,

@@ -1,5 +1,4 @@
 use Rattle.std.proofs.Common.{ap, ◌∙◌}
-use Rattle.ak_membership.specs.declared.state.MembershipState.{MembershipState}
 use Rattle.ak_membership.specs.Membership.{is_member}
 use Rattle.ak_membership.proofs.RestLemmas.{member_at_rest}
 use Rattle.ak_membership.proofs.membership.Membership.is_member.Goals as goal
