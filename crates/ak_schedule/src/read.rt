@@ -1,4 +1,4 @@
-ghost use Rattle.std.specs.Prelude.{◌≡◌, ◌-◌, ◌∷◌, codes, IfSome};
+ghost use Rattle.std.specs.Prelude.{◌≡◌, ◌-◌, ◌∷◌, ◌++◌, codes, IfSome};
 ghost use Rattle.ak_address.specs.Spelling.{SpellsAddress, SpellsUnique};
 ghost use Rattle.ak_schedule.specs.Line.{words};
 ghost use Rattle.ak_schedule.specs.Reading.{Reads, SpellsOne, SpellsTwo};
@@ -45,10 +45,16 @@ pub fn read_line(alloc: Global, line: &[u8]) -> Result<Event, LineFault>
 fn delivered(line: &[u8]) -> Option<u64>
     ensures { IfSome result (λ packet. SpellsWords (words line.now) (Event.Deliver packet)) }
 {
+    let digits = after_deliver(line)?;
+    parse_number(digits, 0, MOST_NUMBER)
+}
+
+// What stands after `deliver` and one space.
+fn after_deliver(line: &[u8]) -> Option<&[u8]>
+    ensures { IfSome result (λ digits. line.now ≡ codes "deliver " ++ digits.now) }
+{
     match line {
-        [b'd', b'e', b'l', b'i', b'v', b'e', b'r', b' ', number @ ..] => {
-            parse_number(number, 0, MOST_NUMBER)
-        }
+        [b'd', b'e', b'l', b'i', b'v', b'e', b'r', b' ', digits @ ..] => Some(digits),
         _ => None,
     }
 }
