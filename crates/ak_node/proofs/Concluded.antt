@@ -1,28 +1,53 @@
 -- A step that is concluded once is concluded: nothing is due a second time.
-use Rattle.std.proofs.Common.{◌≡◌, ℕ, ◌+◌, Bool, true, false, not, ◌&&◌, ◌++◌, [], ◌∷◌, is_some, refl, sym, ap, ◌∙◌, subst, true≢false, if◌then◌else◌}
-use Rattle.ak_member.specs.Standing.{Standings, member_of}
-use Rattle.ak_address.specs.Unique.{UniqueModel}
-use Rattle.ak_address.proofs.TableLaws.{get-empty}
+use Rattle.std.proofs.Common.{◌≡◌, ℕ, ◌≤◌, zero, suc, nat_le, ◌+◌, take, ◌||◌, is_some, Bool, true, false, not, ◌&&◌, List, map, replicate, Option, Some, None, Result, Ok, Err, IfOk, ◌++◌, [], ◌∷◌, refl, sym, ap, ◌∙◌, subst, arith, true≢false, if◌then◌else◌}
+use Rattle.std.proofs.lemmas.Bool.Decides.{nat_tests}
+use Rattle.std.specs.FinMap as finmap
+use Rattle.std.specs.List.{filter}
+use Rattle.std.specs.Ordering.{is_lt}
+use Rattle.ak_member.specs.Standing as standing
+use Rattle.ak_member.specs.Standing.{Standings, member_pairs}
+use Rattle.ak_address.specs.Unique.{AddressModel, UniqueModel, unique_cmp}
+use Rattle.ak_address.proofs.TableLaws.{get-empty, entries-empty}
+use Rattle.ak_address.specs.Distinct.{distinct}
+use Rattle.ak_address.specs.Uniques.{UniqueSet, no_one, set_of}
+use Rattle.ak_clock.specs.Version.{covers, relation_by}
+use Rattle.ak_clock.proofs.VersionLaws.{covers_itself, test_from_covers}
+use Rattle.ak_converge.specs.Convergence.{is_converged, is_settled}
+use Rattle.ak_detector.specs.Detector.{watching, most_watched}
+use Rattle.ak_detector.proofs.DetectorLemmas.{keys-none}
+use Rattle.ak_detector.proofs.RingLaws.{watches_on}
+use Rattle.ak_member.specs.View.{empty_view}
+use Rattle.ak_membership.specs.declared.state.MembershipState.{MembershipState}
+use Rattle.ak_member.specs.Age.{counted_addresses, counted_pairs}
+use Rattle.ak_member.specs.declared.status.Status.{Status}
 use Rattle.ak_membership.specs.Closing as closing
+use Rattle.ak_settled.specs.Settled.{version_of, after_note}
 use Rattle.ak_membership.specs.Membership as membership
 use Rattle.ak_membership.specs.Membership.{started}
-use Rattle.ak_membership.specs.declared.state.MembershipState.{MembershipState}
+use Rattle.ak_membership.specs.Tick as ticks
+use Rattle.ak_membership.specs.Tick.{has_settled}
 use Rattle.ak_membership.proofs.RestLemmas.{closed_again}
-use Rattle.ak_region.specs.Region.{after_forget}
+use Rattle.ak_region.specs.Region.{after_forget, new_region}
 use Rattle.ak_region.specs.RegionModel.{RegionModel}
+use Rattle.ak_region.specs.Slot.{untold, without_stranger}
 use Rattle.ak_region.proofs.Forgetting.{forgets_once}
+use Rattle.ak_settings.specs.Settings.{SettingsModel, IsStrategy, settling_size}
+use Rattle.ak_settings.specs.declared.settings.Strategy.{Strategy}
+use Rattle.ak_settings.specs.declared.settings.Strategy.TheVariants.{StaticQuorum, KeepMajority, DownAll}
 use Rattle.ak_settled.specs.SettledView.{SettledView}
 use Rattle.ak_sharding.specs.Hosts as hosts
-use Rattle.ak_sharding.specs.Sharding.{ShardingModel}
+use Rattle.ak_sharding.specs.Sharding.{ShardingModel, new_sharding}
 use Rattle.ak_singleton.specs.Singleton as singleton
 use Rattle.ak_singleton.specs.Singleton.{SingletonModel}
+use Rattle.ak_wire.specs.declared.action.Action.{Action}
 use Rattle.ak_wire.specs.declared.action.Action.TheVariants.{Dead}
 use Rattle.ak_wire.specs.declared.envelope.Message.TheVariants as message
 use Rattle.ak_node.specs.declared.node.NodeEvent.{NodeEvent}
 use Rattle.ak_node.specs.declared.node.NodeEvent.TheVariants.{Found, Join, Tick, Packet, Leave, Down, Offer, Stop}
 use Rattle.ak_node.specs.declared.node.State.{State}
-use Rattle.ak_node.specs.Node.{Outcome, me_of, is_member, settled_of, margin_of, around, sharing, and_then, closes, forgets, activates, becomes_active, concludes, due, rule, is_dead, running_step, step, nothing, to_address}
-use Rattle.ak_node.specs.NodeContracts.{IsConcluded, is_idle}
+use Rattle.ak_node.specs.Node as node
+use Rattle.ak_node.specs.Node.{Outcome, me_of, is_member, settled_of, margin_of, around, sharing, and_then, closes, forgets, activates, becomes_active, concludes, due, rule, is_dead, running_step, step, nothing, to_address, asks_at}
+use Rattle.ak_node.specs.NodeContracts.{Does, IsConcluded, is_idle, is_asking}
 
 -- ---- a state of which nothing is due
 module _ (n : State) (runs : n.runs ≡ true)
@@ -82,11 +107,11 @@ step_concluded e n is = by_runs n.runs refl
     counted = record n { steps = n.steps + 1 }
 
     dead : IsConcluded counted
-    dead runs member = ap (λ (o : Outcome). (record o.0 { steps = n.steps + 1 }, o.1)) (is runs member)
+    dead runs = ap (λ (o : Outcome). (record o.0 { steps = n.steps + 1 }, o.1)) (is runs)
 
     by_dead : (d : Bool) → IsConcluded (if d then (counted, Dead ∷ []) else and_then concludes (rule e counted)).0
     by_dead true = dead
-    by_dead false = λ runs member. concluded_again (rule e counted).0 runs
+    by_dead false = concluded_again (rule e counted).0
 
     by_runs : (b : Bool) → n.runs ≡ b → IsConcluded (if b then running_step e counted else nothing n).0
     by_runs true runs = by_dead (is_dead (me_of n) e)
@@ -98,7 +123,7 @@ idle_step (Join target) n runs is member =
     let counted : State = record n { steps = n.steps + 1 } in
     ap (λ b. if b then running_step (Join target) counted else nothing n) runs
     ∙ ap (λ b. and_then concludes (if b then nothing counted else (record counted { membership = membership.join target n.membership }, to_address counted target message.Join ∷ []))) member
-    ∙ ap (λ (o : Outcome). (record o.0 { steps = n.steps + 1 }, [] ++ o.1)) (is runs member)
+    ∙ ap (λ (o : Outcome). (record o.0 { steps = n.steps + 1 }, [] ++ o.1)) (is runs)
 idle_step Found n runs is idle = absurd (true≢false (sym idle))
 idle_step (Tick word) n runs is idle = absurd (true≢false (sym idle))
 idle_step (Packet e) n runs is idle = absurd (true≢false (sym idle))
@@ -107,9 +132,97 @@ idle_step (Down who) n runs is idle = absurd (true≢false (sym idle))
 idle_step (Offer entity payload) n runs is idle = absurd (true≢false (sym idle))
 idle_step Stop n runs is idle = absurd (true≢false (sym idle))
 
--- ---- of a node: after a step, and where it knows nobody
+-- ---- a tick of a node that is no member
+pub asking_step : (e : NodeEvent) (n : State) → n.runs ≡ true → IsConcluded n → is_asking e n ≡ true → step e n ≡ (record n { steps = n.steps + 1 }, (asks_at n.membership.target n).1)
+asking_step (Tick word) n runs is asking =
+    let counted : State = record n { steps = n.steps + 1 } in
+    ap (λ b. if b then running_step (Tick word) counted else nothing n) runs
+    ∙ ap (λ b. and_then concludes (if b then and_then (node.goes_on word) (node.ticked counted (ticks.tick n.membership)) else asks_at n.membership.target counted)) (not_true (is_member n) asking)
+    ∙ by_target n.membership.target
+  where
+    not_true : (b : Bool) → not b ≡ true → b ≡ false
+    not_true true is = absurd (true≢false (sym is))
+    not_true false is = refl
+
+    by_target : (target : Option AddressModel) → and_then concludes (asks_at target (record n { steps = n.steps + 1 })) ≡ (record n { steps = n.steps + 1 }, (asks_at target n).1)
+    by_target None = ap (λ (o : Outcome). (record o.0 { steps = n.steps + 1 }, [] ++ o.1)) (is runs)
+    by_target (Some target) = ap (λ (o : Outcome). (record o.0 { steps = n.steps + 1 }, to_address n target message.Join ∷ [] ++ o.1)) (is runs)
+asking_step Found n runs is asking = absurd (true≢false (sym asking))
+asking_step (Join target) n runs is asking = absurd (true≢false (sym asking))
+asking_step (Packet e) n runs is asking = absurd (true≢false (sym asking))
+asking_step (Leave who) n runs is asking = absurd (true≢false (sym asking))
+asking_step (Down who) n runs is asking = absurd (true≢false (sym asking))
+asking_step (Offer entity payload) n runs is asking = absurd (true≢false (sym asking))
+asking_step Stop n runs is asking = absurd (true≢false (sym asking))
+
+pub asking_does : {X : Type 0} (e : NodeEvent) (old new : State) (r : Result (List Action) X) → old.runs ≡ true → IsConcluded old → is_asking e old ≡ true
+    → new ≡ record old { steps = old.steps + 1 } → IfOk r (λ actions. actions ≡ (asks_at old.membership.target old).1) → IfOk r (λ actions. Does (step e old) new actions)
+asking_does e old new (Ok actions) runs concluded asking is does =
+    let steps = asking_step e old runs concluded asking in
+    record { state_after = is ∙ sym (ap (λ (o : Outcome). o.0) steps); actions_done = does ∙ sym (ap (λ (o : Outcome). o.1) steps) }
+asking_does e old new (Err error) runs concluded asking is does = tt
+
+-- ---- of a node: after a step, and where it starts
 pub leaves_concluded : (e : NodeEvent) (old new : State) → IsConcluded old → new ≡ (step e old).0 → IsConcluded new
 leaves_concluded e old new was is = subst IsConcluded (sym is) (step_concluded e old was)
 
-pub nobody_concluded : (n : State) → n.membership ≡ started (me_of n) n.membership.settings → IsConcluded n
-nobody_concluded n is runs member = absurd (true≢false (sym member ∙ ap (λ (m : MembershipState). membership.is_member m) is ∙ ap (λ o. is_some (member_of o)) (get-empty (me_of n))))
+-- Whoever knows nobody has nothing due: nobody is watched, and a settled view has somebody at one address at least.
+others_among : UniqueModel → List (UniqueModel × (Status × ℕ)) → List UniqueModel
+others_among me pairs =
+    let members = map (λ (pair : UniqueModel × (Status × ℕ)). pair.0) pairs in
+    filter (λ who. is_lt (unique_cmp me who)) members ++ filter (λ who. is_lt (unique_cmp who me)) members
+
+nobody_watched : (me : UniqueModel) (deadline : ℕ) → watching me finmap.empty deadline finmap.empty ≡ finmap.empty
+unfolding others_among
+nobody_watched me deadline = watches_on me finmap.empty deadline finmap.empty no_one keys-none (λ i. set_of (take most_watched (others_among me (member_pairs (sym entries-empty i)))))
+
+nobody_counts : counted_addresses finmap.empty ≡ []
+nobody_counts = λ i. map (λ (pair : UniqueModel × ℕ). pair.0.address) (counted_pairs (member_pairs (entries-empty i)))
+
+above_none : (quorum : ℕ) → 1 ≤ quorum → nat_le quorum 0 ≡ false
+above_none quorum some = grind (arith, nat_tests, some)
+
+none_settled : (quorum : ℕ) (seen : UniqueSet) → 1 ≤ quorum → is_settled quorum empty_view seen ≡ false
+none_settled quorum seen some = (λ i. is_converged empty_view seen && nat_le quorum (distinct (nobody_counts i))) ∙ (λ i. is_converged empty_view seen && above_none quorum some i) ∙ and_false (is_converged empty_view seen)
+  where
+    and_false : (b : Bool) → (b && false) ≡ false
+    and_false true = refl
+    and_false false = refl
+
+nobody_closes : (me : UniqueModel) (settings : SettingsModel) → 1 ≤ settling_size settings.strategy
+    → closing.close false (started me settings) ≡ (started me settings, record { viewed = false; stopped = false; settled = false })
+nobody_closes me settings some =
+    let m = started me settings in
+    λ i. (
+      record m { detector = nobody_watched me settings.deadline i; settled = if not (stays i) && (settles i && not_noted) then after_note m.gossip.version m.gossip.view.standings m.settled else m.settled },
+      record { viewed = not (closing.is_same (relation_by (itself i) (itself i))); stopped = stays i; settled = not (stays i) && (settles i && not_noted) },
+    )
+  where
+    itself : covers finmap.empty finmap.empty ≡ true
+    itself = test_from_covers finmap.empty finmap.empty (covers_itself finmap.empty)
+
+    stays : closing.stops false (started me settings) ≡ false
+    stays = ap standing.is_gone (get-empty me)
+
+    settles : has_settled (started me settings) ≡ false
+    settles = none_settled (settling_size settings.strategy) no_one some
+
+    not_noted : Bool
+    not_noted = not (is_some (started me settings).settled.view) || closing.is_other (version_of (started me settings).settled.view) finmap.empty
+
+kept_slots : (s : Standings) (many : ℕ) → map (without_stranger s) (replicate many untold) ≡ replicate many untold
+kept_slots s zero = refl
+kept_slots s (suc many) = λ i. untold ∷ kept_slots s many i
+
+pub settles_some : (strategy : Strategy) → IsStrategy strategy → 1 ≤ settling_size strategy
+settles_some (StaticQuorum quorum) within = within.from
+settles_some KeepMajority within = omega arith
+settles_some DownAll within = omega arith
+
+pub starts_concluded : (me : UniqueModel) (settings : SettingsModel) (m : MembershipState) (s : SingletonModel) (h : ShardingModel) → 1 ≤ settling_size settings.strategy
+    → m ≡ started me settings → s ≡ singleton.unasked → h ≡ new_sharding settings → IsConcluded (record { membership = m; singleton = s; sharding = h; runs = true; steps = 0 })
+starts_concluded me settings m s h some is_m is_s is_h = subst IsConcluded (λ i. record { membership = sym is_m i; singleton = sym is_s i; sharding = sym is_h i; runs = true; steps = 0 }) concluded
+  where
+    concluded : IsConcluded (node.started me settings)
+    concluded runs = concludes_nothing (node.started me settings) refl (nobody_closes me settings some)
+        (ap (λ slots. record (new_sharding settings) { region = record (new_region settings.shards settings.buffer) { slots = slots } }) (kept_slots finmap.empty settings.shards)) refl

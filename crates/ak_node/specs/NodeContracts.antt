@@ -1,6 +1,7 @@
 -- Words of the contracts of a node's calls.
-use Rattle.std.specs.Prelude.{◌≡◌, ◌⊎◌, ◌≤◌, ℕ, Bool, true, false, not, ◌&&◌, List, [], Some, IsTrue}
+use Rattle.std.specs.Prelude.{◌≡◌, ◌⊎◌, ◌≤◌, ℕ, Bool, true, false, not, ◌&&◌, List, [], Option, Some, IsTrue}
 use Rattle.std.specs.FinMap as map
+use Rattle.ak_address.specs.Unique.{UniqueModel}
 use Rattle.ak_member.specs.declared.status.Status.{Status}
 use Rattle.ak_member.specs.declared.standing.Standing.TheVariants.{Member}
 use Rattle.ak_member.specs.Standing.{is_down}
@@ -8,8 +9,10 @@ use Rattle.ak_membership.specs.MembershipContracts as membership
 use Rattle.ak_gossip.specs.Gossip.{nothing_known}
 use Rattle.ak_settled.specs.Settled.{IsCounting}
 use Rattle.ak_wire.specs.declared.action.Action.{Action}
+use Rattle.ak_wire.specs.declared.envelope.Envelope.{Envelope}
+use Rattle.ak_wire.specs.declared.envelope.Message as message
 use Rattle.ak_node.specs.declared.node.NodeEvent.{NodeEvent}
-use Rattle.ak_node.specs.declared.node.NodeEvent.TheVariants.{Join}
+use Rattle.ak_node.specs.declared.node.NodeEvent.TheVariants.{Join, Tick}
 use Rattle.ak_node.specs.declared.node.State.{State}
 use Rattle.ak_node.specs.Node.{Outcome, known, me_of, is_gone, is_member, concludes}
 
@@ -48,9 +51,18 @@ pub record IsNode (n : State) : Type 0 where
   pub counting : IsCounting n.membership.settings.margin n.membership.settled.view
   pub stays : IsTrue n.runs → is_gone n ≡ false
 
--- what a step leaves of a member that runs is concluded: if it were concluded once more, nothing would be due and nothing changed
+-- what a step leaves of a node that runs is concluded: if it were concluded once more, nothing would be due and nothing changed
 abbrev pub IsConcluded : State → Type 0
-IsConcluded n = n.runs ≡ true → is_member n ≡ true → concludes n ≡ (n, [])
+IsConcluded n = n.runs ≡ true → concludes n ≡ (n, [])
+
+-- what a process sends that asks to be let in
+abbrev pub IsRequest : UniqueModel → Option Envelope → Type 0
+IsRequest me request = (e : Envelope) → request ≡ Some e → e ≡ record { from = me; to = e.to; uid = 0; message = message.TheVariants.Join }
+
+-- a node that is no member asks at each tick to be let in
+abbrev pub is_asking : NodeEvent → State → Bool
+is_asking (Tick word) n = not (is_member n)
+is_asking _ n = false
 
 -- Memory may be asked for at an event: the node runs, and the event is not that it joins a cluster in which it is a member.
 abbrev pub is_idle : NodeEvent → State → Bool

@@ -4,6 +4,7 @@
 
 mod actions;
 mod ballots;
+mod given;
 mod laws;
 mod node;
 mod own;

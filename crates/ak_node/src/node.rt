@@ -1,15 +1,16 @@
-ghost use Rattle.std.specs.Prelude.{◌≡◌, ◌⊎◌, ◌<◌, ◌≤◌, ◌^◌, ◌++◌, ◌∷◌, [], not, true, false, IfOk, OnOk, OnErr, IsTrue, option_copied, option_map};
+ghost use Rattle.std.specs.Prelude.{◌≡◌, ◌⊎◌, ◌<◌, ◌≤◌, ◌^◌, ◌+◌, ◌++◌, ◌∷◌, [], not, true, false, IfOk, OnOk, OnErr, IsTrue, option_copied, option_map};
 ghost use Rattle.ak_membership.specs.MembershipContracts.{IsWatching};
 ghost use Rattle.ak_membership.specs.Tick as rules_of_ticks;
 ghost use Rattle.std.specs.FinMap as finmap;
 ghost use Rattle.ak_region.specs.Region as regions;
 ghost use Rattle.ak_node.specs.Node as rules;
 ghost use Rattle.ak_node.specs.Sends.{AreValid, ComesValid, IsProcess, IsSaid};
-ghost use Rattle.ak_node.specs.NodeContracts.{Does, IsSameProcess, IsLeftOver, IsSilent, IsConcluded, ServesWhileItRuns, is_idle, may_ask};
+ghost use Rattle.ak_node.specs.NodeContracts.{Does, IsSameProcess, IsLeftOver, IsSilent, IsConcluded, IsRequest, ServesWhileItRuns, is_idle, is_asking, may_ask};
 
 use crate::actions::{one, push_due, refuse, tell, told};
+use crate::given::{Given, Tick, happens};
 use crate::own::{is_dead, is_for};
-use crate::ranges::{address, offered, process};
+use crate::ranges::{address, process};
 use ak_address::{Address, Text, Unique};
 use ak_field::EntityId;
 use ak_gossip::Gossip;
@@ -82,9 +83,13 @@ impl State {
         Cover::between(alloc, self.me(), to)
     }
 
-    // Asks for admission through an address.
-    fn asks(&self, alloc: Global, target: &Address) -> Result<Actions, AllocError>
-        ensures { IfOk result (λ actions. actions ≡ rules.to_address self.now target.now Message.Join ∷ []) }
+    // What it sends to an address to be let in.
+    pub(crate) fn request(
+        &self,
+        alloc: Global,
+        target: &Address,
+    ) -> Result<SharedEnvelope, AllocError>
+        ensures { IfOk result (λ sent. sent ≡ record { from = rules.me_of self.now; to = target.now; uid = 0; message = Message.Join }) }
     {
         let from = self.me().copy(alloc)?;
         let to = target.copy(alloc)?;
@@ -94,17 +99,7 @@ impl State {
             uid: 0,
             message: Message::Join,
         };
-        one(alloc, Action::Send(SharedEnvelope::of(alloc, envelope)?))
-    }
-
-    // Asks the target again, where there is one.
-    fn asks_again(&self, alloc: Global) -> Result<Actions, AllocError>
-        ensures { IfOk result (λ actions. actions ≡ (rules.asks_at self.now.membership.target self.now).1) }
-    {
-        match self.membership.target() {
-            Some(target) => self.asks(alloc, target),
-            None => Ok(Actions::empty(alloc)),
-        }
+        SharedEnvelope::of(alloc, envelope)
     }
 
     // Adds the answer to who asked, with what is known now.
@@ -142,7 +137,7 @@ impl State {
         Ok(actions)
     }
 
-    fn found(&mut self, alloc: Global) -> Result<Actions, AllocError>
+    pub(crate) fn found(&mut self, alloc: Global) -> Result<Actions, AllocError>
         ensures does { IfOk result (λ actions. Does (rules.found self.old) self.new actions) }
         ensures same { IsSameProcess self.old self.new }
     {
@@ -150,7 +145,7 @@ impl State {
         told(alloc, change)
     }
 
-    fn join(&mut self, alloc: Global, target: &Address) -> Result<Actions, AllocError>
+    pub(crate) fn join(&mut self, alloc: Global, target: &Address) -> Result<Actions, AllocError>
         ensures does { IfOk result (λ actions. Does (rules.join target.now self.old) self.new actions) }
         ensures same { IsSameProcess self.old self.new }
     {
@@ -158,12 +153,12 @@ impl State {
             return Ok(Actions::empty(alloc));
         }
         let kept = target.copy(alloc)?;
-        let actions = self.asks(alloc, target)?;
+        let actions = one(alloc, Action::Send(self.request(alloc, target)?))?;
         self.membership.join(kept);
         Ok(actions)
     }
 
-    fn leave(&mut self, alloc: Global, who: &Unique) -> Result<Actions, AllocError>
+    pub(crate) fn leave(&mut self, alloc: Global, who: &Unique) -> Result<Actions, AllocError>
         ensures does { IfOk result (λ actions. Does (rules.leave who.now self.old) self.new actions) }
         ensures same { IsSameProcess self.old self.new }
     {
@@ -173,7 +168,7 @@ impl State {
         }
     }
 
-    fn down(&mut self, alloc: Global, who: &Unique) -> Result<Actions, AllocError>
+    pub(crate) fn down(&mut self, alloc: Global, who: &Unique) -> Result<Actions, AllocError>
         ensures does { IfOk result (λ actions. Does (rules.down who.now self.old) self.new actions) }
         ensures same { IsSameProcess self.old self.new }
     {
@@ -351,22 +346,21 @@ impl State {
         Ok(actions)
     }
 
-    fn tick(&mut self, alloc: Global, word: u32) -> Result<Actions, AllocError>
+    // A tick of a member.
+    pub(crate) fn tick(&mut self, alloc: Global, word: u32) -> Result<Actions, AllocError>
+        requires member { IsTrue (rules.is_member self.old) }
         requires ticks { self.old.membership.ticks < 2 ^ 62 }
         requires watching { IsWatching self.old.membership }
         ensures does { IfOk result (λ actions. Does (rules.tick word self.old) self.new actions) }
         ensures same { IsSameProcess self.old self.new }
     {
-        if !self.membership.is_member() {
-            return self.asks_again(alloc);
-        }
         let change = self.membership.tick(alloc)?;
         let mut actions = self.tells_of_tick(alloc, change)?;
         self.goes_on(alloc, word, &mut actions)?;
         Ok(actions)
     }
 
-    fn stop(&mut self, alloc: Global) -> Result<Actions, AllocError>
+    pub(crate) fn stop(&mut self, alloc: Global) -> Result<Actions, AllocError>
         ensures does { IfOk result (λ actions. Does (rules.stop self.old) self.new actions) }
         ensures same { IsSameProcess self.old self.new }
     {
@@ -374,7 +368,11 @@ impl State {
         Ok(Actions::empty(alloc))
     }
 
-    fn on_packet(&mut self, alloc: Global, envelope: &Envelope) -> Result<Actions, AllocError>
+    pub(crate) fn on_packet(
+        &mut self,
+        alloc: Global,
+        envelope: &Envelope,
+    ) -> Result<Actions, AllocError>
         ensures does { IfOk result (λ actions. Does (rules.rule (NodeEvent.Packet envelope.now) self.old) self.new actions) }
         ensures same { IsSameProcess self.old self.new }
     {
@@ -420,7 +418,7 @@ impl State {
 
     // One event: its rule and then the closing. A node that has stopped does nothing, and a packet for another process is dead.
     // Where the event changes nothing, nothing is due either, since the step before was concluded.
-    fn step<E: Given>(
+    pub(crate) fn step<E: Given>(
         &mut self,
         alloc: Global,
         event: &E,
@@ -431,6 +429,7 @@ impl State {
         requires ticked { self.old.membership.ticks ≤ self.old.steps }
         requires watching { IsWatching self.old.membership }
         requires concluded { IsConcluded self.old }
+        requires asked { self.old.runs ≡ true → is_asking (E.event event.now) self.old ≡ false }
         ensures does { IfOk result (λ actions. Does (rules.step (E.event event.now) self.old) self.new actions) }
         ensures same { IsSameProcess self.old self.new }
         ensures memory { OnErr result (IsTrue (may_ask (E.event event.now) self.old)) }
@@ -455,6 +454,7 @@ impl State {
         requires dead { dead ≡ rules.is_dead (rules.me_of self.old) (E.event event.now) }
         requires ticks { self.old.membership.ticks < 2 ^ 62 }
         requires watching { IsWatching self.old.membership }
+        requires asked { is_asking (E.event event.now) self.old ≡ false }
         ensures does { IfOk result (λ actions. Does (rules.running_step (E.event event.now) self.old) self.new actions) }
         ensures same { IsSameProcess self.old self.new }
     {
@@ -467,6 +467,7 @@ impl State {
     fn acts<E: Given>(&mut self, alloc: Global, event: &E) -> Result<Actions, AllocError>
         requires ticks { self.old.membership.ticks < 2 ^ 62 }
         requires watching { IsWatching self.old.membership }
+        requires asked { is_asking (E.event event.now) self.old ≡ false }
         ensures does { IfOk result (λ actions. Does (rules.and_then rules.concludes (rules.rule (E.event event.now) self.old)) self.new actions) }
         ensures same { IsSameProcess self.old self.new }
     {
@@ -478,108 +479,22 @@ impl State {
     }
 }
 
-// What a node is given: an event, or a packet. It stays with whoever gives it.
-trait Given {
-    ghost use Rattle.ak_node.specs.declared.node.NodeEvent.{NodeEvent};
-
-    // The event that it is.
-    ghost event: { Self → NodeEvent };
-
-    // It changes nothing: the node is to join a cluster in which it is a member.
-    fn is_idle(&self, state: &State) -> bool
-        ensures { result ≡ is_idle (event self.now) state.now };
-
-    // Its rule.
-    fn rule(&self, alloc: Global, state: &mut State) -> Result<Actions, AllocError>
-        requires ticks { state.old.membership.ticks < 2 ^ 62 }
-        requires watching { IsWatching state.old.membership }
-        ensures does { IfOk result (λ actions. Does (rules.rule (event self.now) state.old) state.new actions) }
-        ensures same { IsSameProcess state.old state.new };
-
-    // Tells a proof that the address in it is in its ranges, as every address is.
-    fn said(&self)
-        requires { ComesValid (event self.now) }
-        ensures { IsSaid (event self.now) };
-}
-
-impl Given for NodeEvent {
-    ghost event = { λ e. e };
-
-    fn is_idle(&self, state: &State) -> bool
-        ensures { result ≡ is_idle self.now state.now }
-    {
-        match self {
-            NodeEvent::Join(_) => state.membership.is_member(),
-            _ => false,
-        }
-    }
-
-    fn rule(&self, alloc: Global, state: &mut State) -> Result<Actions, AllocError>
-        requires ticks { state.old.membership.ticks < 2 ^ 62 }
-        requires watching { IsWatching state.old.membership }
-        ensures does { IfOk result (λ actions. Does (rules.rule self.now state.old) state.new actions) }
-        ensures same { IsSameProcess state.old state.new }
-    {
-        match self {
-            NodeEvent::Found => state.found(alloc),
-            NodeEvent::Join(target) => state.join(alloc, target),
-            NodeEvent::Tick(word) => state.tick(alloc, *word),
-            NodeEvent::Packet(envelope) => state.on_packet(alloc, envelope),
-            NodeEvent::Leave(who) => state.leave(alloc, who),
-            NodeEvent::Down(who) => state.down(alloc, who),
-            NodeEvent::Offer(entity, payload) => state.offer(alloc, entity, *payload),
-            NodeEvent::Stop => state.stop(alloc),
-        }
-    }
-
-    fn said(&self)
-        requires { ComesValid self.now }
-        ensures { IsSaid self.now }
-    {
-        match self {
-            NodeEvent::Join(target) => address(target),
-            NodeEvent::Offer(entity, payload) => offered(entity, *payload),
-            _ => {}
-        }
-    }
-}
-
-impl Given for Envelope {
-    ghost use Rattle.ak_node.specs.declared.node.NodeEvent.TheVariants.{Packet};
-
-    ghost event = { λ p. Packet p };
-
-    fn is_idle(&self, _state: &State) -> bool
-        ensures { result ≡ is_idle (NodeEvent.Packet self.now) _state.now }
-    {
-        false
-    }
-
-    fn rule(&self, alloc: Global, state: &mut State) -> Result<Actions, AllocError>
-        ensures does { IfOk result (λ actions. Does (rules.rule (NodeEvent.Packet self.now) state.old) state.new actions) }
-        ensures same { IsSameProcess state.old state.new }
-    {
-        state.on_packet(alloc, self)
-    }
-
-    fn said(&self)
-        requires { ComesValid (NodeEvent.Packet self.now) }
-        ensures { IsSaid (NodeEvent.Packet self.now) }
-    {}
-}
-
 /// A node. Once out of memory it is spent: it is the same process with the same settings and knows nothing, and each later
 /// step answers that it is out of memory. It had no more ticks than steps: an invariant of the type.
 #[derive(Drop)]
 pub struct Node {
     state: State,
+    // What it sent when it last asked at a tick to be let in.
+    request: Option<SharedEnvelope>,
     // The error with which it ran out of memory.
     failed: Option<AllocError>,
 }
 
 impl Model for Node {
     ghost use Rattle.std.specs.Prelude.{is_some};
-    ghost use Rattle.ak_node.specs.NodeContracts.{NodeModel, IsNode, HasForgotten, IsConcluded};
+    ghost use Rattle.std.specs.Prelude.{◌≡◌, false};
+    ghost use Rattle.ak_node.specs.Node.{me_of};
+    ghost use Rattle.ak_node.specs.NodeContracts.{NodeModel, IsNode, HasForgotten, IsConcluded, IsRequest};
     ghost use Rattle.ak_node.specs.Sends.{KnowsProcesses, KeepsBallots, KeepsSettled, KeepsShards};
     ghost use Rattle.std.specs.Coded.{codes};
     ghost use Rattle.ak_membership.specs.contracts.membership.Membership as membership;
@@ -592,7 +507,7 @@ impl Model for Node {
 
     ghost view = { λ n. record { state = n.state; spent = is_some n.failed } };
 
-    ghost invariant = { λ n. IsNode n.state × HasForgotten (is_some n.failed) n.state × KnowsProcesses n.state × KeepsBallots n.state.singleton × KeepsSettled n.state × KeepsShards n.state × IsConcluded n.state };
+    ghost invariant = { λ n. IsNode n.state × HasForgotten (is_some n.failed) n.state × KnowsProcesses n.state × KeepsBallots n.state.singleton × KeepsSettled n.state × KeepsShards n.state × (is_some n.failed ≡ false → IsConcluded n.state) × IsRequest (me_of n.state) n.request };
 }
 
 impl Node {
@@ -613,6 +528,7 @@ impl Node {
         };
         Ok(Node {
             state,
+            request: None,
             failed: None,
         })
     }
@@ -654,6 +570,20 @@ impl Node {
         self.take(alloc, event, dead)
     }
 
+    /// Gives the node a tick, as `step` does with such an event; the word chooses to whom it gossips.
+    pub fn tick(&mut self, alloc: Global, word: u32) -> Result<Actions, AllocError>
+        requires steps { self.old.state.steps < 2 ^ 62 }
+        ensures ok { IfOk result (λ actions. Does (rules.step (NodeEvent.Tick word) self.old.state) self.new.state actions) }
+        ensures valid { IfOk result (λ actions. AreValid actions) }
+        ensures silent { IfOk result (λ actions. IsSilent self.old.state self.new.state actions) }
+        ensures serves { OnOk result (ServesWhileItRuns self.new.state) }
+        ensures alive { OnOk result (self.old.spent ≡ false) × OnOk result (self.new.spent ≡ false) }
+        ensures spent { OnErr result ((self.new.spent ≡ true) × IsLeftOver self.old.state self.new.state) }
+        ensures memory { OnErr result (self.old.spent ≡ true ⊎ IsTrue self.old.state.runs) }
+    {
+        self.take(alloc, &Tick { word }, false)
+    }
+
     // The event is taken, and stays with whoever gave it, who says whether it is a packet for another process.
     fn take<E: Given>(
         &mut self,
@@ -679,7 +609,7 @@ impl Node {
         self.state.process();
         let runs = self.state.runs;
         let steps = self.state.steps;
-        match self.state.step(alloc, event, dead) {
+        match happens(alloc, event, dead, &mut self.state, &mut self.request) {
             Ok(actions) => {
                 self.state.membership.invariant();
                 self.state.membership.gossip().invariant();
@@ -691,6 +621,7 @@ impl Node {
                 self.state.sharding.forget(alloc);
                 self.state.runs = runs;
                 self.state.steps = steps;
+                self.request = None;
                 self.failed = Some(error);
                 Err(error)
             }

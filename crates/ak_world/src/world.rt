@@ -187,7 +187,12 @@ impl Scene {
         ensures settings { self.new.settings ≡ self.old.settings }
         ensures scenes { Scenes (state_of self.old) (rules.happens self.old.settings (Event.Tick who.now word) (state_of self.old)) result (state_of self.new) }
     {
-        self.act(alloc, who, &NodeEvent::Tick(word))
+        let index = match self.actor(who) {
+            Ok(index) => index,
+            Err(why) => return Err(Refused::Invalid(why)),
+        };
+        let actions = self.nodes[index].tick(alloc, word)?;
+        self.keep(alloc, index, None, actions)
     }
 
     fn stop(&mut self, alloc: Global, who: &Unique) -> Result<Step, Refused>

@@ -1,0 +1,216 @@
+//! What a node is given, and what that makes of its state.
+
+ghost use Rattle.std.specs.Prelude.{◌≡◌, ◌<◌, ◌≤◌, ◌^◌, ◌+◌, true, false, IfOk, OnErr, IsTrue};
+ghost use Rattle.ak_membership.specs.MembershipContracts.{IsWatching};
+ghost use Rattle.ak_node.specs.Node as rules;
+ghost use Rattle.ak_node.specs.Sends.{ComesValid, IsSaid};
+ghost use Rattle.ak_node.specs.NodeContracts.{Does, IsSameProcess, IsConcluded, IsRequest, is_idle, is_asking, may_ask};
+
+use crate::actions::one;
+use crate::node::{NodeEvent, State};
+use crate::ranges::{address, offered};
+use ak_wire::{Action, Actions, Envelope, SharedEnvelope};
+use std::alloc::{AllocError, Global};
+
+// What a node is given: an event, or a packet. It stays with whoever gives it.
+pub(crate) trait Given {
+    ghost use Rattle.ak_node.specs.declared.node.NodeEvent.{NodeEvent};
+
+    // The event that it is.
+    ghost event: { Self → NodeEvent };
+
+    // It changes nothing: the node is to join a cluster in which it is a member.
+    fn is_idle(&self, state: &State) -> bool
+        ensures { result ≡ is_idle (event self.now) state.now };
+
+    // It is a tick of a node that is no member, which asks to be let in.
+    fn is_asking(&self, state: &State) -> bool
+        ensures { result ≡ is_asking (event self.now) state.now };
+
+    // Its rule.
+    fn rule(&self, alloc: Global, state: &mut State) -> Result<Actions, AllocError>
+        requires ticks { state.old.membership.ticks < 2 ^ 62 }
+        requires watching { IsWatching state.old.membership }
+        requires asked { is_asking (event self.now) state.old ≡ false }
+        ensures does { IfOk result (λ actions. Does (rules.rule (event self.now) state.old) state.new actions) }
+        ensures same { IsSameProcess state.old state.new };
+
+    // Tells a proof that the address in it is in its ranges, as every address is.
+    fn said(&self)
+        requires { ComesValid (event self.now) }
+        ensures { IsSaid (event self.now) };
+}
+
+impl Given for NodeEvent {
+    ghost event = { λ e. e };
+
+    fn is_idle(&self, state: &State) -> bool
+        ensures { result ≡ is_idle self.now state.now }
+    {
+        match self {
+            NodeEvent::Join(_) => state.membership.is_member(),
+            _ => false,
+        }
+    }
+
+    fn is_asking(&self, state: &State) -> bool
+        ensures { result ≡ is_asking self.now state.now }
+    {
+        match self {
+            NodeEvent::Tick(_) => !state.membership.is_member(),
+            _ => false,
+        }
+    }
+
+    fn rule(&self, alloc: Global, state: &mut State) -> Result<Actions, AllocError>
+        requires ticks { state.old.membership.ticks < 2 ^ 62 }
+        requires watching { IsWatching state.old.membership }
+        requires asked { is_asking self.now state.old ≡ false }
+        ensures does { IfOk result (λ actions. Does (rules.rule self.now state.old) state.new actions) }
+        ensures same { IsSameProcess state.old state.new }
+    {
+        match self {
+            NodeEvent::Found => state.found(alloc),
+            NodeEvent::Join(target) => state.join(alloc, target),
+            NodeEvent::Tick(word) => state.tick(alloc, *word),
+            NodeEvent::Packet(envelope) => state.on_packet(alloc, envelope),
+            NodeEvent::Leave(who) => state.leave(alloc, who),
+            NodeEvent::Down(who) => state.down(alloc, who),
+            NodeEvent::Offer(entity, payload) => state.offer(alloc, entity, *payload),
+            NodeEvent::Stop => state.stop(alloc),
+        }
+    }
+
+    fn said(&self)
+        requires { ComesValid self.now }
+        ensures { IsSaid self.now }
+    {
+        match self {
+            NodeEvent::Join(target) => address(target),
+            NodeEvent::Offer(entity, payload) => offered(entity, *payload),
+            _ => {}
+        }
+    }
+}
+
+impl Given for Envelope {
+    ghost use Rattle.ak_node.specs.declared.node.NodeEvent.TheVariants.{Packet};
+
+    ghost event = { λ p. Packet p };
+
+    fn is_idle(&self, _state: &State) -> bool
+        ensures { result ≡ is_idle (NodeEvent.Packet self.now) _state.now }
+    {
+        false
+    }
+
+    fn is_asking(&self, _state: &State) -> bool
+        ensures { result ≡ is_asking (NodeEvent.Packet self.now) _state.now }
+    {
+        false
+    }
+
+    fn rule(&self, alloc: Global, state: &mut State) -> Result<Actions, AllocError>
+        ensures does { IfOk result (λ actions. Does (rules.rule (NodeEvent.Packet self.now) state.old) state.new actions) }
+        ensures same { IsSameProcess state.old state.new }
+    {
+        state.on_packet(alloc, self)
+    }
+
+    fn said(&self)
+        requires { ComesValid (NodeEvent.Packet self.now) }
+        ensures { IsSaid (NodeEvent.Packet self.now) }
+    {}
+}
+
+// A tick alone.
+#[derive(Drop)]
+pub(crate) struct Tick {
+    pub(crate) word: u32,
+}
+
+impl Given for Tick {
+    ghost use Rattle.ak_node.specs.declared.node.NodeEvent.TheVariants as event;
+
+    ghost event = { λ t. event.Tick t.word };
+
+    fn is_idle(&self, _state: &State) -> bool
+        ensures { result ≡ is_idle (NodeEvent.Tick self.now.word) _state.now }
+    {
+        false
+    }
+
+    fn is_asking(&self, state: &State) -> bool
+        ensures { result ≡ is_asking (NodeEvent.Tick self.now.word) state.now }
+    {
+        !state.membership.is_member()
+    }
+
+    fn rule(&self, alloc: Global, state: &mut State) -> Result<Actions, AllocError>
+        requires ticks { state.old.membership.ticks < 2 ^ 62 }
+        requires watching { IsWatching state.old.membership }
+        requires asked { is_asking (NodeEvent.Tick self.now.word) state.old ≡ false }
+        ensures does { IfOk result (λ actions. Does (rules.rule (NodeEvent.Tick self.now.word) state.old) state.new actions) }
+        ensures same { IsSameProcess state.old state.new }
+    {
+        state.tick(alloc, self.word)
+    }
+
+    fn said(&self)
+        requires { ComesValid (NodeEvent.Tick self.now.word) }
+        ensures { IsSaid (NodeEvent.Tick self.now.word) }
+    {}
+}
+
+// A process that is no member asks its target again, where it has one. What it sent before is sent again where that went to the
+// same address; nothing is due after that, since the step before was concluded.
+fn asks_again(
+    alloc: Global,
+    state: &mut State,
+    request: &mut Option<SharedEnvelope>,
+) -> Result<Actions, AllocError>
+    requires steps { state.old.steps < 2 ^ 62 }
+    requires request { IsRequest (rules.me_of state.old) request.old }
+    ensures state { state.new ≡ record state.old { steps = state.old.steps + 1 } }
+    ensures actions { IfOk result (λ actions. actions ≡ (rules.asks_at state.old.membership.target state.old).1) }
+    ensures request { IsRequest (rules.me_of state.new) request.new }
+{
+    state.steps += 1;
+    let Some(target) = state.membership.target() else {
+        return Ok(Actions::empty(alloc));
+    };
+    if let Some(sent) = request {
+        if sent.get().to.is(target) {
+            return one(alloc, Action::Send(sent.share()?));
+        }
+    }
+    let sent = state.request(alloc, target)?;
+    let again = sent.share()?;
+    *request = Some(again);
+    one(alloc, Action::Send(sent))
+}
+
+// What an event makes of a node's state.
+pub(crate) fn happens<E: Given>(
+    alloc: Global,
+    event: &E,
+    dead: bool,
+    state: &mut State,
+    request: &mut Option<SharedEnvelope>,
+) -> Result<Actions, AllocError>
+    requires dead { dead ≡ rules.is_dead (rules.me_of state.old) (E.event event.now) }
+    requires steps { state.old.steps < 2 ^ 62 }
+    requires ticked { state.old.membership.ticks ≤ state.old.steps }
+    requires watching { IsWatching state.old.membership }
+    requires concluded { IsConcluded state.old }
+    requires request { IsRequest (rules.me_of state.old) request.old }
+    ensures does { IfOk result (λ actions. Does (rules.step (E.event event.now) state.old) state.new actions) }
+    ensures same { IsSameProcess state.old state.new }
+    ensures memory { OnErr result (IsTrue (may_ask (E.event event.now) state.old)) }
+    ensures request { IsRequest (rules.me_of state.new) request.new }
+{
+    if state.runs && event.is_asking(state) {
+        return asks_again(alloc, state, request);
+    }
+    state.step(alloc, event, dead)
+}
