@@ -1,5 +1,5 @@
 -- What is got of a packet that a link heard: as much of it as the buffer has room for.
-use Rattle.std.proofs.Common.{◌≡◌, ℕ, min, List, ◌∷◌, length, take, Option, Some, None, sym, ap, subst, ◌∙◌, arith}
+use Rattle.std.proofs.Common.{◌≡◌, ℕ, min, List, length, take, Option, Some, None, ap, subst, ◌∙◌, arith}
 use Rattle.std.proofs.lemmas.List.{take_min}
 use Rattle.ak_wire.specs.Datagram.{Spells}
 use Rattle.ak_wire.specs.Laws.{FirstFault}

@@ -22,6 +22,7 @@ use Rattle.ak_member.specs.Age.{counted_addresses, counted_pairs}
 use Rattle.ak_member.specs.declared.status.Status.{Status}
 use Rattle.ak_membership.specs.Closing as closing
 use Rattle.ak_settled.specs.Settled.{version_of, after_note}
+use Rattle.ak_membership.specs.declared.change.MemberFault.TheVariants.{NotMember}
 use Rattle.ak_membership.specs.Membership as membership
 use Rattle.ak_membership.specs.Membership.{started}
 use Rattle.ak_membership.specs.Tick as ticks
@@ -40,14 +41,15 @@ use Rattle.ak_sharding.specs.Sharding.{ShardingModel, new_sharding}
 use Rattle.ak_singleton.specs.Singleton as singleton
 use Rattle.ak_singleton.specs.Singleton.{SingletonModel}
 use Rattle.ak_wire.specs.declared.action.Action.{Action}
-use Rattle.ak_wire.specs.declared.action.Action.TheVariants.{Dead}
+use Rattle.ak_wire.specs.declared.action.Action.TheVariants.{Dead, Refused}
+use Rattle.ak_wire.specs.declared.envelope.Message.{Message}
 use Rattle.ak_wire.specs.declared.envelope.Message.TheVariants as message
 use Rattle.ak_node.specs.declared.node.NodeEvent.{NodeEvent}
 use Rattle.ak_node.specs.declared.node.NodeEvent.TheVariants.{Found, Join, Tick, Packet, Leave, Down, Offer, Stop}
 use Rattle.ak_node.specs.declared.node.State.{State}
 use Rattle.ak_node.specs.Node as node
-use Rattle.ak_node.specs.Node.{Outcome, me_of, is_member, settled_of, margin_of, around, sharing, and_then, closes, forgets, activates, becomes_active, concludes, due, rule, is_dead, running_step, step, nothing, to_address, asks_at}
-use Rattle.ak_node.specs.NodeContracts.{Does, IsConcluded, is_idle, is_asking}
+use Rattle.ak_node.specs.Node.{Outcome, me_of, is_member, settled_of, margin_of, around, sharing, and_then, closes, forgets, activates, becomes_active, concludes, due, rule, is_dead, running_step, step, nothing, to_address, asks_at, on_message, unless_refused, does_for}
+use Rattle.ak_node.specs.NodeContracts.{Does, IsConcluded, is_idle, is_asking, is_request, is_refusing}
 
 -- ---- a state of which nothing is due
 module _ (n : State) (runs : n.runs ≡ true)
@@ -124,15 +126,13 @@ idle_step (Join target) n runs is member =
     ap (λ b. if b then running_step (Join target) counted else nothing n) runs
     ∙ ap (λ b. and_then concludes (if b then nothing counted else (record counted { membership = membership.join target n.membership }, to_address counted target message.Join ∷ []))) member
     ∙ ap (λ (o : Outcome). (record o.0 { steps = n.steps + 1 }, [] ++ o.1)) (is runs)
-idle_step Found n runs is idle = absurd (true≢false (sym idle))
-idle_step (Tick word) n runs is idle = absurd (true≢false (sym idle))
-idle_step (Packet e) n runs is idle = absurd (true≢false (sym idle))
-idle_step (Leave who) n runs is idle = absurd (true≢false (sym idle))
-idle_step (Down who) n runs is idle = absurd (true≢false (sym idle))
-idle_step (Offer entity payload) n runs is idle = absurd (true≢false (sym idle))
-idle_step Stop n runs is idle = absurd (true≢false (sym idle))
+idle_step other n runs is idle = absurd (true≢false (sym idle))
 
 -- ---- a tick of a node that is no member
+not_true : (b : Bool) → not b ≡ true → b ≡ false
+not_true true is = absurd (true≢false (sym is))
+not_true false is = refl
+
 pub asking_step : (e : NodeEvent) (n : State) → n.runs ≡ true → IsConcluded n → is_asking e n ≡ true → step e n ≡ (record n { steps = n.steps + 1 }, (asks_at n.membership.target n).1)
 asking_step (Tick word) n runs is asking =
     let counted : State = record n { steps = n.steps + 1 } in
@@ -140,27 +140,16 @@ asking_step (Tick word) n runs is asking =
     ∙ ap (λ b. and_then concludes (if b then and_then (node.goes_on word) (node.ticked counted (ticks.tick n.membership)) else asks_at n.membership.target counted)) (not_true (is_member n) asking)
     ∙ by_target n.membership.target
   where
-    not_true : (b : Bool) → not b ≡ true → b ≡ false
-    not_true true is = absurd (true≢false (sym is))
-    not_true false is = refl
-
     by_target : (target : Option AddressModel) → and_then concludes (asks_at target (record n { steps = n.steps + 1 })) ≡ (record n { steps = n.steps + 1 }, (asks_at target n).1)
     by_target None = ap (λ (o : Outcome). (record o.0 { steps = n.steps + 1 }, [] ++ o.1)) (is runs)
     by_target (Some target) = ap (λ (o : Outcome). (record o.0 { steps = n.steps + 1 }, to_address n target message.Join ∷ [] ++ o.1)) (is runs)
-asking_step Found n runs is asking = absurd (true≢false (sym asking))
-asking_step (Join target) n runs is asking = absurd (true≢false (sym asking))
-asking_step (Packet e) n runs is asking = absurd (true≢false (sym asking))
-asking_step (Leave who) n runs is asking = absurd (true≢false (sym asking))
-asking_step (Down who) n runs is asking = absurd (true≢false (sym asking))
-asking_step (Offer entity payload) n runs is asking = absurd (true≢false (sym asking))
-asking_step Stop n runs is asking = absurd (true≢false (sym asking))
+asking_step other n runs is asking = absurd (true≢false (sym asking))
 
-pub asking_does : {X : Type 0} (e : NodeEvent) (old new : State) (r : Result (List Action) X) → old.runs ≡ true → IsConcluded old → is_asking e old ≡ true
-    → new ≡ record old { steps = old.steps + 1 } → IfOk r (λ actions. actions ≡ (asks_at old.membership.target old).1) → IfOk r (λ actions. Does (step e old) new actions)
-asking_does e old new (Ok actions) runs concluded asking is does =
-    let steps = asking_step e old runs concluded asking in
-    record { state_after = is ∙ sym (ap (λ (o : Outcome). o.0) steps); actions_done = does ∙ sym (ap (λ (o : Outcome). o.1) steps) }
-asking_does e old new (Err error) runs concluded asking is does = tt
+-- ---- what these tell of an answer
+pub does_so : {X : Type 0} (e : NodeEvent) (old new : State) (actions : List Action) (r : Result (List Action) X) → step e old ≡ (record old { steps = old.steps + 1 }, actions)
+    → new ≡ record old { steps = old.steps + 1 } → IfOk r (λ done. done ≡ actions) → IfOk r (λ done. Does (step e old) new done)
+does_so e old new actions (Ok done) steps is does = record { state_after = is ∙ sym (ap (λ (o : Outcome). o.0) steps); actions_done = does ∙ sym (ap (λ (o : Outcome). o.1) steps) }
+does_so e old new actions (Err error) steps is does = tt
 
 -- ---- of a node: after a step, and where it starts
 pub leaves_concluded : (e : NodeEvent) (old new : State) → IsConcluded old → new ≡ (step e old).0 → IsConcluded new

@@ -10,9 +10,10 @@ use Rattle.ak_gossip.specs.Gossip.{nothing_known}
 use Rattle.ak_settled.specs.Settled.{IsCounting}
 use Rattle.ak_wire.specs.declared.action.Action.{Action}
 use Rattle.ak_wire.specs.declared.envelope.Envelope.{Envelope}
+use Rattle.ak_wire.specs.declared.envelope.Message.{Message}
 use Rattle.ak_wire.specs.declared.envelope.Message as message
 use Rattle.ak_node.specs.declared.node.NodeEvent.{NodeEvent}
-use Rattle.ak_node.specs.declared.node.NodeEvent.TheVariants.{Join, Tick}
+use Rattle.ak_node.specs.declared.node.NodeEvent.TheVariants.{Join, Packet, Tick}
 use Rattle.ak_node.specs.declared.node.State.{State}
 use Rattle.ak_node.specs.Node.{Outcome, known, me_of, is_gone, is_member, concludes}
 
@@ -59,10 +60,18 @@ IsConcluded n = n.runs ≡ true → concludes n ≡ (n, [])
 abbrev pub IsRequest : UniqueModel → Option Envelope → Type 0
 IsRequest me request = (e : Envelope) → request ≡ Some e → e ≡ record { from = me; to = e.to; uid = 0; message = message.TheVariants.Join }
 
--- a node that is no member asks at each tick to be let in
+-- a node that is no member asks at each tick to be let in, and lets nobody in
 abbrev pub is_asking : NodeEvent → State → Bool
 is_asking (Tick word) n = not (is_member n)
 is_asking _ n = false
+
+abbrev pub is_request : Message → Bool
+is_request message.TheVariants.Join = true
+is_request _ = false
+
+abbrev pub is_refusing : NodeEvent → State → Bool
+is_refusing (Packet e) n = is_request e.message && not (is_member n)
+is_refusing _ n = false
 
 -- Memory may be asked for at an event: the node runs, and the event is not that it joins a cluster in which it is a member.
 abbrev pub is_idle : NodeEvent → State → Bool

@@ -4,12 +4,13 @@ ghost use Rattle.std.specs.Prelude.{◌≡◌, ◌<◌, ◌≤◌, ◌^◌, ◌+
 ghost use Rattle.ak_membership.specs.MembershipContracts.{IsWatching};
 ghost use Rattle.ak_node.specs.Node as rules;
 ghost use Rattle.ak_node.specs.Sends.{ComesValid, IsSaid};
-ghost use Rattle.ak_node.specs.NodeContracts.{Does, IsSameProcess, IsConcluded, IsRequest, is_idle, is_asking, may_ask};
+ghost use Rattle.ak_node.specs.NodeContracts.{Does, IsSameProcess, IsConcluded, IsRequest, is_idle, is_asking, is_refusing, may_ask};
 
-use crate::actions::one;
+use crate::actions::{one, refuse};
 use crate::node::{NodeEvent, State};
 use crate::ranges::{address, offered};
-use ak_wire::{Action, Actions, Envelope, SharedEnvelope};
+use ak_membership::MemberFault;
+use ak_wire::{Action, Actions, Envelope, Message, SharedEnvelope};
 use std::alloc::{AllocError, Global};
 
 // What a node is given: an event, or a packet. It stays with whoever gives it.
@@ -26,6 +27,10 @@ pub(crate) trait Given {
     // It is a tick of a node that is no member, which asks to be let in.
     fn is_asking(&self, state: &State) -> bool
         ensures { result ≡ is_asking (event self.now) state.now };
+
+    // It is a request of another process to be let in, and the node is no member.
+    fn is_refusing(&self, state: &State) -> bool
+        ensures { result ≡ is_refusing (event self.now) state.now };
 
     // Its rule.
     fn rule(&self, alloc: Global, state: &mut State) -> Result<Actions, AllocError>
@@ -58,6 +63,15 @@ impl Given for NodeEvent {
     {
         match self {
             NodeEvent::Tick(_) => !state.membership.is_member(),
+            _ => false,
+        }
+    }
+
+    fn is_refusing(&self, state: &State) -> bool
+        ensures { result ≡ is_refusing self.now state.now }
+    {
+        match self {
+            NodeEvent::Packet(envelope) => envelope.is_refusing(state),
             _ => false,
         }
     }
@@ -110,6 +124,15 @@ impl Given for Envelope {
         false
     }
 
+    fn is_refusing(&self, state: &State) -> bool
+        ensures { result ≡ is_refusing (NodeEvent.Packet self.now) state.now }
+    {
+        match self.message {
+            Message::Join => !state.membership.is_member(),
+            _ => false,
+        }
+    }
+
     fn rule(&self, alloc: Global, state: &mut State) -> Result<Actions, AllocError>
         ensures does { IfOk result (λ actions. Does (rules.rule (NodeEvent.Packet self.now) state.old) state.new actions) }
         ensures same { IsSameProcess state.old state.new }
@@ -144,6 +167,12 @@ impl Given for Tick {
         ensures { result ≡ is_asking (NodeEvent.Tick self.now.word) state.now }
     {
         !state.membership.is_member()
+    }
+
+    fn is_refusing(&self, _state: &State) -> bool
+        ensures { result ≡ is_refusing (NodeEvent.Tick self.now.word) _state.now }
+    {
+        false
     }
 
     fn rule(&self, alloc: Global, state: &mut State) -> Result<Actions, AllocError>
@@ -211,6 +240,10 @@ pub(crate) fn happens<E: Given>(
 {
     if state.runs && event.is_asking(state) {
         return asks_again(alloc, state, request);
+    }
+    if state.runs && !dead && event.is_refusing(state) {
+        state.steps += 1;
+        return refuse(alloc, MemberFault::NotMember);
     }
     state.step(alloc, event, dead)
 }

@@ -82,6 +82,7 @@ impl Actions {
     }
 
     /// Adds an action at the end. An error leaves the list as it was; only memory can fail.
+    #[inline(always)]
     pub fn push(&mut self, action: Action) -> Result<(), AllocError>
         ensures ok { OnOk result (self.new ≡ self.old ++ action ∷ []) }
         ensures err { OnErr result (self.new ≡ self.old) }

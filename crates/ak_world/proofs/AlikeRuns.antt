@@ -1,5 +1,5 @@
 -- Among the packets of one world those that are alike are the same, since what a version shows is what its entries did.
-use Rattle.std.proofs.Common.{◌≡◌, ℕ, Bool, true, false, not, if◌then◌else◌, List, [], ◌∷◌, ◌++◌, ◌⊎◌, inl, inr, take, drop, slice_get, Option, Some, None, Result, Ok, Err, refl, sym, ap, subst, ◌∙◌, Contains}
+use Rattle.std.proofs.Common.{◌≡◌, ℕ, Bool, true, false, not, if◌then◌else◌, List, [], ◌∷◌, ◌++◌, inl, inr, take, drop, slice_get, Option, Some, None, Result, Ok, Err, refl, sym, ap, subst, ◌∙◌, Contains}
 use Rattle.std.proofs.Math.ListN.{take-append-drop}
 use Rattle.ak_address.proofs.Elements.{contains_left, contains_right, contains_either, contains_nothing, first_or_rest, index_of}
 use Rattle.ak_clock.specs.Version.{Counts}

@@ -370,6 +370,7 @@ impl Scene {
     }
 
     // What an event makes of the world, or the first reason why it is refused.
+    #[inline(always)]
     fn happens(&mut self, alloc: Global, event: &Event) -> Result<Step, Refused>
         requires ready { IsReady (state_of self.old) }
         requires apart { LeavesToldApart (rules.happens self.old.settings event.now (state_of self.old)) }
