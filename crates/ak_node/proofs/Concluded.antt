@@ -22,7 +22,6 @@ use Rattle.ak_member.specs.Age.{counted_addresses, counted_pairs}
 use Rattle.ak_member.specs.declared.status.Status.{Status}
 use Rattle.ak_membership.specs.Closing as closing
 use Rattle.ak_settled.specs.Settled.{version_of, after_note}
-use Rattle.ak_membership.specs.declared.change.MemberFault.TheVariants.{NotMember}
 use Rattle.ak_membership.specs.Membership as membership
 use Rattle.ak_membership.specs.Membership.{started}
 use Rattle.ak_membership.specs.Tick as ticks
@@ -41,15 +40,14 @@ use Rattle.ak_sharding.specs.Sharding.{ShardingModel, new_sharding}
 use Rattle.ak_singleton.specs.Singleton as singleton
 use Rattle.ak_singleton.specs.Singleton.{SingletonModel}
 use Rattle.ak_wire.specs.declared.action.Action.{Action}
-use Rattle.ak_wire.specs.declared.action.Action.TheVariants.{Dead, Refused}
-use Rattle.ak_wire.specs.declared.envelope.Message.{Message}
+use Rattle.ak_wire.specs.declared.action.Action.TheVariants.{Dead}
 use Rattle.ak_wire.specs.declared.envelope.Message.TheVariants as message
 use Rattle.ak_node.specs.declared.node.NodeEvent.{NodeEvent}
-use Rattle.ak_node.specs.declared.node.NodeEvent.TheVariants.{Found, Join, Tick, Packet, Leave, Down, Offer, Stop}
+use Rattle.ak_node.specs.declared.node.NodeEvent.TheVariants.{Join, Tick}
 use Rattle.ak_node.specs.declared.node.State.{State}
 use Rattle.ak_node.specs.Node as node
 use Rattle.ak_node.specs.Node.{Outcome, me_of, is_member, settled_of, margin_of, around, sharing, and_then, closes, forgets, activates, becomes_active, concludes, due, rule, is_dead, running_step, step, nothing, to_address, asks_at, on_message, unless_refused, does_for}
-use Rattle.ak_node.specs.NodeContracts.{Does, IsConcluded, is_idle, is_asking, is_request, is_refusing}
+use Rattle.ak_node.specs.NodeContracts.{Does, IsConcluded, is_idle, is_asking}
 
 -- ---- a state of which nothing is due
 module _ (n : State) (runs : n.runs ≡ true)

@@ -192,7 +192,7 @@ impl Given for Tick {
 }
 
 // A process that is no member asks its target again, where it has one. What it sent before is sent again where that went to the
-// same address; nothing is due after that, since the step before was concluded.
+// same address, so that it is made once and not at each tick.
 fn asks_again(
     alloc: Global,
     state: &mut State,
@@ -219,7 +219,8 @@ fn asks_again(
     one(alloc, Action::Send(sent))
 }
 
-// What an event makes of a node's state.
+// What an event makes of a node's state. Where its rule leaves a node that is no member as it was, nothing is due after it, since
+// the step before was concluded: so such a node asks again, and refuses whoever asks it, with no closing.
 pub(crate) fn happens<E: Given>(
     alloc: Global,
     event: &E,
