@@ -6,5 +6,6 @@ pub mod Pairs
 pub mod Spelling
 pub mod Start
 pub mod Table
+pub mod Text
 pub mod Unique
 pub mod Uniques

@@ -32,7 +32,7 @@ impl Hash for Address {
     ghost respects_eq = { λ a b same. ap fed_of_address ((bytes_decides (address_key a) (address_key b)).0 same) };
 
     fn hash<H: Hasher>(&self, state: &mut H) {
-        state.write(self.host.bytes());
+        self.host.feed(state);
         state.write_u16(self.port);
     }
 }

@@ -5,7 +5,7 @@ use Rattle.std.specs.FinMap as map
 use Rattle.ak_address.specs.Changed.{keys_of}
 use Rattle.ak_address.specs.Unique.{UniqueModel}
 use Rattle.ak_address.specs.Uniques.{no_one, has}
-use Rattle.ak_clock.specs.Version.{Counts, Covers}
+use Rattle.ak_clock.specs.Version.{Covers}
 use Rattle.ak_converge.specs.Tally.{TallyModel, tally_of}
 use Rattle.ak_detector.specs.Detector.{watch_ring, silent}
 use Rattle.ak_gossip.specs.declared.gossip.Received.{Received}

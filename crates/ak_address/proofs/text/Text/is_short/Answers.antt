@@ -4,5 +4,5 @@ use Rattle.ak_address.proofs.text.Text.is_short.Goals as goal
 
 pub returns : goal.returns
 returns c =
-    let counts : c.self.inside.start % 256 ≡ min (length c.args.self.now) 8 = start_counts c.self.invariant ∙ ap (λ bytes. min (length bytes) 8) c.self.view_is in
+    let counts : c.self.inside.start % 256 ≡ min (length c.args.self.now) 8 = start_counts c.self.invariant.kept ∙ ap (λ bytes. min (length bytes) 8) c.self.view_is in
     (λ told. omega (arith, leb-true (c.self.inside.start % 256) 7 told, counts), λ short. le-leb (c.self.inside.start % 256) 7 (omega (arith, short, counts)))
