@@ -21,7 +21,7 @@ use Rattle.ak_world.specs.declared.world.Refused.{Refused}
 use Rattle.ak_world.specs.declared.world.Step.{Step}
 use Rattle.ak_world.specs.World.{WorldState, numbered}
 use Rattle.ak_world.specs.WorldContracts.{Keeps}
-use Rattle.ak_world.specs.Stored.{is_same, different, at_places, place_at, AreStored, AreToldApart}
+use Rattle.ak_world.specs.Stored.{is_same, different, at_places, place_at, AreStored, AreToldApart, StandsAt}
 
 -- ---- packets with the same bytes
 laws : IsEquivalence is_same
@@ -58,6 +58,11 @@ there : {X : Type 0} (xs : List X) (i : ℕ) → i < length xs → (x : X) × (s
 there [] i lt = absurd (omega (arith, lt))
 there (y ∷ ys) zero lt = (y, refl)
 there (y ∷ ys) (suc i) lt = there ys i (omega (arith, lt))
+
+below : {X : Type 0} (xs : List X) (i : ℕ) (x : X) → slice_get xs i ≡ Some x → i < length xs
+below [] i x at = absurd (not_None x (sym at))
+below (y ∷ ys) zero x at = omega arith
+below (y ∷ ys) (suc i) x at = let rest = below ys i x at in omega (arith, rest)
 
 put-append : {X : Type 0} (o : Option X) (xs ys : List X) → put o (xs ++ ys) ≡ put o xs ++ ys
 put-append None xs ys = refl
@@ -284,3 +289,7 @@ module _ (stored : List Envelope) (places : List ℕ) (e : Envelope) (are : AreS
 
     pub pushed : (new : List Envelope) (place : ℕ) (k : Envelope) → new ≡ insert_key is_alike stored e → place < length new → slice_get new place ≡ Some k → is_alike e k ≡ true → Pushed stored places e new place
     pushed new place k is lt at alike = either (is_member is_alike stored e) new place k is lt at alike
+
+    -- it stands at a place already
+    pub pushed_again : (place : ℕ) → StandsAt stored e place → Pushed stored places e stored place
+    pushed_again place at = again place at.0 (below stored place at.0 at.1) at.1 (it_is at.0 (contains_at stored place at.0 at.1) at.2)

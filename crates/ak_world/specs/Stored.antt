@@ -1,5 +1,5 @@
 -- Packets, of which each different one is stored once (this project's choice).
-use Rattle.std.specs.Prelude.{◌≡◌, ℕ, ◌-◌, ◌<◌, ◌==◌, Bool, true, nat_eq, List, [], ◌∷◌, map, length, slice_get, Option, None, Result, Ok, if◌then◌else◌}
+use Rattle.std.specs.Prelude.{◌≡◌, ℕ, ◌-◌, ◌<◌, ◌==◌, Bool, true, nat_eq, List, [], ◌∷◌, map, length, slice_get, Option, None, Some, Result, Ok, if◌then◌else◌}
 use Rattle.std.specs.List.{AllByRecursion, Contains}
 use Rattle.std.specs.Set.{is_member, distinct_count}
 use Rattle.std.specs.Cmp.Lexicographic.{pointwise}
@@ -32,6 +32,10 @@ pub record AreStored (stored : List Envelope) (places : List ℕ) : Type 0 where
   pub placed : AllByRecursion (λ place. place < length stored) places
   pub sent : (e : Envelope) → is_member is_same stored e ≡ is_member is_same (at_places stored places) e
   pub valid : AllByRecursion IsValid stored
+
+-- a packet that is alike stands at a place
+abbrev pub StandsAt : List Envelope → Envelope → ℕ → Type 0
+StandsAt stored e place = (d : Envelope) × (slice_get stored place ≡ Some d) × (is_alike e d ≡ true)
 
 -- Those that are alike are the same: what a version shows need not be compared.
 abbrev pub AreToldApart : List Envelope → Type 0

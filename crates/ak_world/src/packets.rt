@@ -1,13 +1,14 @@
 //! The packets of a world.
 
-ghost use Rattle.std.specs.Prelude.{◌≡◌, ◌<◌, ◌^◌, ◌++◌, ◌∷◌, [], length, OnOk, OnErr};
+ghost use Rattle.std.specs.Prelude.{◌≡◌, ◌<◌, ◌^◌, ◌++◌, ◌∷◌, [], length, IfSome, OnOk, OnErr};
 ghost use Rattle.std.specs.Option.{option_copied};
 ghost use Rattle.ak_wire.specs.Datagram.{IsValid};
 ghost use Rattle.ak_world.specs.World.{numbered};
-ghost use Rattle.ak_world.specs.Stored.{AreToldApart, different, place_at};
+ghost use Rattle.ak_world.specs.Stored.{AreToldApart, StandsAt, different, place_at};
 
+use crate::world::MOST_STARTS;
 use ak_packet::Packet;
-use ak_wire::SharedEnvelope;
+use ak_wire::{Message, SharedEnvelope};
 use indexmap::IndexSet;
 use std::alloc::{AllocError, Global};
 use std::marker::Model;
@@ -19,6 +20,8 @@ use std::marker::Model;
 pub(crate) struct Packets {
     stored: IndexSet<Packet>,
     places: Vec<usize>,
+    // By their start numbers, the place of what each node sent last: a node that asks to be let in sends the same at each tick.
+    last: [usize; MOST_STARTS],
 }
 
 impl Model for Packets {
@@ -49,6 +52,7 @@ impl Packets {
         Packets {
             stored: IndexSet::new(alloc),
             places: Vec::new(alloc),
+            last: [0; MOST_STARTS],
         }
     }
 
@@ -77,10 +81,12 @@ impl Packets {
         }
     }
 
-    /// One more packet, which is shared. It is stored where none with the same bytes is; that is asked by its hash, so that nobody
-    /// looks at all packets, and by the versions of gossips, so that nobody compares what two show: among packets of one world, those
-    /// that are alike are the same. An error leaves the packets as they were; only memory can fail.
-    pub(crate) fn push(&mut self, envelope: &SharedEnvelope) -> Result<(), AllocError>
+    /// One more packet, which is shared, of the node of this start number. It is stored where none with the same bytes is; that is
+    /// asked by its hash, so that nobody looks at all packets, and by the versions of gossips, so that nobody compares what two
+    /// show: among packets of one world, those that are alike are the same. A request is compared first with what the node sent
+    /// last. An error leaves the packets as they were; only memory can fail.
+    pub(crate) fn push(&mut self, from: usize, envelope: &SharedEnvelope) -> Result<(), AllocError>
+        requires started { from < 64 }
         requires valid { IsValid envelope.now }
         requires apart { AreToldApart (self.old ++ envelope.now ∷ []) }
         ensures ok { OnOk result (self.new ≡ self.old ++ envelope.now ∷ []) }
@@ -88,8 +94,13 @@ impl Packets {
     {
         let packet = Packet::of(envelope)?;
         self.places.reserve(1)?;
+        if let Some(place) = asked_before(&self.stored, self.last.get(from), &packet) {
+            self.places.push_reserved(place);
+            return Ok(());
+        }
         let (place, _) = self.stored.insert_full(packet)?;
         self.places.push_reserved(place);
+        self.last[from] = place;
         Ok(())
     }
 
@@ -100,6 +111,20 @@ impl Packets {
         self.stored.clear();
         self.places.clear();
     }
+}
+
+// The place of a request to be let in, where it is what its node sent last.
+fn asked_before(stored: &IndexSet<Packet>, last: Option<&usize>, packet: &Packet) -> Option<usize>
+    ensures { IfSome result (StandsAt stored.now.keys packet.now) }
+{
+    let Message::Join = packet.envelope().message else {
+        return None;
+    };
+    let place = *last?;
+    if packet == stored.get_index(place)? {
+        return Some(place);
+    }
+    None
 }
 
 // The place of the packet of a number from 1 on.

@@ -86,7 +86,7 @@ pub struct Step {
 }
 
 // A schedule may start this many processes.
-const MOST_STARTS: usize = 64;
+pub(crate) const MOST_STARTS: usize = 64;
 
 // A world with this many packets accepts no event.
 const MOST_PACKETS: usize = 200_000;
@@ -354,7 +354,7 @@ impl Scene {
         ensures refused { IfErr result IsNoMemory }
     {
         let first_packet = self.next_packet();
-        keep_packets(actions.as_slice(), &mut self.packets)?;
+        keep_packets(index, actions.as_slice(), &mut self.packets)?;
         keep_entries(
             alloc,
             self.nodes[index].me(),
@@ -458,8 +458,9 @@ pub(crate) fn number_of(index: usize) -> Option<u32>
     u32::try_from(index).ok()
 }
 
-// What the actions send is kept, each packet once.
-fn keep_packets(actions: &[Action], packets: &mut Packets) -> Result<(), AllocError>
+// What the actions of the node of a start number send is kept, each packet once.
+fn keep_packets(from: usize, actions: &[Action], packets: &mut Packets) -> Result<(), AllocError>
+    requires started { from < 64 }
     requires valid { AreValid actions.now }
     requires apart { AreToldApart (packets.old ++ sent actions.now) }
     ensures kept { OnOk result (packets.new ≡ packets.old ++ sent actions.now) }
@@ -467,7 +468,7 @@ fn keep_packets(actions: &[Action], packets: &mut Packets) -> Result<(), AllocEr
 {
     'actions: for action in actions {
         if let Action::Send(envelope) = action {
-            packets.push(envelope)?;
+            packets.push(from, envelope)?;
         }
     }
     let _many = packets.len();
