@@ -8,6 +8,10 @@ use std::alloc::{AllocError, Global};
 pub(crate) fn numbered(alloc: Global, letter: u8, number: u64) -> Result<Text, AllocError>
     ensures { IfOk result (λ text. text ≡ letter ∷ decimal number) }
 {
+    if number < 10 {
+        // Most have one digit, and ask for no memory.
+        return Text::from_bytes(alloc, &[letter, b'0' + number as u8]);
+    }
     let mut bytes = Vec::new(alloc);
     bytes.push(letter)?;
     print_number(number, &mut bytes)?;

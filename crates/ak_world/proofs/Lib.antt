@@ -47,6 +47,7 @@ pub mod StepStages
 pub mod TellsRuns
 pub mod Told
 pub mod UidsOfStarts
+pub mod Unmarked
 pub mod UpdateLemmas
 pub mod WaitedRuns
 pub mod WhatHappened

@@ -1,5 +1,5 @@
 -- How a world keeps in mind whether its removal margin was kept: at a step it looks whether a process runs whose margin ends.
-use Rattle.std.specs.Prelude.{ℕ, Bool, ◌&&◌, List, [], ◌∷◌, Option, Some, None}
+use Rattle.std.specs.Prelude.{ℕ, Bool, true, false, ◌&&◌, List, [], ◌∷◌, Option, Some, None}
 use Rattle.std.specs.List.{position}
 use Rattle.ak_address.specs.Unique.{UniqueModel}
 use Rattle.ak_wire.specs.declared.action.Action.{Action}
@@ -51,3 +51,9 @@ broken_by step None member = Kept
 abbrev pub marked : Margin → ℕ → Done → Margin
 marked Kept step done = broken_by step done.node (first_end done.world.nodes done.actions)
 marked (Broken earlier node member) step done = Broken earlier node member
+
+-- the actions that may break a margin or make a double: where a step has none, both stay as they were
+abbrev pub may_mark : Action → Bool
+may_mark (Entity entity) = true
+may_mark (MarginEnd who) = true
+may_mark _ = false

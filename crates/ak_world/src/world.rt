@@ -1,5 +1,6 @@
 ghost use Rattle.std.specs.Prelude.{◌≡◌, ℕ, ◌+◌, ◌-◌, ◌<◌, ◌≤◌, ◌^◌, ◌++◌, ◌∷◌, [], true, false, length, take, slice_get, IfOk, IfErr, OnOk, OnErr, Option, None, Some, Result, Ok, Err, IsTrue};
 ghost use Rattle.std.specs.Option.{option_copied, option_map};
+ghost use Rattle.std.specs.List.{list_any};
 ghost use Rattle.ak_wire.specs.Wire.{sent};
 ghost use Rattle.ak_world.specs.World as rules;
 ghost use Rattle.ak_world.specs.Margin.{IsMargin};
@@ -132,6 +133,8 @@ impl Scene {
         ensures scenes { Scenes (state_of self.old) (Ok (rules.starts self.old.settings who.now (state_of self.old))) result (state_of self.new) }
     {
         let index = self.nodes.len();
+        // Room for all that may start, so that no node is moved later.
+        self.nodes.reserve(MOST_STARTS - index)?;
         let me = who.copy(alloc)?;
         let node = Node::start(alloc, me, &self.settings)?;
         self.nodes.push(node)?;
@@ -354,11 +357,12 @@ impl Scene {
         ensures refused { IfErr result IsNoMemory }
     {
         let first_packet = self.next_packet();
-        keep_packets(index, actions.as_slice(), &mut self.packets)?;
-        keep_entries(
+        keep_actions(
             alloc,
+            index,
             self.nodes[index].me(),
             actions.as_slice(),
+            &mut self.packets,
             &mut self.history,
         )?;
         Ok(Step {
@@ -455,40 +459,35 @@ pub(crate) fn number_of(index: usize) -> Option<u32>
     requires { index < 64 }
     ensures { result ≡ Some index }
 {
-    u32::try_from(index).ok()
+    Some(index as u32)
 }
 
-// What the actions of the node of a start number send is kept, each packet once.
-fn keep_packets(from: usize, actions: &[Action], packets: &mut Packets) -> Result<(), AllocError>
+// What the actions of the node of a start number send is kept, each packet once, and what they update is added to the history.
+fn keep_actions(
+    alloc: Global,
+    from: usize,
+    author: &Unique,
+    actions: &[Action],
+    packets: &mut Packets,
+    history: &mut History,
+) -> Result<(), AllocError>
     requires started { from < 64 }
     requires valid { AreValid actions.now }
     requires apart { AreToldApart (packets.old ++ sent actions.now) }
-    ensures kept { OnOk result (packets.new ≡ packets.old ++ sent actions.now) }
+    ensures sent { OnOk result (packets.new ≡ packets.old ++ sent actions.now) }
     ensures numbered { OnOk result (length packets.new < 2 ^ 63) }
+    ensures updated { OnOk result (history.new ≡ rules.recorded author.now actions.now history.old) }
 {
     'actions: for action in actions {
-        if let Action::Send(envelope) = action {
-            packets.push(from, envelope)?;
+        match action {
+            Action::Send(envelope) => packets.push(from, envelope)?,
+            Action::Update(_, effects) => {
+                history.push(alloc, author, effects.copy(alloc)?)?;
+            }
+            _ => {}
         }
     }
     let _many = packets.len();
-    Ok(())
-}
-
-// What the actions update is added to the history.
-fn keep_entries(
-    alloc: Global,
-    author: &Unique,
-    actions: &[Action],
-    history: &mut History,
-) -> Result<(), AllocError>
-    ensures { OnOk result (history.new ≡ rules.recorded author.now actions.now history.old) }
-{
-    'actions: for action in actions {
-        if let Action::Update(_, effects) = action {
-            history.push(alloc, author, effects.copy(alloc)?)?;
-        }
-    }
     Ok(())
 }
 
@@ -517,6 +516,24 @@ struct Marks {
     double: Option<Double>,
 }
 
+// The action is one that may break the margin or make a double.
+fn may_mark(action: &Action) -> bool
+    ensures { result ≡ mark.may_mark action.now }
+{
+    match action {
+        Action::Entity(_) => true,
+        Action::MarginEnd(_) => true,
+        _ => false,
+    }
+}
+
+// One of these is.
+fn any_may_mark(actions: &[Action]) -> bool
+    ensures { result ≡ list_any mark.may_mark actions.now }
+{
+    actions.iter().any(|action| may_mark(action))
+}
+
 // An accepted event is kept, with what its step makes of the margin and of the first double. An error leaves all as it was.
 fn keep_step(
     alloc: Global,
@@ -534,6 +551,9 @@ fn keep_step(
     ensures left { OnErr result (accepted.new.events.items ≡ accepted.old.events.items) }
     ensures same { OnErr result (marks.new ≡ marks.old) }
 {
+    if !any_may_mark(step.actions.as_slice()) {
+        return accepted.push(alloc, event, step.node);
+    }
     let number = accepted.len() + 1;
     if marks.double.is_none() {
         let double = scene.double_at(alloc, number, step)?;

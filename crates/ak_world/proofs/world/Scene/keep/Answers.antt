@@ -10,11 +10,11 @@ use Rattle.ak_world.specs.World.{recorded}
 use Rattle.ak_world.proofs.WorldLemmas.{state-at}
 use Rattle.ak_world.proofs.world.Scene.keep.Goals as goal
 
-pub keep_packets-requires-clause-valid : goal.keep_packets-requires-clause-valid
-keep_packets-requires-clause-valid c = subst AreValid (sym c.as_slice.ensures) c.requires.valid
+pub keep_actions-requires-clause-valid : goal.keep_actions-requires-clause-valid
+keep_actions-requires-clause-valid c = subst AreValid (sym c.as_slice.ensures) c.requires.valid
 
-pub keep_packets-requires-clause-apart : goal.keep_packets-requires-clause-apart
-keep_packets-requires-clause-apart c = subst (λ (xs : List Action). AreToldApart (c.args.self.now.packets ++ sent xs)) (sym c.as_slice.ensures) c.requires.apart
+pub keep_actions-requires-clause-apart : goal.keep_actions-requires-clause-apart
+keep_actions-requires-clause-apart c = subst (λ (xs : List Action). AreToldApart (c.args.self.now.packets ++ sent xs)) (sym c.as_slice.ensures) c.requires.apart
 
 pub returns-clause-kept : goal.returns-clause-kept
 returns-clause-kept c = λ n at.
@@ -23,12 +23,12 @@ returns-clause-kept c = λ n at.
     let history = c.args.self.now.history in
     record {
       nodes = refl;
-      packets = c.in_ok-keep_packets.ensures.kept ∙ ap (λ (xs : List Action). c.args.self.now.packets ++ sent xs) c.as_slice.ensures;
-      history = c.in_ok-keep_entries.ensures
-          ∙ ap (λ (xs : List Action). recorded c.me.result.now xs history) c.as_slice-2.ensures
+      packets = c.in_ok-keep_actions.ensures.sent ∙ ap (λ (xs : List Action). c.args.self.now.packets ++ sent xs) c.as_slice.ensures;
+      history = c.in_ok-keep_actions.ensures.updated
+          ∙ ap (λ (xs : List Action). recorded c.me.result.now xs history) c.as_slice.ensures
           ∙ ap (λ (u : UniqueModel). recorded u c.args.actions history) (c.me.ensures ∙ ap me_of node);
       founded = refl;
-      few = c.in_ok-keep_packets.ensures.numbered;
+      few = c.in_ok-keep_actions.ensures.numbered;
       node = c.number_of.ensures;
       first_packet = c.next_packet-first_packet.ensures;
       actions_shown = refl;
