@@ -31,6 +31,21 @@ pub(crate) fn one(alloc: Global, action: Action) -> Result<Actions, AllocError>
     Ok(actions)
 }
 
+// One action alone, in room that is spare.
+#[inline(always)]
+pub(crate) fn one_in(
+    alloc: Global,
+    spare: &mut Actions,
+    action: Action,
+) -> Result<Actions, AllocError>
+    requires { spare.old ≡ [] }
+    ensures actions { IfOk result (λ actions. actions ≡ action ∷ []) }
+    ensures spare { spare.new ≡ [] }
+{
+    spare.push(action)?;
+    Ok(std::mem::replace(spare, Actions::empty(alloc)))
+}
+
 // Adds the update that a membership made, where it made one.
 pub(crate) fn tell(change: Change, actions: &mut Actions) -> Result<(), AllocError>
     ensures { OnOk result (actions.new ≡ actions.old ++ rules.update_by change.number change.effects) }
@@ -64,6 +79,22 @@ pub(crate) fn push_due(due: Closing, actions: &mut Actions) -> Result<(), AllocE
         actions.push(Action::Settled)?;
     }
     Ok(())
+}
+
+// A refusal as an action, in room that is spare.
+#[inline(always)]
+pub(crate) fn refuse_in(
+    alloc: Global,
+    spare: &mut Actions,
+    fault: MemberFault,
+) -> Result<Actions, AllocError>
+    requires { spare.old ≡ [] }
+    ensures told { IfOk result (λ actions. actions ≡ Action.Refused (rules.number_of fault) ∷ []) }
+    ensures numbered { OnOk result (1 ≤ rules.number_of fault) }
+    ensures spare { spare.new ≡ [] }
+{
+    let number = number_of(&fault)?;
+    one_in(alloc, spare, Action::Refused(number))
 }
 
 // A refusal as an action.

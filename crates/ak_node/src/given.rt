@@ -1,12 +1,12 @@
 //! What a node is given, and what that makes of its state.
 
-ghost use Rattle.std.specs.Prelude.{◌≡◌, ◌<◌, ◌≤◌, ◌^◌, ◌+◌, true, false, IfOk, OnErr, IsTrue};
+ghost use Rattle.std.specs.Prelude.{◌≡◌, ◌<◌, ◌≤◌, ◌^◌, ◌+◌, [], true, false, IfOk, OnErr, IsTrue};
 ghost use Rattle.ak_membership.specs.MembershipContracts.{IsWatching};
 ghost use Rattle.ak_node.specs.Node as rules;
 ghost use Rattle.ak_node.specs.Sends.{ComesValid, IsSaid};
 ghost use Rattle.ak_node.specs.NodeContracts.{Does, IsSameProcess, IsConcluded, IsRequest, is_idle, is_asking, is_refusing, may_ask};
 
-use crate::actions::{one, refuse};
+use crate::actions::{one_in, refuse_in};
 use crate::node::{NodeEvent, State};
 use crate::ranges::{address, offered};
 use ak_membership::MemberFault;
@@ -197,12 +197,15 @@ fn asks_again(
     alloc: Global,
     state: &mut State,
     request: &mut Option<SharedEnvelope>,
+    spare: &mut Actions,
 ) -> Result<Actions, AllocError>
     requires steps { state.old.steps < 2 ^ 62 }
     requires request { IsRequest (rules.me_of state.old) request.old }
+    requires spare { spare.old ≡ [] }
     ensures state { state.new ≡ record state.old { steps = state.old.steps + 1 } }
     ensures actions { IfOk result (λ actions. actions ≡ (rules.asks_at state.old.membership.target state.old).1) }
     ensures request { IsRequest (rules.me_of state.new) request.new }
+    ensures spare { spare.new ≡ [] }
 {
     state.steps += 1;
     let Some(target) = state.membership.target() else {
@@ -210,16 +213,16 @@ fn asks_again(
     };
     if let Some(sent) = request {
         if sent.get().to.is(target) {
-            return one(alloc, Action::Send(sent.share()?));
+            return one_in(alloc, spare, Action::Send(sent.share()?));
         }
     }
     let sent = state.request(alloc, target)?;
     let again = sent.share()?;
     *request = Some(again);
-    one(alloc, Action::Send(sent))
+    one_in(alloc, spare, Action::Send(sent))
 }
 
-// What an event makes of a node's state. Where its rule leaves a node that is no member as it was, nothing is due after it, since
+// What an event makes of a node's state, whose spare room a node that is no member takes. Where its rule leaves a node that is no member as it was, nothing is due after it, since
 // the step before was concluded: so such a node asks again, and refuses whoever asks it, with no closing.
 pub(crate) fn happens<E: Given>(
     alloc: Global,
@@ -227,6 +230,7 @@ pub(crate) fn happens<E: Given>(
     dead: bool,
     state: &mut State,
     request: &mut Option<SharedEnvelope>,
+    spare: &mut Actions,
 ) -> Result<Actions, AllocError>
     requires dead { dead ≡ rules.is_dead (rules.me_of state.old) (E.event event.now) }
     requires steps { state.old.steps < 2 ^ 62 }
@@ -234,17 +238,19 @@ pub(crate) fn happens<E: Given>(
     requires watching { IsWatching state.old.membership }
     requires concluded { IsConcluded state.old }
     requires request { IsRequest (rules.me_of state.old) request.old }
+    requires spare { spare.old ≡ [] }
     ensures does { IfOk result (λ actions. Does (rules.step (E.event event.now) state.old) state.new actions) }
     ensures same { IsSameProcess state.old state.new }
     ensures memory { OnErr result (IsTrue (may_ask (E.event event.now) state.old)) }
     ensures request { IsRequest (rules.me_of state.new) request.new }
+    ensures spare { spare.new ≡ [] }
 {
     if state.runs && event.is_asking(state) {
-        return asks_again(alloc, state, request);
+        return asks_again(alloc, state, request, spare);
     }
     if state.runs && !dead && event.is_refusing(state) {
         state.steps += 1;
-        return refuse(alloc, MemberFault::NotMember);
+        return refuse_in(alloc, spare, MemberFault::NotMember);
     }
     state.step(alloc, event, dead)
 }

@@ -486,13 +486,15 @@ pub struct Node {
     state: State,
     // What it sent when it last asked at a tick to be let in.
     request: Option<SharedEnvelope>,
+    // No action, and the room of a step that was given back.
+    spare: Actions,
     // The error with which it ran out of memory.
     failed: Option<AllocError>,
 }
 
 impl Model for Node {
     ghost use Rattle.std.specs.Prelude.{is_some};
-    ghost use Rattle.std.specs.Prelude.{◌≡◌, false};
+    ghost use Rattle.std.specs.Prelude.{◌≡◌, [], false};
     ghost use Rattle.ak_node.specs.Node.{me_of};
     ghost use Rattle.ak_node.specs.NodeContracts.{NodeModel, IsNode, HasForgotten, IsConcluded, IsRequest};
     ghost use Rattle.ak_node.specs.Sends.{KnowsProcesses, KeepsBallots, KeepsSettled, KeepsShards};
@@ -507,7 +509,7 @@ impl Model for Node {
 
     ghost view = { λ n. record { state = n.state; spent = is_some n.failed } };
 
-    ghost invariant = { λ n. IsNode n.state × HasForgotten (is_some n.failed) n.state × KnowsProcesses n.state × KeepsBallots n.state.singleton × KeepsSettled n.state × KeepsShards n.state × (is_some n.failed ≡ false → IsConcluded n.state) × IsRequest (me_of n.state) n.request };
+    ghost invariant = { λ n. IsNode n.state × HasForgotten (is_some n.failed) n.state × KnowsProcesses n.state × KeepsBallots n.state.singleton × KeepsSettled n.state × KeepsShards n.state × (is_some n.failed ≡ false → IsConcluded n.state) × IsRequest (me_of n.state) n.request × (n.spare ≡ []) };
 }
 
 impl Node {
@@ -529,6 +531,7 @@ impl Node {
         Ok(Node {
             state,
             request: None,
+            spare: Actions::empty(alloc),
             failed: None,
         })
     }
@@ -609,7 +612,15 @@ impl Node {
         self.state.process();
         let runs = self.state.runs;
         let steps = self.state.steps;
-        match happens(alloc, event, dead, &mut self.state, &mut self.request) {
+        let done = happens(
+            alloc,
+            event,
+            dead,
+            &mut self.state,
+            &mut self.request,
+            &mut self.spare,
+        );
+        match done {
             Ok(actions) => {
                 self.state.membership.invariant();
                 self.state.membership.gossip().invariant();
@@ -659,6 +670,15 @@ impl Node {
         ensures memory { OnErr result (self.old.spent ≡ true ⊎ IsTrue self.old.state.runs) }
     {
         self.take(alloc, envelope, false)
+    }
+
+    /// Takes back what a step answered: its actions are dropped, and their room serves a later step. Takes no memory, and changes
+    /// nothing that the node shows.
+    pub fn take_back(&mut self, mut actions: Actions)
+        ensures { self.new ≡ self.old }
+    {
+        actions.clear();
+        self.spare = actions;
     }
 
     /// The process that it is.

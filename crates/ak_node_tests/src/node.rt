@@ -401,6 +401,16 @@ fn refuses_as_no_member(alloc: Global, node: &mut Node) -> Result<bool, Fail> {
     Ok(left && downed)
 }
 
+// What it answered is taken back; then it answers the same, and nothing with it.
+fn answers_alike_after_taking_back(alloc: Global, node: &mut Node) -> Result<bool, Fail> {
+    let refusal = asked(alloc, node, b'z')?;
+    let before = is_refusal(&refusal, 3);
+    node.take_back(refusal);
+    let steps = node.steps();
+    let after = is_refusal(&asked(alloc, node, b'z')?, 3);
+    Ok(before && after && steps == 1)
+}
+
 // What the node does at a message for an entity, which b forwards.
 fn forwarded(alloc: Global, node: &mut Node) -> Result<Actions, Fail> {
     few_steps(node)?;
@@ -476,6 +486,7 @@ enum Story {
     RefusesAsAFounder,
     RefusesAsNoMember,
     HearsOfShardsAsAMember,
+    AnswersAlikeAfterTakingBack,
 }
 
 fn goes_so(alloc: Global, node: &mut Node, story: Story) -> Result<bool, Fail> {
@@ -491,6 +502,7 @@ fn goes_so(alloc: Global, node: &mut Node, story: Story) -> Result<bool, Fail> {
         Story::RefusesAsAFounder => refuses_as_a_founder(alloc, node),
         Story::RefusesAsNoMember => refuses_as_no_member(alloc, node),
         Story::HearsOfShardsAsAMember => hears_of_shards_as_a_member(alloc, node),
+        Story::AnswersAlikeAfterTakingBack => answers_alike_after_taking_back(alloc, node),
     }
 }
 
@@ -564,5 +576,12 @@ fn others_refuse_to_leave_and_to_down(rt: HostRuntime) -> Result<(), Fail> {
 #[test]
 fn packets_of_shards_are_heard_by_members(rt: HostRuntime) -> Result<(), Fail> {
     assert!(rt; is_so(rt.alloc(), b'a', Story::HearsOfShardsAsAMember)?);
+    Ok(())
+}
+
+// A node that took back what it answered is as it was, and the room of that answer shows in no later one.
+#[test]
+fn an_answer_is_taken_back(rt: HostRuntime) -> Result<(), Fail> {
+    assert!(rt; is_so(rt.alloc(), b'a', Story::AnswersAlikeAfterTakingBack)?);
     Ok(())
 }

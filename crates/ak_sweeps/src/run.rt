@@ -72,6 +72,7 @@ fn turn(
         Ok(step) => {
             // Seen after the event, since what comes next depends on the world as it is then.
             follow(alloc, sight, world, step.node)?;
+            world.take_back(step);
             Ok(true)
         }
         Err(Refused::Invalid(_)) => Ok(false),

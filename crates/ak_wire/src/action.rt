@@ -91,6 +91,13 @@ impl Actions {
         Ok(())
     }
 
+    /// No action any more; the room that they took is kept. Takes no memory.
+    pub fn clear(&mut self)
+        ensures { self.new ≡ [] }
+    {
+        self.list.clear();
+    }
+
     /// How many actions there are.
     pub fn len(&self) -> usize
         ensures { result ≡ length self.now }

@@ -1,249 +1,296 @@
 //! What a world keeps of the events that it accepted.
 
-ghost use Rattle.std.specs.Prelude.{◌≡◌, ◌++◌, ◌∷◌, [], length, IfOk, IfSome, OnOk, OnErr};
-ghost use Rattle.ak_world.specs.Kept.{event_of};
+ghost use Rattle.std.specs.Prelude.{◌≡◌, ◌++◌, ◌∷◌, [], length, slice_get, Some, IsTrue, IfOk, IfSome, OnOk, OnErr};
+ghost use Rattle.ak_world.specs.Kept.{event_of, process_at, target_at, offered_at, Grows};
 
 use ak_address::{Address, Unique};
 use ak_field::EntityId;
 use ak_schedule::Event;
 use std::alloc::{AllocError, Global};
-use std::boxed::Box;
 use std::marker::Model;
-use std::rc::Rc;
 
-// As many names that are no node's as kept events share: who is asked about and was never started.
+// As many names that are no node's as are sought: who is asked about and was never started.
 const MOST_OTHERS: usize = 256;
 
-// The names that kept events share, so that an event is kept in a few bytes however long its names are. No contract speaks of
-// them.
+// What an event names.
 #[derive(Drop)]
-struct Names {
-    // The processes that were started, by their start numbers.
-    started: Vec<Rc<Unique>>,
-    // Others that were named, up to a limit: each is sought along them.
-    others: Vec<Rc<Unique>>,
-    // The listed addresses through which nodes joined.
-    targets: Vec<Rc<Address>>,
+enum Part {
+    Process(Unique),
+    Target(Address),
+    Offered(EntityId, u64),
 }
 
-impl Names {
-    // No names. Takes no memory.
-    fn none(alloc: Global) -> Names {
-        Names {
+// What kept events name, each by its place, so that an event is kept in a few bytes however long its names are and however
+// often they come. Where a name stands that came before is a hint: it is compared and not believed.
+#[derive(Drop)]
+struct Parts {
+    list: Vec<Part>,
+    // The places of the processes that were started, by their start numbers.
+    started: Vec<usize>,
+    // Those of others that were named, up to a limit: each is sought along them.
+    others: Vec<usize>,
+    // Those of the listed addresses through which nodes joined.
+    targets: Vec<usize>,
+}
+
+impl Parts {
+    // Nothing is named. Takes no memory.
+    fn none(alloc: Global) -> Parts
+        ensures { result.list.items ≡ [] }
+    {
+        Parts {
+            list: Vec::new(alloc),
             started: Vec::new(alloc),
             others: Vec::new(alloc),
             targets: Vec::new(alloc),
         }
     }
 
-    // The name of a process, shared with the events that named it before. Only memory can fail.
-    fn process(&mut self, alloc: Global, who: &Unique) -> Result<Rc<Unique>, AllocError>
-        ensures { IfOk result (λ name. name.value ≡ who.now) }
+    // The place of one more. Only memory can fail.
+    fn add(&mut self, part: Part) -> Result<usize, AllocError>
+        ensures place { IfOk result (λ place. slice_get self.new.list.items place ≡ Some part) }
+        ensures grows { Grows self.old.list.items self.new.list.items }
     {
-        if let Some(name) = process_among(&self.started, who) {
-            return name.clone();
+        let place = self.list.len();
+        self.list.push(part)?;
+        Ok(place)
+    }
+
+    // The place of a process, which was named before or is one more. Only memory can fail.
+    fn process(&mut self, alloc: Global, who: &Unique) -> Result<usize, AllocError>
+        ensures place { IfOk result (λ place. process_at self.new.list.items place ≡ Some who.now) }
+        ensures grows { Grows self.old.list.items self.new.list.items }
+    {
+        if let Some(place) = process_among(&self.list, &self.started, who) {
+            return Ok(place);
         }
-        if let Some(name) = process_among(&self.others, who) {
-            return name.clone();
+        if let Some(place) = process_among(&self.list, &self.others, who) {
+            return Ok(place);
         }
-        let name = Rc::new(alloc, who.copy(alloc)?)?;
         if self.others.len() < MOST_OTHERS {
-            self.others.push(name.clone()?)?;
+            self.others.push(self.list.len())?;
         }
-        Ok(name)
+        self.add(Part::Process(who.copy(alloc)?))
     }
 
-    // The name of a process that starts. Only memory can fail.
-    fn start(&mut self, alloc: Global, who: &Unique) -> Result<Rc<Unique>, AllocError>
-        ensures { IfOk result (λ name. name.value ≡ who.now) }
+    // The place of a process that starts. Only memory can fail.
+    fn start(&mut self, alloc: Global, who: &Unique) -> Result<usize, AllocError>
+        ensures place { IfOk result (λ place. process_at self.new.list.items place ≡ Some who.now) }
+        ensures grows { Grows self.old.list.items self.new.list.items }
     {
-        let name = Rc::new(alloc, who.copy(alloc)?)?;
-        self.started.push(name.clone()?)?;
-        Ok(name)
+        self.started.push(self.list.len())?;
+        self.add(Part::Process(who.copy(alloc)?))
     }
 
-    // The name of the process that acts: a node of this start number, if it is one. Only memory can fail.
-    fn actor(
-        &mut self,
-        alloc: Global,
-        node: Option<u32>,
-        who: &Unique,
-    ) -> Result<Rc<Unique>, AllocError>
-        ensures { IfOk result (λ name. name.value ≡ who.now) }
+    // The place of the process that acts: a node of this start number, if it is one. Only memory can fail.
+    fn actor(&mut self, alloc: Global, node: Option<u32>, who: &Unique) -> Result<usize, AllocError>
+        ensures place { IfOk result (λ place. process_at self.new.list.items place ≡ Some who.now) }
+        ensures grows { Grows self.old.list.items self.new.list.items }
     {
-        if let Some(name) = name_at(&self.started, node) {
-            if name.as_ref().is(who) {
-                return name.clone();
+        if let Some(place) = place_of(&self.started, node) {
+            if is_process_at(&self.list, place, who) {
+                return Ok(place);
             }
         }
         self.process(alloc, who)
     }
 
-    // An address, shared with the events that named it before. Only memory can fail.
-    fn target(&mut self, alloc: Global, at: &Address) -> Result<Rc<Address>, AllocError>
-        ensures { IfOk result (λ name. name.value ≡ at.now) }
+    // The place of an address, which was named before or is one more. Only memory can fail.
+    fn target(&mut self, alloc: Global, at: &Address) -> Result<usize, AllocError>
+        ensures place { IfOk result (λ place. target_at self.new.list.items place ≡ Some at.now) }
+        ensures grows { Grows self.old.list.items self.new.list.items }
     {
-        if let Some(name) = address_among(&self.targets, at) {
-            return name.clone();
+        if let Some(place) = target_among(&self.list, &self.targets, at) {
+            return Ok(place);
         }
-        let name = Rc::new(alloc, at.copy(alloc)?)?;
-        self.targets.push(name.clone()?)?;
-        Ok(name)
+        self.targets.push(self.list.len())?;
+        self.add(Part::Target(at.copy(alloc)?))
     }
-}
 
-// The name at an index, if there is one.
-fn name_at(names: &[Rc<Unique>], index: Option<u32>) -> Option<&Rc<Unique>> {
-    names.get(index? as usize)
-}
-
-// The name that is this process's.
-fn process_among<'a>(names: &'a [Rc<Unique>], who: &Unique) -> Option<&'a Rc<Unique>>
-    ensures { IfSome result (λ name. name.now.value ≡ who.now) }
-{
-    'names: for name in names {
-        if name.as_ref().is(who) {
-            return Some(name);
-        }
-    }
-    None
-}
-
-// The name that is this address.
-fn address_among<'a>(names: &'a [Rc<Address>], at: &Address) -> Option<&'a Rc<Address>>
-    ensures { IfSome result (λ name. name.now.value ≡ at.now) }
-{
-    'names: for name in names {
-        if name.as_ref().is(at) {
-            return Some(name);
-        }
-    }
-    None
-}
-
-// An event with shared names. Most events are deliveries and ticks, so that these alone stand in two words; what else has more
-// than a name stands apart.
-#[derive(Drop)]
-enum Form {
-    Start(Rc<Unique>),
-    Found(Rc<Unique>),
-    Join(Box<(Rc<Unique>, Rc<Address>)>),
-    Tick(u32, Rc<Unique>),
-    Deliver(u64),
-    Leave(Box<(Rc<Unique>, Rc<Unique>)>),
-    Down(Box<(Rc<Unique>, Rc<Unique>)>),
-    Offer(Box<(Rc<Unique>, EntityId, u64)>),
-    Stop(Rc<Unique>),
-}
-
-/// An event that was accepted, in as little memory as it can be kept. Contracts see the event.
-#[derive(Drop)]
-pub(crate) struct KeptEvent {
-    form: Form,
-}
-
-impl Model for KeptEvent {
-    ghost use Rattle.std.specs.Coded.{codes};
-    ghost use Rattle.ak_address.specs.Unique.{coded_address, coded_unique};
-    ghost use Rattle.ak_schedule.specs.declared.event.Event.{Event};
-    ghost use Rattle.ak_world.specs.Kept.{event_of};
-
-    ghost Value = { Event };
-
-    ghost coded = { Prim.hlevel (codes, coded_address, coded_unique) };
-
-    ghost view = { λ k. event_of k.form };
-}
-
-impl KeptEvent {
-    // An event, to be kept, of the node of this start number; it shares its names with those kept before. Only memory can fail.
-    fn of(
+    // The place of what is offered. Only memory can fail.
+    fn offered(
+        &mut self,
         alloc: Global,
-        event: &Event,
-        node: Option<u32>,
-        names: &mut Names,
-    ) -> Result<KeptEvent, AllocError>
-        ensures { IfOk result (λ kept. kept ≡ event.now) }
+        entity: &EntityId,
+        payload: u64,
+    ) -> Result<usize, AllocError>
+        ensures place { IfOk result (λ place. offered_at self.new.list.items place ≡ Some (entity.now, payload)) }
+        ensures grows { Grows self.old.list.items self.new.list.items }
     {
-        let form = form_of(alloc, event, node, names)?;
-        Ok(KeptEvent { form })
+        self.add(Part::Offered(entity.copy(alloc)?, payload))
     }
 }
 
+// The place at an index, if there is one.
+fn place_of(places: &[usize], index: Option<u32>) -> Option<usize> {
+    places.get(index? as usize).copied()
+}
+
+// The process stands at the place.
+fn is_process_at(list: &[Part], place: usize, who: &Unique) -> bool
+    ensures { IsTrue result → process_at list.now place ≡ Some who.now }
+{
+    match list.get(place) {
+        Some(Part::Process(name)) => name.is(who),
+        _ => false,
+    }
+}
+
+// The address stands at the place.
+fn is_target_at(list: &[Part], place: usize, at: &Address) -> bool
+    ensures { IsTrue result → target_at list.now place ≡ Some at.now }
+{
+    match list.get(place) {
+        Some(Part::Target(target)) => target.is(at),
+        _ => false,
+    }
+}
+
+// The one of these places at which the process stands.
+fn process_among(list: &[Part], places: &[usize], who: &Unique) -> Option<usize>
+    ensures { IfSome result (λ place. process_at list.now place ≡ Some who.now) }
+{
+    'places: for place in places {
+        if is_process_at(list, *place, who) {
+            return Some(*place);
+        }
+    }
+    None
+}
+
+// The one of these places at which the address stands.
+fn target_among(list: &[Part], places: &[usize], at: &Address) -> Option<usize>
+    ensures { IfSome result (λ place. target_at list.now place ≡ Some at.now) }
+{
+    'places: for place in places {
+        if is_target_at(list, *place, at) {
+            return Some(*place);
+        }
+    }
+    None
+}
+
+// An event, with the places of what it names.
+#[derive(Clone, Copy)]
+enum Form {
+    Start(usize),
+    Found(usize),
+    Join(usize, usize),
+    Tick(u32, usize),
+    Deliver(u64),
+    Leave(usize, usize),
+    Down(usize, usize),
+    Offer(usize, usize),
+    Stop(usize),
+}
+
+// An event to be kept, of the node of this start number; it shares its names with those kept before. Only memory can fail.
 fn form_of(
     alloc: Global,
     event: &Event,
     node: Option<u32>,
-    names: &mut Names,
+    parts: &mut Parts,
 ) -> Result<Form, AllocError>
-    ensures { IfOk result (λ form. event_of form ≡ event.now) }
+    ensures form { IfOk result (λ form. event_of parts.new.list.items form ≡ Some event.now) }
+    ensures grows { Grows parts.old.list.items parts.new.list.items }
 {
     match event {
-        Event::Start(who) => Ok(Form::Start(names.start(alloc, who)?)),
-        Event::Found(who) => Ok(Form::Found(names.actor(alloc, node, who)?)),
+        Event::Start(who) => Ok(Form::Start(parts.start(alloc, who)?)),
+        Event::Found(who) => Ok(Form::Found(parts.actor(alloc, node, who)?)),
         Event::Join(who, target) => {
-            let who = names.actor(alloc, node, who)?;
-            let target = names.target(alloc, target)?;
-            Ok(Form::Join(Box::new(alloc, (who, target))?))
+            let who = parts.actor(alloc, node, who)?;
+            Ok(Form::Join(who, parts.target(alloc, target)?))
         }
-        Event::Tick(who, word) => Ok(Form::Tick(*word, names.actor(alloc, node, who)?)),
+        Event::Tick(who, word) => Ok(Form::Tick(*word, parts.actor(alloc, node, who)?)),
         Event::Deliver(number) => Ok(Form::Deliver(*number)),
         Event::Leave(who, member) => {
-            let who = names.actor(alloc, node, who)?;
-            let member = names.process(alloc, member)?;
-            Ok(Form::Leave(Box::new(alloc, (who, member))?))
+            let who = parts.actor(alloc, node, who)?;
+            Ok(Form::Leave(who, parts.process(alloc, member)?))
         }
         Event::Down(who, member) => {
-            let who = names.actor(alloc, node, who)?;
-            let member = names.process(alloc, member)?;
-            Ok(Form::Down(Box::new(alloc, (who, member))?))
+            let who = parts.actor(alloc, node, who)?;
+            Ok(Form::Down(who, parts.process(alloc, member)?))
         }
         Event::Offer(who, entity, payload) => {
-            let who = names.actor(alloc, node, who)?;
-            let entity = entity.copy(alloc)?;
-            Ok(Form::Offer(Box::new(alloc, (who, entity, *payload))?))
+            let who = parts.actor(alloc, node, who)?;
+            Ok(Form::Offer(who, parts.offered(alloc, entity, *payload)?))
         }
-        Event::Stop(who) => Ok(Form::Stop(names.actor(alloc, node, who)?)),
+        Event::Stop(who) => Ok(Form::Stop(parts.actor(alloc, node, who)?)),
     }
 }
 
-/// The events that a world accepted, and the names that they share.
+/// The events that a world accepted, in as little memory as they can be kept. Contracts see the events.
 #[derive(Drop)]
 pub(crate) struct Accepted {
-    pub(crate) events: Vec<KeptEvent>,
-    names: Names,
+    forms: Vec<Form>,
+    parts: Parts,
+}
+
+impl Model for Accepted {
+    ghost use Rattle.std.specs.Prelude.{List};
+    ghost use Rattle.std.specs.Coded.{codes};
+    ghost use Rattle.ak_address.specs.Unique.{coded_address, coded_unique};
+    ghost use Rattle.ak_schedule.specs.declared.event.Event.{Event};
+    ghost use Rattle.ak_world.specs.Kept.{events_of, AreKept};
+
+    ghost Value = { List Event };
+
+    ghost coded = { Prim.hlevel (codes, coded_address, coded_unique) };
+
+    ghost view = { λ a. events_of a.parts.list.items a.forms.items };
+
+    ghost invariant = { λ a. AreKept a.parts.list.items a.forms.items };
 }
 
 impl Accepted {
     /// No event. Takes no memory.
     pub(crate) fn none(alloc: Global) -> Accepted
-        ensures { result.events.items ≡ [] }
+        ensures { result ≡ [] }
     {
         Accepted {
-            events: Vec::new(alloc),
-            names: Names::none(alloc),
+            forms: Vec::new(alloc),
+            parts: Parts::none(alloc),
         }
     }
 
     /// How many events there are.
     pub(crate) fn len(&self) -> u64
-        ensures { result ≡ length self.now.events.items }
+        ensures { result ≡ length self.now }
     {
-        self.events.len() as u64
+        self.forms.len() as u64
     }
 
     /// One more event, of the node of this start number. An error leaves the events as they were; only memory can fail.
+    #[inline(always)]
     pub(crate) fn push(
         &mut self,
         alloc: Global,
         event: &Event,
         node: Option<u32>,
     ) -> Result<(), AllocError>
-        ensures ok { OnOk result (self.new.events.items ≡ self.old.events.items ++ event.now ∷ []) }
-        ensures err { OnErr result (self.new.events.items ≡ self.old.events.items) }
+        ensures ok { OnOk result (self.new ≡ self.old ++ event.now ∷ []) }
+        ensures err { OnErr result (self.new ≡ self.old) }
     {
-        let kept = KeptEvent::of(alloc, event, node, &mut self.names)?;
-        self.events.push(kept)?;
+        // Most events are deliveries, which name nobody.
+        let Event::Deliver(number) = event else {
+            return self.push_named(alloc, event, node);
+        };
+        self.forms.push(Form::Deliver(*number))?;
+        Ok(())
+    }
+
+    // An event that names somebody.
+    fn push_named(
+        &mut self,
+        alloc: Global,
+        event: &Event,
+        node: Option<u32>,
+    ) -> Result<(), AllocError>
+        ensures ok { OnOk result (self.new ≡ self.old ++ event.now ∷ []) }
+        ensures err { OnErr result (self.new ≡ self.old) }
+    {
+        let form = form_of(alloc, event, node, &mut self.parts)?;
+        self.forms.push(form)?;
         Ok(())
     }
 }

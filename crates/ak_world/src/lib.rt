@@ -5,6 +5,7 @@ mod double;
 mod kept;
 mod laws;
 mod margin;
+mod marks;
 mod packets;
 mod print;
 mod seek;

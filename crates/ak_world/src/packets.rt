@@ -86,7 +86,6 @@ impl Packets {
     /// show: among packets of one world, those that are alike are the same. A request is compared first with what the node sent
     /// last. An error leaves the packets as they were; only memory can fail.
     pub(crate) fn push(&mut self, from: usize, envelope: &SharedEnvelope) -> Result<(), AllocError>
-        requires started { from < 64 }
         requires valid { IsValid envelope.now }
         requires apart { AreToldApart (self.old ++ envelope.now ∷ []) }
         ensures ok { OnOk result (self.new ≡ self.old ++ envelope.now ∷ []) }
@@ -100,7 +99,7 @@ impl Packets {
         }
         let (place, _) = self.stored.insert_full(packet)?;
         self.places.push_reserved(place);
-        self.last[from] = place;
+        note(&mut self.last, from, place);
         Ok(())
     }
 
@@ -110,6 +109,13 @@ impl Packets {
     {
         self.stored.clear();
         self.places.clear();
+    }
+}
+
+// The place of what a node sent last is noted by its start number.
+fn note(last: &mut [usize], from: usize, place: usize) {
+    if let Some(noted) = last.get_mut(from) {
+        *noted = place;
     }
 }
 

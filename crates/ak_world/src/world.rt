@@ -1,6 +1,5 @@
-ghost use Rattle.std.specs.Prelude.{◌≡◌, ℕ, ◌+◌, ◌-◌, ◌<◌, ◌≤◌, ◌^◌, ◌++◌, ◌∷◌, [], true, false, length, take, slice_get, IfOk, IfErr, OnOk, OnErr, Option, None, Some, Result, Ok, Err, IsTrue};
+ghost use Rattle.std.specs.Prelude.{◌≡◌, ℕ, ◌+◌, ◌-◌, ◌<◌, ◌≤◌, ◌^◌, ◌++◌, [], true, false, length, take, slice_get, IfOk, IfErr, OnOk, Option, None, Some, Result, Ok, Err, IsTrue};
 ghost use Rattle.std.specs.Option.{option_copied, option_map};
-ghost use Rattle.std.specs.List.{list_any};
 ghost use Rattle.ak_wire.specs.Wire.{sent};
 ghost use Rattle.ak_world.specs.World as rules;
 ghost use Rattle.ak_world.specs.Margin.{IsMargin};
@@ -31,6 +30,7 @@ ghost use Rattle.ak_world.specs.Stored.{AreToldApart, LeavesToldApart, different
 use crate::double::{Double, first_made};
 use crate::kept::Accepted;
 use crate::margin::{Margin, first_end};
+use crate::marks::{Marks, keep_step};
 use crate::packets::Packets;
 use crate::seek::{is_in_use, node_of, receiver_of};
 use ak_address::{Address, Unique};
@@ -96,7 +96,7 @@ const MOST_PACKETS: usize = 200_000;
 #[derive(Drop)]
 pub(crate) struct Scene {
     settings: Settings,
-    nodes: Vec<Node>,
+    pub(crate) nodes: Vec<Node>,
     packets: Packets,
     history: History,
     founded: bool,
@@ -407,7 +407,7 @@ impl Scene {
     }
 
     // Whether the margin was kept, after a step of this number.
-    fn marked(&self, margin: Margin, number: u64, step: &Step) -> Margin
+    pub(crate) fn marked(&self, margin: Margin, number: u64, step: &Step) -> Margin
         requires { length self.now.nodes.items ≤ 64 }
         ensures { result ≡ mark.marked margin number (record { world = state_of self.now; node = step.now.node; actions = step.now.actions }) }
     {
@@ -431,7 +431,7 @@ impl Scene {
     }
 
     // The double of a step of this number, where none was before.
-    fn double_at(
+    pub(crate) fn double_at(
         &self,
         alloc: Global,
         number: u64,
@@ -471,7 +471,6 @@ fn keep_actions(
     packets: &mut Packets,
     history: &mut History,
 ) -> Result<(), AllocError>
-    requires started { from < 64 }
     requires valid { AreValid actions.now }
     requires apart { AreToldApart (packets.old ++ sent actions.now) }
     ensures sent { OnOk result (packets.new ≡ packets.old ++ sent actions.now) }
@@ -507,65 +506,6 @@ impl<T: Drop> From<AllocFailed<T>> for Refused {
     fn from(error: AllocFailed<T>) -> Refused {
         Refused::NoMemory(error.into())
     }
-}
-
-// What a world keeps in mind of its events: whether the removal margin was kept, and the first double.
-#[derive(Drop)]
-struct Marks {
-    margin: Margin,
-    double: Option<Double>,
-}
-
-// The action is one that may break the margin or make a double.
-fn may_mark(action: &Action) -> bool
-    ensures { result ≡ mark.may_mark action.now }
-{
-    match action {
-        Action::Entity(_) => true,
-        Action::MarginEnd(_) => true,
-        _ => false,
-    }
-}
-
-// One of these is.
-fn any_may_mark(actions: &[Action]) -> bool
-    ensures { result ≡ list_any mark.may_mark actions.now }
-{
-    actions.iter().any(|action| may_mark(action))
-}
-
-// An accepted event is kept, with what its step makes of the margin and of the first double. An error leaves all as it was.
-fn keep_step(
-    alloc: Global,
-    scene: &Scene,
-    event: &Event,
-    step: &Step,
-    accepted: &mut Accepted,
-    marks: &mut Marks,
-) -> Result<(), AllocError>
-    requires nodes { length scene.now.nodes.items ≤ 64 }
-    requires events { length accepted.old.events.items < 2 ^ 62 }
-    ensures kept { OnOk result (accepted.new.events.items ≡ accepted.old.events.items ++ event.now ∷ []) }
-    ensures margin { OnOk result (marks.new.margin ≡ mark.marked marks.old.margin (length accepted.old.events.items + 1) (record { world = state_of scene.now; node = step.now.node; actions = step.now.actions })) }
-    ensures double { OnOk result (NextDouble (option_map doubled_of marks.old.double) (length accepted.old.events.items + 1) (state_of scene.now).nodes step.now.node step.now.actions (option_map doubled_of marks.new.double)) }
-    ensures left { OnErr result (accepted.new.events.items ≡ accepted.old.events.items) }
-    ensures same { OnErr result (marks.new ≡ marks.old) }
-{
-    if !any_may_mark(step.actions.as_slice()) {
-        return accepted.push(alloc, event, step.node);
-    }
-    let number = accepted.len() + 1;
-    if marks.double.is_none() {
-        let double = scene.double_at(alloc, number, step)?;
-        accepted.push(alloc, event, step.node)?;
-        if let Some(double) = double {
-            marks.double = Some(double);
-        }
-    } else {
-        accepted.push(alloc, event, step.node)?;
-    }
-    marks.margin = scene.marked(marks.margin, number, step);
-    Ok(())
 }
 
 // Each tells a proof what is true of every value of a type. They do nothing.
@@ -614,9 +554,9 @@ impl Model for World {
 
     ghost coded = { Prim.hlevel (codes, coded_address, coded_unique, coded_uniques, coded_settings, coded_gossip, coded_ballot, coded_counts, membership.the_row.coded, coded_singleton, coded_sharding) };
 
-    ghost view = { λ w. record { settings = w.scene.settings; state = state_of w.scene; events = w.accepted.events.items; spent = is_some w.failed } };
+    ghost view = { λ w. record { settings = w.scene.settings; state = state_of w.scene; events = w.accepted; spent = is_some w.failed } };
 
-    ghost invariant = { λ w. IsWorld w.scene.settings (state_of w.scene) w.accepted.events.items w.marks.margin (option_map doubled_of w.marks.double) (is_some w.failed) };
+    ghost invariant = { λ w. IsWorld w.scene.settings (state_of w.scene) w.accepted w.marks.margin (option_map doubled_of w.marks.double) (is_some w.failed) };
 }
 
 impl World {
@@ -725,6 +665,25 @@ impl World {
                 Err(error.into())
             }
             Err(Refused::Invalid(why)) => Err(Refused::Invalid(why)),
+        }
+    }
+
+    /// Takes back what an event did: its actions are dropped, and their room serves a later event. Takes no memory, and the world
+    /// is as it was.
+    pub fn take_back(&mut self, step: Step)
+        ensures { self.new ≡ self.old }
+    {
+        let Step {
+            node,
+            first_packet: _,
+            arrived: _,
+            actions,
+        } = step;
+        let Some(number) = node else {
+            return;
+        };
+        if let Some(node) = self.scene.nodes.get_mut(number as usize) {
+            node.take_back(actions);
         }
     }
 

@@ -5,12 +5,12 @@ use Rattle.ak_world.specs.MarginMark.{may_mark}
 use Rattle.ak_world.specs.WorldContracts.{doubled_of, state_of, states}
 use Rattle.ak_world.proofs.Unmarked.{margin_stays, double_stays}
 use Rattle.ak_world.proofs.WorldLemmas.{on-ok, on-err}
-use Rattle.ak_world.proofs.world.keep_step.Goals as goal
+use Rattle.ak_world.proofs.marks.keep_step.Goals as goal
 
 pub returns-then-not-any_may_mark : goal.returns-then-not-any_may_mark
 returns-then-not-any_may_mark c =
     let none : list_any may_mark c.args.step.now.actions ≡ false = ap (list_any may_mark) (sym c.as_slice.ensures) ∙ sym c.any_may_mark.ensures ∙ c.if-not-any_may_mark.true in
-    let number = length c.args.accepted.now.events.items + 1 in
+    let number = length c.args.accepted.now + 1 in
     record {
       kept = c.push.ensures.ok;
       margin = on-ok c.push.result

@@ -1,0 +1,7 @@
+use Rattle.std.proofs.Common.{rules, length, sym, ap, ◌∙◌}
+use Rattle.ak_world.proofs.KeptLemmas.{length-events}
+use Rattle.ak_world.proofs.kept.Accepted.len.Goals as goal
+
+pub returns : goal.returns
+returns c =
+    c.len.ensures ∙ search rules ∙ sym (length-events c.self.inside.parts.list.items c.self.inside.forms.items c.self.invariant) ∙ ap length c.self.view_is
