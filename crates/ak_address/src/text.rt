@@ -170,8 +170,17 @@ impl Letters {
     {
         match self {
             Letters::Few(len, bytes) => Ok(Letters::Few(*len, *bytes)),
-            Letters::Many(bytes) => Ok(Letters::Many(Vec::from_slice(alloc, bytes.as_slice())?)),
+            Letters::Many(bytes) => Letters::many(alloc, bytes.as_slice()),
         }
+    }
+
+    // The same for bytes in an allocation. Apart, so that a copy of a few bytes stays small.
+    #[inline(never)]
+    fn many(alloc: Global, bytes: &[u8]) -> Result<Letters, AllocError>
+        ensures bytes { IfOk result (λ letters. bytes_of letters ≡ bytes.now) }
+        ensures within { IfOk result IsWithin }
+    {
+        Ok(Letters::Many(Vec::from_slice(alloc, bytes)?))
     }
 }
 

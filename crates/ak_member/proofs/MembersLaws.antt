@@ -1,5 +1,5 @@
 -- The members of a view, as its list of them and as its table has them.
-use Rattle.std.proofs.Common.{◌≡◌, ℕ, inl, inr, T, List, [], ◌∷◌, Option, Some, None, Contains, refl, sym, ap, ◌∙◌, subst}
+use Rattle.std.proofs.Common.{◌≡◌, ℕ, inl, inr, T, List, [], ◌∷◌, Option, Some, None, slice_get, option_to_list, Contains, refl, sym, ap, ◌∙◌, subst}
 use Rattle.std.proofs.lemmas.Option.{none-some}
 use Rattle.std.specs.FinMap as map
 use Rattle.std.specs.FinMap.Entries.{below_all}
@@ -57,6 +57,17 @@ have_members s who m is = by_case (map.get s who) refl is
     by_case : (o : Option Standing) → map.get s who ≡ o → member_of o ≡ Some m → Contains (members_of s) (who, m)
     by_case None at is = absurd (none-some m is)
     by_case (Some x) at is = let h = index_of_get s who x at in have_pairs (map.entries s) who x m (contains_at (map.entries s) h.0 (who, x) h.1) is
+
+-- whoever stands as a member at a pair is one
+pub member_at_pair : (s : Standings) (pair : ℕ) (m : MemberPair) → m ∷ [] ≡ member_pairs (option_to_list (slice_get (map.entries s) pair)) → member_of (map.get s m.0) ≡ Some m.1
+member_at_pair s pair m is = by_pair (slice_get (map.entries s) pair) refl (pairs_have (option_to_list (slice_get (map.entries s) pair)) m (subst (λ l. Contains l m) is (contains_first m [])))
+  where
+    by_pair : (o : Option (UniqueModel × Standing)) → slice_get (map.entries s) pair ≡ o → (x : Standing) × Contains (option_to_list o) (m.0, x) × (as_member x ≡ Some m.1) → member_of (map.get s m.0) ≡ Some m.1
+    by_pair None at h = absurd (contains_nothing (m.0, h.0) h.1)
+    by_pair (Some e) at h = elim (first_or_rest e (m.0, h.0) [] h.1) [
+      | inl same ↦ ap (λ (k : UniqueModel × Standing). member_of (map.get s k.0)) same ∙ ap member_of (get_at s pair e at) ∙ ap (λ (k : UniqueModel × Standing). as_member k.1) (sym same) ∙ h.2
+      | inr rest ↦ absurd (contains_nothing (m.0, h.0) rest)
+    ]
 
 -- the members are in the order of processes
 below_members : (who : UniqueModel) (es : List (UniqueModel × Standing)) → T (below_all unique_cmp who es) → T (below_all unique_cmp who (member_pairs es))

@@ -1,5 +1,5 @@
 -- Slots whose places go by process: what is found in them, and what a slot more and another standing make of them.
-use Rattle.std.proofs.Common.{◌≡◌, ℕ, zero, suc, ◌+◌, ◌<◌, ◌≤◌, Bool, true, false, cond, T, IsTrue, List, [], ◌∷◌, ◌++◌, map, length, insert, take, drop, get_or, slice_get, Option, Some, None, option_map, Err, refl, sym, ap, ◌∙◌, subst, arith}
+use Rattle.std.proofs.Common.{◌≡◌, ◌≢◌, ℕ, zero, suc, ◌+◌, ◌<◌, ◌≤◌, Bool, true, false, cond, T, IsTrue, List, [], ◌∷◌, ◌++◌, map, length, insert, take, drop, get_or, slice_get, Option, Some, None, option_map, Err, option_to_list, drop_of_length-le, refl, sym, ap, ◌∙◌, subst, arith}
 use Rattle.std.proofs.lemmas.Option.{none-some, same_Some, slice_get-map, slice_get-get_or}
 use Rattle.std.proofs.lemmas.List.{length-map, length-append, get_or_append_left}
 use Rattle.std.proofs.Math.Seq.{get_or-append_seam}
@@ -21,10 +21,11 @@ use Rattle.ak_address.specs.Pairs.{index}
 use Rattle.ak_address.proofs.KeyLaws.{unique_keys}
 use Rattle.ak_address.proofs.OrderLemmas.{unique_total, unique_exact}
 use Rattle.ak_address.proofs.Pairs.{first, second, less, find_below, below_less, below_tied}
-use Rattle.ak_address.proofs.TableLaws.{same_table, same_key, key_itself, pairs_sorted, get-insert, get-insert_here, entries-empty}
+use Rattle.ak_address.proofs.TableLaws.{same_table, same_key, other_key, key_itself, pairs_sorted, get-insert, get-insert_here, entries-empty}
 use Rattle.ak_address.proofs.TableLemmas.{goes_in}
 use Rattle.ak_member.specs.declared.standing.Standing.{Standing}
 use Rattle.ak_member.specs.Standing.{nobody}
+use Rattle.ak_member.proofs.MemberLemmas.{drop_from}
 use Rattle.ak_member.specs.Slots.{Slot, standings_of, no_slot, picked, InOrder}
 
 -- ---- keys
@@ -64,6 +65,23 @@ slot_found slots who k x slot key is = is ∙ ap (λ u. Some (u, x)) (same_as (l
     same_as : (o : Option Standing) → Some k ≡ option_map (λ (x : Standing). who) o → k ≡ who
     same_as None is = absurd (none-some k (sym is))
     same_as (Some x) is = same_Some k who is
+
+-- a walk along the slots: nobody stands past the last, a slot of another process is passed, and that of the process is found
+pub walked_end : (q : UniqueModel) (slots : List Slot) (i : ℕ) → length slots ≤ i → lookup (same_unique q) (drop i slots) ≡ None
+walked_end q slots i past = ap (lookup (same_unique q)) (drop_of_length-le slots past)
+
+pub walked_past : (q : UniqueModel) (slots : List Slot) (i : ℕ) (k : UniqueModel) (x : Standing) → slice_get slots i ≡ Some (k, x) → q ≢ k → lookup (same_unique q) (drop i slots) ≡ lookup (same_unique q) (drop (i + 1) slots)
+walked_past q slots i k x at other =
+    ap (lookup (same_unique q)) (drop_from slots i ∙ ap (λ o. option_to_list o ++ drop (i + 1) slots) at)
+    ∙ ap (λ b. cond b (Some x) (lookup (same_unique q) (drop (i + 1) slots))) (ties q k ∙ other_key q k other)
+
+pub walked_none : (q : UniqueModel) (slots : List Slot) (i : ℕ) → slice_get slots i ≡ None → lookup (same_unique q) (drop i slots) ≡ lookup (same_unique q) (drop (i + 1) slots)
+walked_none q slots i none = ap (lookup (same_unique q)) (drop_from slots i ∙ ap (λ o. option_to_list o ++ drop (i + 1) slots) none)
+
+pub walked_here : (q : UniqueModel) (slots : List Slot) (i : ℕ) (k : UniqueModel) (x : Standing) → slice_get slots i ≡ Some (k, x) → q ≡ k → lookup (same_unique q) (drop i slots) ≡ Some x
+walked_here q slots i k x at same =
+    ap (lookup (same_unique q)) (drop_from slots i ∙ ap (λ o. option_to_list o ++ drop (i + 1) slots) at)
+    ∙ ap (λ b. cond b (Some x) (lookup (same_unique q) (drop (i + 1) slots))) (ties q k ∙ ap (eq_by_cmp unique_cmp q) (sym same) ∙ key_itself q)
 
 -- a pair of which each part is known
 pub pair_found : {Z : Type 0} (o : Option Z) (f : Z → UniqueModel) (g : Z → Standing) (q : UniqueModel) (found : Option Standing)

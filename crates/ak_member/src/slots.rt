@@ -44,6 +44,9 @@ impl Model for Slots {
     ghost invariant = { λ s. KeepsSlots s.slots.entries s.order.items s.by_age.items s.by_age.cap };
 }
 
+// Of so few slots each is looked at sooner than a hash is made.
+const FEW: usize = 8;
+
 impl Slots {
     /// No slot. Takes no memory.
     pub(crate) fn empty(alloc: Global) -> Slots
@@ -128,8 +131,8 @@ impl Slots {
     pub(crate) fn find(&self, who: &Unique) -> Option<(&Unique, &Standing)>
         ensures { option_map (λ pair. (pair.0.now, pair.1.now)) result ≡ option_map {U = UniqueModel × Standing} (λ x. (who.now, x)) (map.get (standings_of self.now.entries) who.now) }
     {
-        if self.slots.len() == 0 {
-            return None;
+        if self.slots.len() <= FEW {
+            return found_along(&self.slots, who);
         }
         self.slots.get_key_value(who)
     }
@@ -249,6 +252,23 @@ fn process_of(slots: &IndexMap<Unique, Standing>, slot: usize) -> Option<&Unique
         Some((who, _)) => Some(who),
         None => None,
     }
+}
+
+// The process and what is known of it, as its hash finds them, by a look at each slot.
+fn found_along<'a>(
+    slots: &'a IndexMap<Unique, Standing>,
+    who: &Unique,
+) -> Option<(&'a Unique, &'a Standing)>
+    ensures { option_map (λ pair. (pair.0.now, pair.1.now)) result ≡ option_map {U = UniqueModel × Standing} (λ x. (who.now, x)) (map.get (standings_of slots.now.entries) who.now) }
+{
+    'slots: for slot in 0..slots.len() {
+        if let Some((there, standing)) = slots.get_index(slot) {
+            if there.is(who) {
+                return Some((there, standing));
+            }
+        }
+    }
+    None
 }
 
 // An equal map, with room for as many.
