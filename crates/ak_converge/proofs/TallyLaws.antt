@@ -114,6 +114,14 @@ none_block v none = sym (ap length (all_out (members_of v.standings)))
     all_out [] = refl
     all_out (m ∷ ms) = ap (λ b. cond (b && not (is_passed_over m.1.0)) (m ∷ filter (blocks (unreachable_members v)) ms) (filter (blocks (unreachable_members v)) ms)) (none_unreachable v (sym none) m.0) ∙ all_out ms
 
+-- the member of a pair blocks where it is unreachable, if it is not passed over
+pub one_blocks : (lost : UniqueSet) (pairs : List (UniqueModel × Standing)) (m : UniqueModel × (Status × ℕ)) (b : Bool) → m ∷ [] ≡ member_pairs pairs → false ≡ is_passed_over m.1.0 → b ≡ has lost m.0 → one_if b ≡ length (filter (blocks lost) (member_pairs pairs))
+one_blocks lost pairs m b at passed is = counted b ∙ (λ i. length (cond (is i && not (passed i)) (m ∷ []) [])) ∙ ap (λ l. length (filter (blocks lost) l)) at
+  where
+    counted : (b : Bool) → one_if b ≡ length (cond (b && not false) (m ∷ []) [])
+    counted true = refl
+    counted false = refl
+
 -- ---- members that pass a test, counted along the pairs
 length_both : {X : Type 0} (xs ys : List X) → length (xs ++ ys) ≡ length xs + length ys
 length_both [] ys = omega arith

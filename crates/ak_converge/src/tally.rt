@@ -14,7 +14,7 @@ use crate::converge::is_passed_over;
 use crate::uses::Uses;
 use ak_address::{Address, Uniques};
 use ak_member::Members;
-use ak_reach::{Rows, is_unreachable};
+use ak_reach::{Rows, is_observed};
 use std::alloc::{AllocError, Global};
 use std::marker::Model;
 
@@ -193,7 +193,7 @@ fn blocks_at(members: &Members, rows: &Rows, pair: usize) -> bool
 {
     match members.member_at_pair(pair) {
         Some(member) => {
-            !is_passed_over(member.status) && is_unreachable(members, rows, member.unique)
+            !is_passed_over(member.status) && is_observed(members, rows, member.unique)
         }
         None => false,
     }

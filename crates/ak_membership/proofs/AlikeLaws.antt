@@ -1,5 +1,6 @@
 -- Two views that have the same processes at the same pairs, and show each alike.
-use Rattle.std.proofs.Common.{◌≡◌, ℕ, true, false, not, ◌||◌, [], ◌∷◌, option_map, slice_get, Some, option_to_list, refl, sym, ap, ◌∙◌}
+use Rattle.std.proofs.Common.{◌≡◌, ℕ, Bool, true, false, not, ◌||◌, [], ◌∷◌, IsTrue, Option, None, is_some, option_map, slice_get, Some, option_to_list, refl, sym, ap, ◌∙◌}
+use Rattle.std.proofs.lemmas.Option.{none-some, same_Some}
 use Rattle.std.specs.List.{list_any}
 use Rattle.std.specs.FinMap as map
 use Rattle.ak_address.specs.Unique.{UniqueModel}
@@ -8,13 +9,31 @@ use Rattle.ak_address.proofs.TableLaws.{get_at}
 use Rattle.ak_member.specs.declared.status.Status.{Status}
 use Rattle.ak_member.specs.declared.standing.Standing.{Standing}
 use Rattle.ak_member.specs.declared.standing.Standing.TheVariants.{Member, Buried}
-use Rattle.ak_member.specs.Standing.{member_of, member_pairs}
-use Rattle.ak_member.specs.View.{View}
+use Rattle.ak_member.specs.Standing.{Standings, member_of, is_member, member_pairs}
+use Rattle.ak_member.specs.View.{View, RowTable}
 use Rattle.ak_reach.specs.Unreachable.{unreachable_members}
 use Rattle.ak_membership.specs.Sight.{sight, shown, is_same_sight, is_otherwise, is_otherwise_at}
 use Rattle.ak_membership.proofs.SightLaws.{sight_itself}
 use Rattle.ak_membership.proofs.MovedLaws.{same_sight}
 
+-- ---- what is known of members alone
+-- a member is observed or not as it is unreachable or not
+pub observed_in : (v : View) (standings : Standings) (rows : RowTable) (who : UniqueModel) (b : Bool) → standings ≡ v.standings → rows ≡ v.rows
+    → (IsTrue (is_member standings who) → b ≡ has (unreachable_members (record { standings = standings; rows = rows })) who) → IsTrue (is_member v.standings who) → b ≡ has (unreachable_members v) who
+observed_in v standings rows who b same same_rows is member = is (ap (λ s. is_member s who) same ∙ member) ∙ (λ i. has (unreachable_members (record { standings = same i; rows = same_rows i })) who)
+
+-- whoever is found is a member, and what a view shows of it
+found_member : (who k : UniqueModel) (m : Status × ℕ) (o : Option (Status × ℕ)) → Some (k, m) ≡ option_map {U = UniqueModel × (Status × ℕ)} (λ x. (who, x)) o → o ≡ Some m
+found_member who k m None is = absurd (none-some (k, m) (sym is))
+found_member who k m (Some x) is = ap (λ (p : UniqueModel × (Status × ℕ)). Some p.1) (sym (same_Some (k, m) (who, x) is))
+
+pub sight_found : (v : View) (who k : UniqueModel) (m : Status × ℕ) (lost : Bool) → Some (k, m) ≡ option_map {U = UniqueModel × (Status × ℕ)} (λ x. (who, x)) (member_of (map.get v.standings who)) → (IsTrue (is_member v.standings who) → lost ≡ has (unreachable_members v) who)
+    → Some (m.0, lost) ≡ sight v who
+sight_found v who k m lost is reached =
+    let found = found_member who k m (member_of (map.get v.standings who)) is in
+    ap (λ b. Some (m.0, b)) (reached (ap is_some found)) ∙ ap (option_map (λ (x : Status × ℕ). (x.0, has (unreachable_members v) who))) (sym found)
+
+-- ---- at pairs
 -- what a view shows of the process at a pair
 sight_shown : (v : View) (pair : ℕ) (who : UniqueModel) (standing : Standing) → slice_get (map.entries v.standings) pair ≡ Some (who, standing) → sight v who ≡ shown v who standing
 sight_shown v pair who standing is = ap (λ o. option_map (λ (m : Status × ℕ). (m.0, has (unreachable_members v) who)) (member_of o)) (get_at v.standings pair (who, standing) is)

@@ -1,12 +1,14 @@
-ghost use Rattle.std.specs.Prelude.{◌≡◌, ◌||◌, IsTrue, false};
+ghost use Rattle.std.specs.Prelude.{◌≡◌, ◌||◌, IsTrue, Some, false};
+ghost use Rattle.std.specs.FinMap as map;
 ghost use Rattle.ak_address.specs.Uniques.{has};
+ghost use Rattle.ak_member.specs.Standing.{is_member};
 ghost use Rattle.ak_reach.specs.Unreachable.{unreachable_members};
 ghost use Rattle.ak_membership.specs.Sight as sights;
 
 use ak_address::Unique;
 use ak_gossip::Gossip;
 use ak_member::{Standing, Status};
-use ak_reach::is_unreachable;
+use ak_reach::is_observed;
 
 // What a view shows of a process: its status, and whether it is unreachable; none of one that is no member.
 fn sight(gossip: &Gossip, who: &Unique) -> Option<(Status, bool)>
@@ -14,7 +16,7 @@ fn sight(gossip: &Gossip, who: &Unique) -> Option<(Status, bool)>
 {
     match gossip.members().get(who) {
         Some(member) => {
-            let unreachable = is_unreachable(gossip.members(), gossip.rows(), who);
+            let unreachable = is_observed(gossip.members(), gossip.rows(), who);
             Some((member.status, unreachable))
         }
         None => None,
@@ -84,7 +86,7 @@ fn is_shown_alike(
     standing: Standing,
     other_standing: Standing,
 ) -> bool
-    ensures { result ≡ sights.is_same_sight (sights.shown one.now.view who.now standing) (sights.shown other.now.view who.now other_standing) }
+    ensures { map.get one.now.view.standings who.now ≡ Some standing → map.get other.now.view.standings who.now ≡ Some other_standing → result ≡ sights.is_same_sight (sights.shown one.now.view who.now standing) (sights.shown other.now.view who.now other_standing) }
 {
     match standing {
         Standing::Member(status, _) => match other_standing {
@@ -103,14 +105,12 @@ fn is_shown_alike(
     }
 }
 
+// Of a member of both.
 fn is_reached_alike(one: &Gossip, other: &Gossip, who: &Unique) -> bool
-    ensures { result ≡ sights.is_same_reach (has (unreachable_members one.now.view) who.now) (has (unreachable_members other.now.view) who.now) }
+    ensures { IsTrue (is_member one.now.view.standings who.now) → IsTrue (is_member other.now.view.standings who.now) → result ≡ sights.is_same_reach (has (unreachable_members one.now.view) who.now) (has (unreachable_members other.now.view) who.now) }
 {
-    let unreachable = is_unreachable(one.members(), one.rows(), who);
-    is_same_reach(
-        unreachable,
-        is_unreachable(other.members(), other.rows(), who),
-    )
+    let unreachable = is_observed(one.members(), one.rows(), who);
+    is_same_reach(unreachable, is_observed(other.members(), other.rows(), who))
 }
 
 // Both views have the same process at a pair, and show it alike.

@@ -1,5 +1,5 @@
 -- Who is unreachable, along the rows and in words.
-use Rattle.std.proofs.Common.{◌≡◌, ◌≢◌, ℕ, ◌+◌, Bool, true, false, ◌||◌, ◌&&◌, IsTrue, ◌↔◌, ◌≤◌, List, drop, slice_get, Option, Some, None, is_some, option_map, option_to_list, arith, refl, sym, ap, ◌∙◌, true≢false}
+use Rattle.std.proofs.Common.{◌≡◌, ◌≢◌, ℕ, ◌+◌, Bool, true, false, ◌||◌, ◌&&◌, IsTrue, ◌↔◌, ◌≤◌, List, length, drop, slice_get, Option, Some, None, is_some, option_map, option_to_list, arith, refl, sym, ap, ◌∙◌, true≢false}
 use Rattle.std.proofs.Math.ListN.{drop_of_length-le}
 use Rattle.std.proofs.lemmas.Bool.{and_parts, and_from, and_right}
 use Rattle.std.proofs.lemmas.List.{length-map}
@@ -30,6 +30,13 @@ module _ {X : Type 0} (p : X → Bool) where
   -- a test of the element at an index, and of those from the next one on
   pub any_from_index : (xs : List X) (i : ℕ) → list_any p (drop i xs) ≡ (list_any p (option_to_list (slice_get xs i)) || list_any p (drop (i + 1) xs))
   any_from_index xs i = ap (list_any p) (drop_from xs i) ∙ list_any-append p (option_to_list (slice_get xs i)) (drop (i + 1) xs)
+
+  -- where those from an index on say what all say: what one there says, and what is said at the end
+  pub said_here : (xs : List X) (i : ℕ) → true ≡ list_any p (option_to_list (slice_get xs i)) → list_any p (drop i xs) ≡ list_any p xs → true ≡ list_any p xs
+  said_here xs i here before = ap (λ b. b || list_any p (drop (i + 1) xs)) here ∙ sym (any_from_index xs i) ∙ before
+
+  pub said_nowhere : (xs : List X) (i : ℕ) → length xs ≤ i → list_any p (drop i xs) ≡ list_any p xs → false ≡ list_any p xs
+  said_nowhere xs i past before = sym (ap (list_any p) (drop_of_length-le xs past)) ∙ before
 
 -- ---- who has it in its row
 same_answers : (a b : Bool) → (a ≡ true → b ≡ true) → (b ≡ true → a ≡ true) → a ≡ b
@@ -105,19 +112,23 @@ same_there f g (Some x) (Some y) is = refl
 pub answer_means : (v : View) (who : UniqueModel) (b : Bool) → b ≡ has (unreachable_members v) who → IsTrue b ↔ IsUnreachable v who
 answer_means v who b is = (λ t. (unreachable_means v who).0 (sym is ∙ t), λ u. is ∙ (unreachable_means v who).1 u)
 
-pub answer_if_observed : (v : View) (who : UniqueModel) (b : Bool) → true ≡ list_any (row_shows v.standings who) (map.entries v.rows) → b ≡ is_member v.standings who → b ≡ has (unreachable_members v) who
-answer_if_observed v who b observed is = is ∙ sym (has-unreachable v who ∙ ap (λ t. is_member v.standings who && t) (sym (observed ∙ shown_reported v.standings v.rows who)) ∙ and_true (is_member v.standings who))
+pub answer_if_observed : (v : View) (who : UniqueModel) (b : Bool) → true ≡ reported v.rows (members_with observes v.standings) who → b ≡ is_member v.standings who → b ≡ has (unreachable_members v) who
+answer_if_observed v who b observed is = is ∙ sym (has-unreachable v who ∙ ap (λ t. is_member v.standings who && t) (sym observed) ∙ and_true (is_member v.standings who))
   where
     and_true : (b : Bool) → (b && true) ≡ b
     and_true true = refl
     and_true false = refl
 
-pub answer_if_not : (v : View) (who : UniqueModel) → false ≡ list_any (row_shows v.standings who) (map.entries v.rows) → false ≡ has (unreachable_members v) who
-answer_if_not v who observed = sym (has-unreachable v who ∙ ap (λ t. is_member v.standings who && t) (sym (observed ∙ shown_reported v.standings v.rows who)) ∙ and_false (is_member v.standings who))
+pub answer_if_not : (v : View) (who : UniqueModel) → false ≡ reported v.rows (members_with observes v.standings) who → false ≡ has (unreachable_members v) who
+answer_if_not v who observed = sym (has-unreachable v who ∙ ap (λ t. is_member v.standings who && t) (sym observed) ∙ and_false (is_member v.standings who))
   where
     and_false : (b : Bool) → (b && false) ≡ false
     and_false true = refl
     and_false false = refl
+
+-- a member is unreachable where a row shows it
+pub unreachable_if_shown : (v : View) (who : UniqueModel) (b : Bool) → b ≡ list_any (row_shows v.standings who) (map.entries v.rows) → IsTrue (is_member v.standings who) → b ≡ has (unreachable_members v) who
+unreachable_if_shown v who b is member = is ∙ shown_reported v.standings v.rows who ∙ sym (has-unreachable v who ∙ ap (λ t. t && reported v.rows (members_with observes v.standings) who) member)
 
 -- ---- the unreachable members as a set, along the pairs
 abbrev pub known_ones : Standings → List UniqueModel

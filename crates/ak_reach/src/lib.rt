@@ -9,4 +9,4 @@ mod unreachable;
 pub use laws::rows_are_merged;
 pub use row::Row;
 pub use rows::Rows;
-pub use unreachable::{is_unreachable, unreachable_members};
+pub use unreachable::{is_observed, is_unreachable, unreachable_members};

@@ -2,7 +2,8 @@ ghost use Rattle.std.specs.Prelude.{◌≡◌, ◌≢◌, ◌↔◌, IsTrue, IfO
 ghost use Rattle.std.specs.List.{list_any};
 ghost use Rattle.std.specs.FinMap as map;
 ghost use Rattle.ak_address.specs.Uniques.{has, no_one};
-ghost use Rattle.ak_member.specs.Standing.{has_status};
+ghost use Rattle.ak_member.specs.Standing.{is_member, has_status, members_with};
+ghost use Rattle.ak_reach.specs.Reach.{reported};
 ghost use Rattle.ak_reach.specs.Unreachable.{observes, unreachable_members, IsUnreachable};
 ghost use Rattle.ak_reach.specs.Walk.{row_shows, with_reported};
 
@@ -20,6 +21,20 @@ pub fn is_unreachable(members: &Members, rows: &Rows, who: &Unique) -> bool
 {
     if is_observed(members, rows, who) {
         return members.get(who).is_some();
+    }
+    false
+}
+
+/// Whether a member that is not Down has the process in its row: of a member, whether it is unreachable, with no look
+/// whether it is a member. Takes no memory.
+pub fn is_observed(members: &Members, rows: &Rows, who: &Unique) -> bool
+    ensures value { result ≡ reported rows.now (members_with observes members.now) who.now }
+    ensures member { IsTrue (is_member members.now who.now) → result ≡ has (unreachable_members (record { standings = members.now; rows = rows.now })) who.now }
+{
+    'rows: for index in 0..rows.len() {
+        if shows_at(members, rows, index, who) {
+            return true;
+        }
     }
     false
 }
@@ -60,18 +75,6 @@ fn add_unreachable(
         }
         None => Ok(()),
     }
-}
-
-// A member that is not Down has the process in its row.
-fn is_observed(members: &Members, rows: &Rows, who: &Unique) -> bool
-    ensures { result ≡ list_any (row_shows members.now who.now) (map.entries rows.now) }
-{
-    'rows: for index in 0..rows.len() {
-        if shows_at(members, rows, index, who) {
-            return true;
-        }
-    }
-    false
 }
 
 // There is a row at the index, of a member that is not Down, and the process is in it.

@@ -1,5 +1,5 @@
 -- Candidates along the pairs of a table, and the one of a list that a word chooses.
-use Rattle.std.proofs.Common.{◌≡◌, ℕ, ◌<◌, ◌%◌, not, List, [], ◌∷◌, map, length, Option, Some, None, is_some, inl, inr, refl, sym, ap, ◌∙◌, arith, true≢false}
+use Rattle.std.proofs.Common.{◌≡◌, ℕ, ◌<◌, ◌%◌, Bool, true, false, cond, not, ◌&&◌, List, [], ◌∷◌, map, length, Option, Some, None, is_some, inl, inr, refl, sym, ap, ◌∙◌, arith, true≢false}
 use Rattle.std.proofs.Math.Nat.{mod-lt}
 use Rattle.std.proofs.lemmas.Option.{slice_get_cases}
 use Rattle.std.specs.FinMap as finmap
@@ -7,6 +7,7 @@ use Rattle.std.specs.List.{filter}
 use Rattle.ak_address.specs.Unique.{UniqueModel}
 use Rattle.ak_address.specs.Uniques.{UniqueSet, has}
 use Rattle.ak_member.specs.declared.status.Status.{Status}
+use Rattle.ak_member.specs.declared.standing.Standing.{Standing}
 use Rattle.ak_member.specs.Standing.{member_pairs}
 use Rattle.ak_member.specs.View.{View}
 use Rattle.ak_member.proofs.MemberLemmas.{KeepsPairs, keeps_members, keeps_mapped, keeps_filtered}
@@ -18,6 +19,18 @@ keeps_candidates v me seen =
     keeps_filtered (others_among v me)
     (keeps_filtered (λ pairs. map (λ (pair : UniqueModel × (Status × ℕ)). pair.0) (member_pairs pairs)) (keeps_mapped member_pairs keeps_members (λ (pair : UniqueModel × (Status × ℕ)). pair.0)) (is_reachable_other v me))
     (λ who. not (is_passed_over seen who))
+
+-- the candidate of a pair at which a member stands
+pub candidate_is : (v : View) (me : UniqueModel) (seen : Option UniqueSet) (pairs : List (UniqueModel × Standing)) (m : UniqueModel × (Status × ℕ)) (reached passed : Bool) → m ∷ [] ≡ member_pairs pairs
+    → reached ≡ is_reachable_other v me m.0 → passed ≡ is_passed_over seen m.0 → cond (reached && not passed) (m.0 ∷ []) [] ≡ candidates_among v me seen pairs
+candidate_is v me seen pairs m reached passed is reach pass =
+    by_case reached
+    ∙ ap (λ b. filter (λ who. not (is_passed_over seen who)) (cond b (m.0 ∷ []) [])) reach
+    ∙ ap (λ l. filter (λ who. not (is_passed_over seen who)) (filter (is_reachable_other v me) (map (λ (pair : UniqueModel × (Status × ℕ)). pair.0) l))) is
+  where
+    by_case : (b : Bool) → cond (b && not passed) (m.0 ∷ []) [] ≡ filter (λ who. not (is_passed_over seen who)) (cond b (m.0 ∷ []) [])
+    by_case true = ap (λ p. cond (not p) (m.0 ∷ []) []) pass
+    by_case false = refl
 
 -- ---- the chosen one
 

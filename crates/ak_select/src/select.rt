@@ -1,11 +1,12 @@
-ghost use Rattle.std.specs.Prelude.{◌≡◌, length, slice_get, option_copied, option_to_list};
+ghost use Rattle.std.specs.Prelude.{◌≡◌, IsTrue, length, slice_get, option_copied, option_to_list};
 ghost use Rattle.std.specs.FinMap as map;
+ghost use Rattle.ak_member.specs.Standing.{is_member};
 ghost use Rattle.ak_select.specs.Select.{is_reachable_other, chosen, peer};
 ghost use Rattle.ak_select.specs.Walk.{is_passed_over, candidates_among};
 
 use ak_address::{Unique, Uniques};
 use ak_member::Members;
-use ak_reach::{Rows, is_unreachable};
+use ak_reach::{Rows, is_observed};
 
 /// To whom the node gossips: of the other reachable members those that are not in the seen set, or all of them where each
 /// is, are the candidates, and the answer is the one at the index that is the rest of the word by their number, in the
@@ -100,10 +101,11 @@ fn candidate_at_pair<'a>(
     }
 }
 
+// A member is another one, and reachable.
 fn is_reachable_other(members: &Members, rows: &Rows, me: &Unique, who: &Unique) -> bool
-    ensures { result ≡ is_reachable_other (record { standings = members.now; rows = rows.now }) me.now who.now }
+    ensures { IsTrue (is_member members.now who.now) → result ≡ is_reachable_other (record { standings = members.now; rows = rows.now }) me.now who.now }
 {
-    !who.is(me) && !is_unreachable(members, rows, who)
+    !who.is(me) && !is_observed(members, rows, who)
 }
 
 fn is_passed_over(seen: Option<&Uniques>, who: &Unique) -> bool
