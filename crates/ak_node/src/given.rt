@@ -1,6 +1,6 @@
 //! What a node is given, and what that makes of its state.
 
-ghost use Rattle.std.specs.Prelude.{◌≡◌, ◌<◌, ◌≤◌, ◌^◌, ◌+◌, [], true, false, IfOk, OnErr, IsTrue};
+ghost use Rattle.std.specs.Prelude.{◌≡◌, ◌<◌, ◌≤◌, ◌^◌, ◌+◌, [], false, IfOk, OnErr, IsTrue};
 ghost use Rattle.ak_membership.specs.MembershipContracts.{IsWatching};
 ghost use Rattle.ak_node.specs.Node as rules;
 ghost use Rattle.ak_node.specs.Sends.{ComesValid, IsSaid};
@@ -193,6 +193,7 @@ impl Given for Tick {
 
 // A process that is no member asks its target again, where it has one. What it sent before is sent again where that went to the
 // same address, so that it is made once and not at each tick.
+#[inline(always)]
 fn asks_again(
     alloc: Global,
     state: &mut State,
@@ -222,8 +223,9 @@ fn asks_again(
     one_in(alloc, spare, Action::Send(sent))
 }
 
-// What an event makes of a node's state, whose spare room a node that is no member takes. Where its rule leaves a node that is no member as it was, nothing is due after it, since
-// the step before was concluded: so such a node asks again, and refuses whoever asks it, with no closing.
+// What an event makes of a node's state. Where its rule leaves a node that is no member as it was, nothing is due after
+// it, since the step before was concluded: so such a node asks again, and refuses whoever asks it, with no closing, and
+// its one action takes the spare room.
 pub(crate) fn happens<E: Given>(
     alloc: Global,
     event: &E,

@@ -1,10 +1,10 @@
-ghost use Rattle.std.specs.Prelude.{◌≡◌, ◌⊎◌, ◌<◌, ◌≤◌, ◌^◌, ◌+◌, ◌++◌, ◌∷◌, [], not, true, false, IfOk, OnOk, OnErr, IsTrue, option_copied, option_map};
+ghost use Rattle.std.specs.Prelude.{◌≡◌, ◌⊎◌, ◌<◌, ◌≤◌, ◌^◌, ◌+◌, ◌++◌, [], not, true, false, IfOk, OnOk, OnErr, IsTrue, option_copied, option_map};
 ghost use Rattle.ak_membership.specs.MembershipContracts.{IsWatching};
 ghost use Rattle.ak_membership.specs.Tick as rules_of_ticks;
 ghost use Rattle.std.specs.FinMap as finmap;
 ghost use Rattle.ak_region.specs.Region as regions;
 ghost use Rattle.ak_node.specs.Node as rules;
-ghost use Rattle.ak_node.specs.Sends.{AreValid, ComesValid, IsProcess, IsSaid};
+ghost use Rattle.ak_node.specs.Sends.{AreValid, ComesValid, IsProcess};
 ghost use Rattle.ak_node.specs.NodeContracts.{Does, IsSameProcess, IsLeftOver, IsSilent, IsConcluded, IsRequest, ServesWhileItRuns, is_idle, is_asking, may_ask};
 
 use crate::actions::{one, push_due, refuse, tell, told};
@@ -588,6 +588,7 @@ impl Node {
     }
 
     // The event is taken, and stays with whoever gave it, who says whether it is a packet for another process.
+    #[inline(always)]
     fn take<E: Given>(
         &mut self,
         alloc: Global,
@@ -633,6 +634,7 @@ impl Node {
                 self.state.runs = runs;
                 self.state.steps = steps;
                 self.request = None;
+                self.spare = Actions::empty(alloc);
                 self.failed = Some(error);
                 Err(error)
             }
@@ -677,8 +679,10 @@ impl Node {
     pub fn take_back(&mut self, mut actions: Actions)
         ensures { self.new ≡ self.old }
     {
-        actions.clear();
-        self.spare = actions;
+        if actions.len() > 0 {
+            actions.clear();
+            self.spare = actions;
+        }
     }
 
     /// The process that it is.

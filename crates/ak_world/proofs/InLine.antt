@@ -32,7 +32,7 @@ use Rattle.ak_world.proofs.Processes.{IsThere}
 use Rattle.ak_world.proofs.RaisedFor.{Raised}
 use Rattle.ak_world.proofs.Rises.{counted_named, named_more}
 
-tied_is : (a b : AddressModel) → is_eq (address_cmp a b) ≡ true → a ≡ b
+pub tied_is : (a b : AddressModel) → is_eq (address_cmp a b) ≡ true → a ≡ b
 tied_is a b is = by_case (address_cmp a b) refl is
   where
     by_case : (o : Ordering) → address_cmp a b ≡ o → is_eq o ≡ true → a ≡ b

@@ -7,6 +7,7 @@ use Rattle.ak_wire.specs.Wire.{put}
 use Rattle.ak_world.specs.declared.kept.Form.{Form}
 use Rattle.ak_world.specs.declared.kept.Form.TheVariants.{Start, Found, Join, Tick, Deliver, Leave, Down, Offer, Stop}
 use Rattle.ak_world.specs.declared.kept.Part.{Part}
+use Rattle.ak_world.proofs.StoredLemmas.{holds_more, put-append}
 use Rattle.ak_world.specs.Kept.{process_in, target_in, offered_in, of_both, event_of, events_of, AreKept, Grows}
 
 -- ---- what was named stays at its place
@@ -70,17 +71,12 @@ pub kept_grown : (old new : List Part) (forms : List Form) → Grows old new →
 kept_grown old new forms grows kept = subst (λ (parts : List Part). AreKept parts forms) (sym grows.1) (kept_stay old grows.0 forms kept)
 
 -- ---- one more event
-put-append : (o : Option Event) (xs ys : List Event) → put o (xs ++ ys) ≡ put o xs ++ ys
-put-append None xs ys = refl
-put-append (Some x) xs ys = refl
-
 pub events_pushed : (parts : List Part) (forms : List Form) (form : Form) (e : Event) → event_of parts form ≡ Some e → events_of parts (forms ++ form ∷ []) ≡ events_of parts forms ++ e ∷ []
 events_pushed parts [] form e is = ap (λ (o : Option Event). put o []) is
 events_pushed parts (f ∷ fs) form e is = ap (put (event_of parts f)) (events_pushed parts fs form e is) ∙ put-append (event_of parts f) (events_of parts fs) (e ∷ [])
 
 pub kept_pushed : (parts : List Part) (forms : List Form) (form : Form) (e : Event) → event_of parts form ≡ Some e → AreKept parts forms → AreKept parts (forms ++ form ∷ [])
-kept_pushed parts [] form e is kept = ((e, is), tt)
-kept_pushed parts (f ∷ fs) form e is kept = (kept.0, kept_pushed parts fs form e is kept.1)
+kept_pushed parts forms form e is kept = holds_more (λ (f : Form). (e : Event) × (event_of parts f ≡ Some e)) forms form kept (e, is)
 
 pub length-events : (parts : List Part) (forms : List Form) → AreKept parts forms → length (events_of parts forms) ≡ length forms
 length-events parts [] kept = refl

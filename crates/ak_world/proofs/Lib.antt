@@ -38,6 +38,7 @@ pub mod RaisedFor
 pub mod RaisedRuns
 pub mod RememberedLemmas
 pub mod Rises
+pub mod SeekLemmas
 pub mod SeenHeld
 pub mod SettledRuns
 pub mod ShownLine

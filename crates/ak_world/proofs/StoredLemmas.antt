@@ -41,7 +41,7 @@ module _ {X : Type 0} (P : X → Type 0) where
   holds_at (y ∷ ys) zero x all there = subst P (same_Some y x there) all.0
   holds_at (y ∷ ys) (suc i) x all there = holds_at ys i x all.1 there
 
-  holds_more : (xs : List X) (x : X) → AllByRecursion P xs → P x → AllByRecursion P (xs ++ x ∷ [])
+  pub holds_more : (xs : List X) (x : X) → AllByRecursion P xs → P x → AllByRecursion P (xs ++ x ∷ [])
   holds_more [] x all one = (one, tt)
   holds_more (y ∷ ys) x all one = (all.0, holds_more ys x all.1 one)
 
@@ -64,7 +64,7 @@ below [] i x at = absurd (not_None x (sym at))
 below (y ∷ ys) zero x at = omega arith
 below (y ∷ ys) (suc i) x at = let rest = below ys i x at in omega (arith, rest)
 
-put-append : {X : Type 0} (o : Option X) (xs ys : List X) → put o (xs ++ ys) ≡ put o xs ++ ys
+pub put-append : {X : Type 0} (o : Option X) (xs ys : List X) → put o (xs ++ ys) ≡ put o xs ++ ys
 put-append None xs ys = refl
 put-append (Some x) xs ys = refl
 

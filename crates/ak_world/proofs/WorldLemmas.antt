@@ -34,7 +34,7 @@ use Rattle.ak_wire.specs.Wire.{sent, effects_of, envelope_of, put}
 use Rattle.ak_wire.proofs.Sending.{sent-append}
 use Rattle.ak_world.proofs.IndexLemmas.{set_at, push_at}
 use Rattle.ak_world.proofs.WhatHappened.{begins, steps, nobody, IsAnswer, happened}
-use Rattle.ak_world.specs.WorldContracts.{states, IsReady, Went, Keeps, IsAccepted, IsNoMemory, Scenes}
+use Rattle.ak_world.specs.WorldContracts.{states, Went, Keeps, IsAccepted, IsNoMemory, Scenes}
 
 -- ---- what actions send and record, by parts
 -- one more action
@@ -196,14 +196,9 @@ run_young k settings w (e ∷ events) young =
 empty_young : IsYoung 0 empty_world
 empty_young = record { few = omega arith; steps = λ index n is. absurd (cc) }
 
--- the world of fewer than 2 ^ 62 events is ready for one more
-pub ready_run : (settings : SettingsModel) (events : List Event) → length events < 2 ^ 62 → IsReady (run settings events)
-ready_run settings events few =
-    let young = run_young 0 settings empty_world events empty_young in
-    record {
-      few_nodes = young.few;
-      few_steps = λ index n is. let below : n.steps ≤ 0 + length events = young.steps index n is in omega arith;
-    }
+-- each node was given no more events than there were
+pub few_steps : (settings : SettingsModel) (events : List Event) → length events < 2 ^ 62 → (index : ℕ) (n : State) → slice_get (run settings events).nodes index ≡ Some n → n.steps < 2 ^ 62
+few_steps settings events few index n is = let below : n.steps ≤ 0 + length events = (run_young 0 settings empty_world events empty_young).steps index n is in omega arith
 
 -- however many events there were, few nodes were started
 pub few_run : (settings : SettingsModel) (events : List Event) → length (run settings events).nodes ≤ 64

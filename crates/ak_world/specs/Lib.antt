@@ -10,6 +10,7 @@ pub mod MarginMark
 pub mod Noting
 pub mod Remembered
 pub mod RunLine
+pub mod Seek
 pub mod SettledLine
 pub mod Singletons
 pub mod StepText

@@ -14,6 +14,7 @@ use Rattle.ak_node.specs.declared.node.State.{State}
 use Rattle.ak_node.specs.declared.node.NodeEvent.{NodeEvent}
 use Rattle.ak_node.specs.NodeContracts.{NodeModel}
 use Rattle.ak_world.specs.World.{WorldState, Done, node_of, gives, acts, happens, recorded, empty_world, run}
+use Rattle.ak_world.specs.InRun.{StartedOnce, RunAlone}
 use Rattle.ak_world.specs.Margin.{IsMargin}
 use Rattle.ak_world.specs.Double.{Doubled, IsFirstDouble}
 use Rattle.ak_world.specs.declared.double.Double.{Double}
@@ -88,9 +89,11 @@ abbrev pub Acts : UniqueModel → WorldState → Result ℕ Reason → Type 0
 Acts who w (Ok index) = (index < length w.nodes) × ((e : NodeEvent) → acts e (node_of who w) w ≡ gives e index (slice_get w.nodes index) w)
 Acts who w (Err why) = (e : NodeEvent) → acts e (node_of who w) w ≡ Err why
 
--- few nodes were started, and each was given few events
+-- few nodes were started, each one once, and each was given few events; and at one address at most one runs
 pub record IsReady (w : WorldState) : Type 0 where
   pub few_nodes : length w.nodes ≤ 64
+  pub once : StartedOnce w
+  pub alone : RunAlone w
   pub few_steps : (index : ℕ) (n : State) → slice_get w.nodes index ≡ Some n → n.steps < 2 ^ 62
 
 -- An event was accepted: the world is what the event makes of it, and keeps the event.

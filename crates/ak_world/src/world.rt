@@ -32,7 +32,7 @@ use crate::kept::Accepted;
 use crate::margin::{Margin, first_end};
 use crate::marks::{Marks, keep_step};
 use crate::packets::Packets;
-use crate::seek::{is_in_use, node_of, receiver_of};
+use crate::seek::{Places, is_in_use, node_near, node_of, receiver_near};
 use ak_address::{Address, Unique};
 use ak_field::EntityId;
 use ak_history::History;
@@ -97,6 +97,7 @@ const MOST_PACKETS: usize = 200_000;
 pub(crate) struct Scene {
     settings: Settings,
     pub(crate) nodes: Vec<Node>,
+    places: Places,
     packets: Packets,
     history: History,
     founded: bool,
@@ -138,6 +139,7 @@ impl Scene {
         let me = who.copy(alloc)?;
         let node = Node::start(alloc, me, &self.settings)?;
         self.nodes.push(node)?;
+        self.places.note(&who.address, index);
         Ok(Step {
             node: number_of(index),
             first_packet: self.next_packet(),
@@ -275,7 +277,8 @@ impl Scene {
             return Err(Refused::Invalid(Reason::TooManyPackets));
         }
         let packet = packet.share()?;
-        let Some(index) = receiver_of(&self.nodes, packet.envelope()) else {
+        let near = self.places.near(&packet.envelope().to);
+        let Some(index) = receiver_near(&self.nodes, near, packet.envelope()) else {
             return Ok(Step {
                 node: None,
                 first_packet: self.next_packet(),
@@ -295,10 +298,13 @@ impl Scene {
     }
 
     // Which node acts, or why none does.
+    #[inline(always)]
     fn actor(&self, who: &Unique) -> Result<usize, Reason>
+        requires { IsReady (state_of self.now) }
         ensures { Acts who.now (state_of self.now) result }
     {
-        let Some(index) = node_of(&self.nodes, who) else {
+        let near = self.places.near(&who.address);
+        let Some(index) = node_near(&self.nodes, near, who) else {
             return Err(Reason::UnknownNode);
         };
         if self.nodes[index].stopped() {
@@ -567,6 +573,7 @@ impl World {
         let scene = Scene {
             settings,
             nodes: Vec::new(alloc),
+            places: Places::none(),
             packets: Packets::none(alloc),
             history: History::empty(alloc),
             founded: false,

@@ -20,7 +20,8 @@ use Rattle.ak_world.proofs.DoubleMarks.{went_double}
 use Rattle.ak_world.proofs.DoubleRuns.{no_double-of_run}
 use Rattle.ak_world.proofs.UidsOfStarts.{next_uids}
 use Rattle.ak_world.proofs.AlikeRuns.{apart_next}
-use Rattle.ak_world.proofs.WorldLemmas.{ready_run, few_run, length-states, run-went, at-ok}
+use Rattle.ak_world.proofs.WorldLemmas.{few_run, length-states, run-went, at-ok}
+use Rattle.ak_world.proofs.SeekLemmas.{ready_run}
 use Rattle.ak_world.proofs.world.World.apply.Goals as goal
 
 pub happens-requires : goal.happens-requires
