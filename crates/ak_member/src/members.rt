@@ -74,6 +74,7 @@ impl Members {
     }
 
     /// The member that the process is; none where it is no member. Takes no memory.
+    #[inline(always)]
     pub fn get(&self, who: &Unique) -> Option<Member<'_>>
         ensures { option_map (λ m. (m.unique.now, (m.status, m.up_number))) result ≡ option_map {U = UniqueModel × (Status × ℕ)} (λ m. (who.now, m)) (member_of (map.get self.now who.now)) }
     {

@@ -17,8 +17,8 @@ use std::alloc::{AllocError, Global};
 use std::marker::Model;
 
 /// Processes, each in a slot with its standing: the slots are numbered from 0 on in the order in which processes came, a process
-/// is found by its hash, and the places of the slots are kept in the order of processes, and those of the members that count also by
-/// age (this project's choice).
+/// is found by a look at each slot where there are few, and by its hash where there are more, and the places of the slots are kept
+/// in the order of processes, and those of the members that count also by age (this project's choice).
 #[derive(Drop)]
 pub(crate) struct Slots {
     slots: IndexMap<Unique, Standing>,

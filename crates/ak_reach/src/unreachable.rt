@@ -26,7 +26,8 @@ pub fn is_unreachable(members: &Members, rows: &Rows, who: &Unique) -> bool
 }
 
 /// Whether a member that is not Down has the process in its row: of a member, whether it is unreachable, with no look
-/// whether it is a member. Takes no memory.
+/// whether it is a member (Akka's Cluster Specification, "Failure Detector"; that the rows of Down members do not count is
+/// this project's choice). Takes no memory.
 pub fn is_observed(members: &Members, rows: &Rows, who: &Unique) -> bool
     ensures value { result ≡ reported rows.now (members_with observes members.now) who.now }
     ensures member { IsTrue (is_member members.now who.now) → result ≡ has (unreachable_members (record { standings = members.now; rows = rows.now })) who.now }
