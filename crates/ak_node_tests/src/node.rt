@@ -369,7 +369,9 @@ fn is_rise(effects: &Effects, who: &Unique, to: Status) -> bool {
 // The whole of what is done is one update with this number, in which this process rises to this status.
 fn is_raise(actions: &Actions, number: u64, who: &Unique, to: Status) -> bool {
     match actions.as_slice() {
-        [Action::Update(own, effects), Action::View] => *own == number && is_rise(effects, who, to),
+        [Action::Update(own, effects), next] => {
+            *own == number && is_rise(effects, who, to) && is_view(Some(next))
+        }
         _ => false,
     }
 }

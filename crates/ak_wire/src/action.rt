@@ -8,7 +8,6 @@ use std::alloc::{AllocError, Global};
 use std::marker::Model;
 
 /// What a node does in a step.
-#[derive(Drop)]
 pub enum Action {
     /// It sends a packet.
     Send(SharedEnvelope),
@@ -46,6 +45,48 @@ pub enum Action {
     Dead,
     /// It stops.
     Stopped,
+}
+
+// By hand, so that most actions are dropped where they stand: the effects of an update and the names of entities and processes are
+// dropped by calls of their own.
+impl Drop for Action {
+    #[inline(always)]
+    fn drop(self) {
+        match self {
+            Action::Send(packet) => drop(packet),
+            Action::Update(_number, effects) => drop_effects(effects),
+            Action::View => {}
+            Action::Settled => {}
+            Action::Active(_term) => {}
+            Action::Ended(_term) => {}
+            Action::Host(_shard, _allocation) => {}
+            Action::Gone(_shard) => {}
+            Action::Entity(name) => drop_name(name),
+            Action::Deliver(name, _payload) => drop_name(name),
+            Action::Forward(name, _payload) => drop_name(name),
+            Action::Buffer(name, _payload) => drop_name(name),
+            Action::Drop(name, _payload) => drop_name(name),
+            Action::MarginEnd(member) => drop_process(member),
+            Action::Refused(_reason) => {}
+            Action::Dead => {}
+            Action::Stopped => {}
+        }
+    }
+}
+
+#[inline(never)]
+fn drop_effects(effects: Effects) {
+    drop(effects);
+}
+
+#[inline(never)]
+fn drop_name(name: Text) {
+    drop(name);
+}
+
+#[inline(never)]
+fn drop_process(process: Unique) {
+    drop(process);
 }
 
 /// The actions of a step, in order.
