@@ -1,7 +1,6 @@
 -- Words of the contracts of a node's calls.
-use Rattle.std.specs.Prelude.{◌≡◌, ◌⊎◌, ◌≤◌, ℕ, Bool, true, false, not, ◌&&◌, List, [], Option, Some, IsTrue}
+use Rattle.std.specs.Prelude.{◌≡◌, ◌⊎◌, ◌≤◌, ℕ, Bool, true, false, not, ◌&&◌, List, [], Some, IsTrue}
 use Rattle.std.specs.FinMap as map
-use Rattle.ak_address.specs.Unique.{UniqueModel}
 use Rattle.ak_member.specs.declared.status.Status.{Status}
 use Rattle.ak_member.specs.declared.standing.Standing.TheVariants.{Member}
 use Rattle.ak_member.specs.Standing.{is_down}
@@ -9,7 +8,6 @@ use Rattle.ak_membership.specs.MembershipContracts as membership
 use Rattle.ak_gossip.specs.Gossip.{nothing_known}
 use Rattle.ak_settled.specs.Settled.{IsCounting}
 use Rattle.ak_wire.specs.declared.action.Action.{Action}
-use Rattle.ak_wire.specs.declared.envelope.Envelope.{Envelope}
 use Rattle.ak_wire.specs.declared.envelope.Message.{Message}
 use Rattle.ak_wire.specs.declared.envelope.Message as message
 use Rattle.ak_node.specs.declared.node.NodeEvent.{NodeEvent}
@@ -55,10 +53,6 @@ pub record IsNode (n : State) : Type 0 where
 -- what a step leaves of a node that runs is concluded: if it were concluded once more, nothing would be due and nothing changed
 abbrev pub IsConcluded : State → Type 0
 IsConcluded n = n.runs ≡ true → concludes n ≡ (n, [])
-
--- what a process sends that asks to be let in
-abbrev pub IsRequest : UniqueModel → Option Envelope → Type 0
-IsRequest me request = (e : Envelope) → request ≡ Some e → e ≡ record { from = me; to = e.to; uid = 0; message = message.TheVariants.Join }
 
 -- a node that is no member asks at each tick to be let in, and lets nobody in
 abbrev pub is_asking : NodeEvent → State → Bool

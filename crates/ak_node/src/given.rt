@@ -4,13 +4,14 @@ ghost use Rattle.std.specs.Prelude.{◌≡◌, ◌<◌, ◌≤◌, ◌^◌, ◌+
 ghost use Rattle.ak_membership.specs.MembershipContracts.{IsWatching};
 ghost use Rattle.ak_node.specs.Node as rules;
 ghost use Rattle.ak_node.specs.Sends.{ComesValid, IsSaid};
-ghost use Rattle.ak_node.specs.NodeContracts.{Does, IsSameProcess, IsConcluded, IsRequest, is_idle, is_asking, is_refusing, may_ask};
+ghost use Rattle.ak_node.specs.NodeContracts.{Does, IsSameProcess, IsConcluded, is_idle, is_asking, is_refusing, may_ask};
 
-use crate::actions::{one_in, refuse_in};
+use crate::actions::refuse;
 use crate::node::{NodeEvent, State};
 use crate::ranges::{address, offered};
 use ak_membership::MemberFault;
-use ak_wire::{Action, Actions, Envelope, Message, SharedEnvelope};
+use ak_reused::Reused;
+use ak_wire::{Actions, Envelope, Message};
 use std::alloc::{AllocError, Global};
 
 // What a node is given: an event, or a packet. It stays with whoever gives it.
@@ -33,7 +34,12 @@ pub(crate) trait Given {
         ensures { result ≡ is_refusing (event self.now) state.now };
 
     // Its rule.
-    fn rule(&self, alloc: Global, state: &mut State) -> Result<Actions, AllocError>
+    fn rule(
+        &self,
+        alloc: Global,
+        state: &mut State,
+        reused: &mut Reused,
+    ) -> Result<Actions, AllocError>
         requires ticks { state.old.membership.ticks < 2 ^ 62 }
         requires watching { IsWatching state.old.membership }
         requires asked { is_asking (event self.now) state.old ≡ false }
@@ -49,6 +55,7 @@ pub(crate) trait Given {
 impl Given for NodeEvent {
     ghost event = { λ e. e };
 
+    #[inline(always)]
     fn is_idle(&self, state: &State) -> bool
         ensures { result ≡ is_idle self.now state.now }
     {
@@ -58,6 +65,7 @@ impl Given for NodeEvent {
         }
     }
 
+    #[inline(always)]
     fn is_asking(&self, state: &State) -> bool
         ensures { result ≡ is_asking self.now state.now }
     {
@@ -67,6 +75,7 @@ impl Given for NodeEvent {
         }
     }
 
+    #[inline(always)]
     fn is_refusing(&self, state: &State) -> bool
         ensures { result ≡ is_refusing self.now state.now }
     {
@@ -76,7 +85,12 @@ impl Given for NodeEvent {
         }
     }
 
-    fn rule(&self, alloc: Global, state: &mut State) -> Result<Actions, AllocError>
+    fn rule(
+        &self,
+        alloc: Global,
+        state: &mut State,
+        reused: &mut Reused,
+    ) -> Result<Actions, AllocError>
         requires ticks { state.old.membership.ticks < 2 ^ 62 }
         requires watching { IsWatching state.old.membership }
         requires asked { is_asking self.now state.old ≡ false }
@@ -84,13 +98,13 @@ impl Given for NodeEvent {
         ensures same { IsSameProcess state.old state.new }
     {
         match self {
-            NodeEvent::Found => state.found(alloc),
-            NodeEvent::Join(target) => state.join(alloc, target),
-            NodeEvent::Tick(word) => state.tick(alloc, *word),
-            NodeEvent::Packet(envelope) => state.on_packet(alloc, envelope),
-            NodeEvent::Leave(who) => state.leave(alloc, who),
-            NodeEvent::Down(who) => state.down(alloc, who),
-            NodeEvent::Offer(entity, payload) => state.offer(alloc, entity, *payload),
+            NodeEvent::Found => state.found(alloc, reused),
+            NodeEvent::Join(target) => state.join(alloc, target, reused),
+            NodeEvent::Tick(word) => state.tick(alloc, *word, reused),
+            NodeEvent::Packet(envelope) => state.on_packet(alloc, envelope, reused),
+            NodeEvent::Leave(who) => state.leave(alloc, who, reused),
+            NodeEvent::Down(who) => state.down(alloc, who, reused),
+            NodeEvent::Offer(entity, payload) => state.offer(alloc, entity, *payload, reused),
             NodeEvent::Stop => state.stop(alloc),
         }
     }
@@ -112,18 +126,21 @@ impl Given for Envelope {
 
     ghost event = { λ p. Packet p };
 
+    #[inline(always)]
     fn is_idle(&self, _state: &State) -> bool
         ensures { result ≡ is_idle (NodeEvent.Packet self.now) _state.now }
     {
         false
     }
 
+    #[inline(always)]
     fn is_asking(&self, _state: &State) -> bool
         ensures { result ≡ is_asking (NodeEvent.Packet self.now) _state.now }
     {
         false
     }
 
+    #[inline(always)]
     fn is_refusing(&self, state: &State) -> bool
         ensures { result ≡ is_refusing (NodeEvent.Packet self.now) state.now }
     {
@@ -133,11 +150,16 @@ impl Given for Envelope {
         }
     }
 
-    fn rule(&self, alloc: Global, state: &mut State) -> Result<Actions, AllocError>
+    fn rule(
+        &self,
+        alloc: Global,
+        state: &mut State,
+        reused: &mut Reused,
+    ) -> Result<Actions, AllocError>
         ensures does { IfOk result (λ actions. Does (rules.rule (NodeEvent.Packet self.now) state.old) state.new actions) }
         ensures same { IsSameProcess state.old state.new }
     {
-        state.on_packet(alloc, self)
+        state.on_packet(alloc, self, reused)
     }
 
     fn said(&self)
@@ -157,32 +179,40 @@ impl Given for Tick {
 
     ghost event = { λ t. event.Tick t.word };
 
+    #[inline(always)]
     fn is_idle(&self, _state: &State) -> bool
         ensures { result ≡ is_idle (NodeEvent.Tick self.now.word) _state.now }
     {
         false
     }
 
+    #[inline(always)]
     fn is_asking(&self, state: &State) -> bool
         ensures { result ≡ is_asking (NodeEvent.Tick self.now.word) state.now }
     {
         !state.membership.is_member()
     }
 
+    #[inline(always)]
     fn is_refusing(&self, _state: &State) -> bool
         ensures { result ≡ is_refusing (NodeEvent.Tick self.now.word) _state.now }
     {
         false
     }
 
-    fn rule(&self, alloc: Global, state: &mut State) -> Result<Actions, AllocError>
+    fn rule(
+        &self,
+        alloc: Global,
+        state: &mut State,
+        reused: &mut Reused,
+    ) -> Result<Actions, AllocError>
         requires ticks { state.old.membership.ticks < 2 ^ 62 }
         requires watching { IsWatching state.old.membership }
         requires asked { is_asking (NodeEvent.Tick self.now.word) state.old ≡ false }
         ensures does { IfOk result (λ actions. Does (rules.rule (NodeEvent.Tick self.now.word) state.old) state.new actions) }
         ensures same { IsSameProcess state.old state.new }
     {
-        state.tick(alloc, self.word)
+        state.tick(alloc, self.word, reused)
     }
 
     fn said(&self)
@@ -191,68 +221,45 @@ impl Given for Tick {
     {}
 }
 
-// A process that is no member asks its target again, where it has one. What it sent before is sent again where that went to the
-// same address, so that it is made once and not at each tick.
+// A process that is no member asks its target again, where it has one.
 #[inline(always)]
-fn asks_again(
-    alloc: Global,
-    state: &mut State,
-    request: &mut Option<SharedEnvelope>,
-    spare: &mut Actions,
-) -> Result<Actions, AllocError>
+fn asks_again(alloc: Global, state: &mut State, reused: &mut Reused) -> Result<Actions, AllocError>
     requires steps { state.old.steps < 2 ^ 62 }
-    requires request { IsRequest (rules.me_of state.old) request.old }
-    requires spare { spare.old ≡ [] }
     ensures state { state.new ≡ record state.old { steps = state.old.steps + 1 } }
     ensures actions { IfOk result (λ actions. actions ≡ (rules.asks_at state.old.membership.target state.old).1) }
-    ensures request { IsRequest (rules.me_of state.new) request.new }
-    ensures spare { spare.new ≡ [] }
 {
     state.steps += 1;
     let Some(target) = state.membership.target() else {
         return Ok(Actions::empty(alloc));
     };
-    if let Some(sent) = request {
-        if sent.get().to.is(target) {
-            return one_in(alloc, spare, Action::Send(sent.share()?));
-        }
-    }
-    let sent = state.request(alloc, target)?;
-    let again = sent.share()?;
-    *request = Some(again);
-    one_in(alloc, spare, Action::Send(sent))
+    reused.asking(alloc, state.me(), target)
 }
 
 // What an event makes of a node's state. Where its rule leaves a node that is no member as it was, nothing is due after
-// it, since the step before was concluded: so such a node asks again, and refuses whoever asks it, with no closing, and
-// its one action takes the spare room.
+// it, since the step before was concluded: so such a node asks again, and refuses whoever asks it, with no closing.
+#[inline(always)]
 pub(crate) fn happens<E: Given>(
     alloc: Global,
     event: &E,
     dead: bool,
     state: &mut State,
-    request: &mut Option<SharedEnvelope>,
-    spare: &mut Actions,
+    reused: &mut Reused,
 ) -> Result<Actions, AllocError>
     requires dead { dead ≡ rules.is_dead (rules.me_of state.old) (E.event event.now) }
     requires steps { state.old.steps < 2 ^ 62 }
     requires ticked { state.old.membership.ticks ≤ state.old.steps }
     requires watching { IsWatching state.old.membership }
     requires concluded { IsConcluded state.old }
-    requires request { IsRequest (rules.me_of state.old) request.old }
-    requires spare { spare.old ≡ [] }
     ensures does { IfOk result (λ actions. Does (rules.step (E.event event.now) state.old) state.new actions) }
     ensures same { IsSameProcess state.old state.new }
     ensures memory { OnErr result (IsTrue (may_ask (E.event event.now) state.old)) }
-    ensures request { IsRequest (rules.me_of state.new) request.new }
-    ensures spare { spare.new ≡ [] }
 {
     if state.runs && event.is_asking(state) {
-        return asks_again(alloc, state, request, spare);
+        return asks_again(alloc, state, reused);
     }
     if state.runs && !dead && event.is_refusing(state) {
         state.steps += 1;
-        return refuse_in(alloc, spare, MemberFault::NotMember);
+        return refuse(alloc, MemberFault::NotMember, reused);
     }
-    state.step(alloc, event, dead)
+    state.step(alloc, event, dead, reused)
 }

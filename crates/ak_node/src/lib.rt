@@ -10,6 +10,7 @@ mod node;
 mod own;
 mod ranges;
 mod shards;
+mod ticks;
 
 pub use ak_wire::{Action, Actions};
 pub use laws::steps_update_once;

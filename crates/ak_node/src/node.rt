@@ -1,13 +1,12 @@
 ghost use Rattle.std.specs.Prelude.{◌≡◌, ◌⊎◌, ◌<◌, ◌≤◌, ◌^◌, ◌+◌, ◌++◌, [], not, true, false, IfOk, OnOk, OnErr, IsTrue, option_copied, option_map};
 ghost use Rattle.ak_membership.specs.MembershipContracts.{IsWatching};
-ghost use Rattle.ak_membership.specs.Tick as rules_of_ticks;
 ghost use Rattle.std.specs.FinMap as finmap;
 ghost use Rattle.ak_region.specs.Region as regions;
 ghost use Rattle.ak_node.specs.Node as rules;
 ghost use Rattle.ak_node.specs.Sends.{AreValid, ComesValid, IsProcess};
-ghost use Rattle.ak_node.specs.NodeContracts.{Does, IsSameProcess, IsLeftOver, IsSilent, IsConcluded, IsRequest, ServesWhileItRuns, is_idle, is_asking, may_ask};
+ghost use Rattle.ak_node.specs.NodeContracts.{Does, IsSameProcess, IsLeftOver, IsSilent, IsConcluded, ServesWhileItRuns, is_idle, is_asking, may_ask};
 
-use crate::actions::{one, push_due, refuse, tell, told};
+use crate::actions::{push_due, refuse, told};
 use crate::given::{Given, Tick, happens};
 use crate::own::{is_dead, is_for};
 use crate::ranges::{address, process};
@@ -16,11 +15,12 @@ use ak_field::EntityId;
 use ak_gossip::Gossip;
 use ak_membership::{Change, Membership, Reply};
 use ak_promise::Ballot;
+use ak_reused::Reused;
 use ak_settings::Settings;
 use ak_settled::Settled;
 use ak_sharding::Sharding;
 use ak_singleton::Singleton;
-use ak_wire::{Action, Actions, Cover, Envelope, Message, SharedEnvelope};
+use ak_wire::{Action, Actions, Cover, Envelope, Message};
 use std::alloc::{AllocError, Global};
 use std::marker::Model;
 
@@ -83,25 +83,6 @@ impl State {
         Cover::between(alloc, self.me(), to)
     }
 
-    // What it sends to an address to be let in.
-    pub(crate) fn request(
-        &self,
-        alloc: Global,
-        target: &Address,
-    ) -> Result<SharedEnvelope, AllocError>
-        ensures { IfOk result (λ sent. sent ≡ record { from = rules.me_of self.now; to = target.now; uid = 0; message = Message.Join }) }
-    {
-        let from = self.me().copy(alloc)?;
-        let to = target.copy(alloc)?;
-        let envelope = Envelope {
-            from,
-            to,
-            uid: 0,
-            message: Message::Join,
-        };
-        SharedEnvelope::of(alloc, envelope)
-    }
-
     // Adds the answer to who asked, with what is known now.
     fn answer(
         &self,
@@ -128,24 +109,39 @@ impl State {
     }
 
     // What the membership did for who asked.
-    fn tells_for(&self, alloc: Global, from: &Unique, change: Change) -> Result<Actions, AllocError>
+    fn tells_for(
+        &self,
+        alloc: Global,
+        from: &Unique,
+        change: Change,
+        reused: &mut Reused,
+    ) -> Result<Actions, AllocError>
         ensures { IfOk result (λ actions. actions ≡ rules.update_by change.number change.effects ++ rules.answer change.reply from.now self.now) }
     {
         let reply = change.reply;
-        let mut actions = told(alloc, change)?;
+        let mut actions = told(alloc, change, reused)?;
         self.answer(alloc, reply, from, &mut actions)?;
         Ok(actions)
     }
 
-    pub(crate) fn found(&mut self, alloc: Global) -> Result<Actions, AllocError>
+    pub(crate) fn found(
+        &mut self,
+        alloc: Global,
+        reused: &mut Reused,
+    ) -> Result<Actions, AllocError>
         ensures does { IfOk result (λ actions. Does (rules.found self.old) self.new actions) }
         ensures same { IsSameProcess self.old self.new }
     {
         let change = self.membership.found(alloc)?;
-        told(alloc, change)
+        told(alloc, change, reused)
     }
 
-    pub(crate) fn join(&mut self, alloc: Global, target: &Address) -> Result<Actions, AllocError>
+    pub(crate) fn join(
+        &mut self,
+        alloc: Global,
+        target: &Address,
+        reused: &mut Reused,
+    ) -> Result<Actions, AllocError>
         ensures does { IfOk result (λ actions. Does (rules.join target.now self.old) self.new actions) }
         ensures same { IsSameProcess self.old self.new }
     {
@@ -153,38 +149,53 @@ impl State {
             return Ok(Actions::empty(alloc));
         }
         let kept = target.copy(alloc)?;
-        let actions = one(alloc, Action::Send(self.request(alloc, target)?))?;
+        let actions = reused.asking(alloc, self.me(), target)?;
         self.membership.join(kept);
         Ok(actions)
     }
 
-    pub(crate) fn leave(&mut self, alloc: Global, who: &Unique) -> Result<Actions, AllocError>
+    pub(crate) fn leave(
+        &mut self,
+        alloc: Global,
+        who: &Unique,
+        reused: &mut Reused,
+    ) -> Result<Actions, AllocError>
         ensures does { IfOk result (λ actions. Does (rules.leave who.now self.old) self.new actions) }
         ensures same { IsSameProcess self.old self.new }
     {
         match self.membership.leave(alloc, who) {
-            Ok(change) => return told(alloc, change),
-            Err(fault) => return refuse(alloc, fault),
+            Ok(change) => return told(alloc, change, reused),
+            Err(fault) => return refuse(alloc, fault, reused),
         }
     }
 
-    pub(crate) fn down(&mut self, alloc: Global, who: &Unique) -> Result<Actions, AllocError>
+    pub(crate) fn down(
+        &mut self,
+        alloc: Global,
+        who: &Unique,
+        reused: &mut Reused,
+    ) -> Result<Actions, AllocError>
         ensures does { IfOk result (λ actions. Does (rules.down who.now self.old) self.new actions) }
         ensures same { IsSameProcess self.old self.new }
     {
         match self.membership.down(alloc, who) {
-            Ok(change) => return told(alloc, change),
-            Err(fault) => return refuse(alloc, fault),
+            Ok(change) => return told(alloc, change, reused),
+            Err(fault) => return refuse(alloc, fault, reused),
         }
     }
 
-    fn on_join(&mut self, alloc: Global, from: &Unique) -> Result<Actions, AllocError>
+    fn on_join(
+        &mut self,
+        alloc: Global,
+        from: &Unique,
+        reused: &mut Reused,
+    ) -> Result<Actions, AllocError>
         ensures does { IfOk result (λ actions. Does (rules.on_join from.now self.old) self.new actions) }
         ensures same { IsSameProcess self.old self.new }
     {
         match self.membership.on_join(alloc, from) {
-            Ok(change) => return self.tells_for(alloc, from, change),
-            Err(fault) => return refuse(alloc, fault),
+            Ok(change) => return self.tells_for(alloc, from, change, reused),
+            Err(fault) => return refuse(alloc, fault, reused),
         }
     }
 
@@ -193,17 +204,23 @@ impl State {
         alloc: Global,
         from: &Unique,
         incoming: &Gossip,
+        reused: &mut Reused,
     ) -> Result<Actions, AllocError>
         ensures does { IfOk result (λ actions. Does (rules.on_gossip from.now incoming.now self.old) self.new actions) }
         ensures same { IsSameProcess self.old self.new }
     {
         match self.membership.on_gossip(alloc, incoming) {
-            Ok(change) => return self.tells_for(alloc, from, change),
-            Err(fault) => return refuse(alloc, fault),
+            Ok(change) => return self.tells_for(alloc, from, change, reused),
+            Err(fault) => return refuse(alloc, fault, reused),
         }
     }
 
-    fn on_heartbeat(&mut self, alloc: Global, from: &Unique) -> Result<Actions, AllocError>
+    fn on_heartbeat(
+        &mut self,
+        alloc: Global,
+        from: &Unique,
+        reused: &mut Reused,
+    ) -> Result<Actions, AllocError>
         ensures does { IfOk result (λ actions. Does (rules.on_heartbeat from.now self.old) self.new actions) }
         ensures same { IsSameProcess self.old self.new }
     {
@@ -211,7 +228,7 @@ impl State {
             return Ok(Actions::empty(alloc));
         }
         let cover = self.cover(alloc, from)?;
-        one(alloc, cover.around(alloc, Message::HeartbeatReply)?)
+        reused.one(alloc, cover.around(alloc, Message::HeartbeatReply)?)
     }
 
     fn on_heard(&mut self, alloc: Global, from: &Unique) -> Actions
@@ -234,132 +251,6 @@ impl State {
         Ok(Actions::empty(alloc))
     }
 
-    // Adds a message to each member that counts: the node stops.
-    fn confirms(&self, alloc: Global, actions: &mut Actions) -> Result<(), AllocError>
-        ensures { OnOk result (actions.new ≡ actions.old ++ rules.to_each self.now (rules.counted_members self.now) Message.ExitingConfirmed) }
-    {
-        let members = self.membership.gossip().members();
-        'pairs: for pair in 0..members.uniques() {
-            if let Some((to, _)) = members.counted_at_pair(pair) {
-                let cover = self.cover(alloc, to)?;
-                actions.push(cover.around(alloc, Message::ExitingConfirmed)?)?;
-            }
-        }
-        Ok(())
-    }
-
-    // Adds what is known, told to one member, where there is one to tell it to.
-    fn gossips(&self, alloc: Global, word: u32, actions: &mut Actions) -> Result<(), AllocError>
-        ensures { OnOk result (actions.new ≡ actions.old ++ (rules.gossips_to (rules_of_ticks.gossip_peer word self.now.membership) self.now).1) }
-    {
-        match self.membership.gossip_peer(word) {
-            Some(to) => {
-                let cover = self.cover(alloc, to)?;
-                let gossip = self.membership.gossip().copy(alloc)?;
-                let message = Message::Gossip(gossip);
-                actions.push(cover.around(alloc, message)?)
-            }
-            None => Ok(()),
-        }
-    }
-
-    // Its part for the singleton, as the coordinator, and for whom messages wait; and then it gossips.
-    fn rest(&mut self, alloc: Global, word: u32, actions: &mut Actions) -> Result<(), AllocError>
-        ensures state { OnOk result (self.new ≡ (rules.rest word self.old).0) }
-        ensures actions { OnOk result (actions.new ≡ actions.old ++ (rules.rest word self.old).1) }
-        ensures same { IsSameProcess self.old self.new }
-    {
-        self.asks_as(alloc, actions)?;
-        self.coordinates(alloc, actions)?;
-        self.asks_homes(alloc, actions)?;
-        self.gossips(alloc, word, actions)
-    }
-
-    // A node that exits says so, and stops (Akka's Cluster Specification, "Leaving"), where it may leave already.
-    fn leaves(&mut self, alloc: Global, word: u32, actions: &mut Actions) -> Result<(), AllocError>
-        ensures state { OnOk result (self.new ≡ (rules.leaves word self.old).0) }
-        ensures actions { OnOk result (actions.new ≡ actions.old ++ (rules.leaves word self.old).1) }
-        ensures same { IsSameProcess self.old self.new }
-    {
-        if !self.may_leave() {
-            return self.rest(alloc, word, actions);
-        }
-        self.confirms(alloc, actions)?;
-        self.runs = false;
-        Ok(())
-    }
-
-    // What follows the update of a tick: nothing where the node is Down now; one that is Exiting ends its phase, and leaves
-    // where it may; any other does the rest.
-    fn goes_on(&mut self, alloc: Global, word: u32, actions: &mut Actions) -> Result<(), AllocError>
-        ensures state { OnOk result (self.new ≡ (rules.goes_on word self.old).0) }
-        ensures actions { OnOk result (actions.new ≡ actions.old ++ (rules.goes_on word self.old).1) }
-        ensures same { IsSameProcess self.old self.new }
-    {
-        if self.membership.is_gone() {
-            return Ok(());
-        }
-        let members = self.membership.gossip().members();
-        if members.is_exiting(self.membership.me()) {
-            self.ends_phase(alloc, actions)?;
-            return self.leaves(alloc, word, actions);
-        }
-        self.rest(alloc, word, actions)
-    }
-
-    // Adds an action for each tombstone that has waited for as long as the margin now.
-    fn ends(&self, alloc: Global, actions: &mut Actions) -> Result<(), AllocError>
-        ensures { OnOk result (actions.new ≡ actions.old ++ rules.ends self.now) }
-    {
-        let settled = self.membership.settled();
-        'ended: for index in 0..settled.just_ended_len() {
-            if let Some(who) = settled.just_ended(index) {
-                let who = who.copy(alloc)?;
-                actions.push(Action::MarginEnd(who))?;
-            }
-        }
-        Ok(())
-    }
-
-    // Adds a heartbeat to each watched member.
-    fn beats(&self, alloc: Global, actions: &mut Actions) -> Result<(), AllocError>
-        ensures { OnOk result (actions.new ≡ actions.old ++ rules.beats self.now) }
-    {
-        let watched = self.membership.detector().watched();
-        'watched: for index in 0..watched.len() {
-            if let Some(to) = watched.at(index) {
-                let cover = self.cover(alloc, to)?;
-                actions.push(cover.around(alloc, Message::Heartbeat)?)?;
-            }
-        }
-        Ok(())
-    }
-
-    // What a tick of the membership is told by.
-    fn tells_of_tick(&self, alloc: Global, change: Change) -> Result<Actions, AllocError>
-        ensures { IfOk result (λ actions. actions ≡ rules.ends self.now ++ rules.beats self.now ++ rules.update_by change.number change.effects) }
-    {
-        let mut actions = Actions::empty(alloc);
-        self.ends(alloc, &mut actions)?;
-        self.beats(alloc, &mut actions)?;
-        tell(change, &mut actions)?;
-        Ok(actions)
-    }
-
-    // A tick of a member.
-    pub(crate) fn tick(&mut self, alloc: Global, word: u32) -> Result<Actions, AllocError>
-        requires member { IsTrue (rules.is_member self.old) }
-        requires ticks { self.old.membership.ticks < 2 ^ 62 }
-        requires watching { IsWatching self.old.membership }
-        ensures does { IfOk result (λ actions. Does (rules.tick word self.old) self.new actions) }
-        ensures same { IsSameProcess self.old self.new }
-    {
-        let change = self.membership.tick(alloc)?;
-        let mut actions = self.tells_of_tick(alloc, change)?;
-        self.goes_on(alloc, word, &mut actions)?;
-        Ok(actions)
-    }
-
     pub(crate) fn stop(&mut self, alloc: Global) -> Result<Actions, AllocError>
         ensures does { IfOk result (λ actions. Does (rules.stop self.old) self.new actions) }
         ensures same { IsSameProcess self.old self.new }
@@ -372,19 +263,20 @@ impl State {
         &mut self,
         alloc: Global,
         envelope: &Envelope,
+        reused: &mut Reused,
     ) -> Result<Actions, AllocError>
         ensures does { IfOk result (λ actions. Does (rules.rule (NodeEvent.Packet envelope.now) self.old) self.new actions) }
         ensures same { IsSameProcess self.old self.new }
     {
         match &envelope.message {
-            Message::Join => self.on_join(alloc, &envelope.from),
-            Message::Welcome(gossip) => self.on_gossip(alloc, &envelope.from, gossip),
-            Message::Gossip(gossip) => self.on_gossip(alloc, &envelope.from, gossip),
-            Message::Heartbeat => self.on_heartbeat(alloc, &envelope.from),
+            Message::Join => self.on_join(alloc, &envelope.from, reused),
+            Message::Welcome(gossip) => self.on_gossip(alloc, &envelope.from, gossip, reused),
+            Message::Gossip(gossip) => self.on_gossip(alloc, &envelope.from, gossip, reused),
+            Message::Heartbeat => self.on_heartbeat(alloc, &envelope.from, reused),
             Message::HeartbeatReply => Ok(self.on_heard(alloc, &envelope.from)),
             Message::ExitingConfirmed => self.on_confirmed(alloc, &envelope.from),
-            Message::Leave(who) => self.leave(alloc, who),
-            Message::Down(who) => self.down(alloc, who),
+            Message::Leave(who) => self.leave(alloc, who, reused),
+            Message::Down(who) => self.down(alloc, who, reused),
             Message::Ask(ballot) => self.on_ask(alloc, &envelope.from, ballot),
             Message::Granted(ballot, floor, told) => self.on_granted(
                 alloc,
@@ -399,9 +291,9 @@ impl State {
             Message::HandOverDone(ballot, floor) => self.on_done(alloc, ballot, floor),
             Message::Release(ballot, floor) => self.on_release(alloc, ballot, floor),
             Message::Offer(_, _) => {
-                self.on_shard_message(alloc, &envelope.from, &envelope.message)
+                self.on_shard_message(alloc, &envelope.from, &envelope.message, reused)
             }
-            _ => self.on_shards(alloc, &envelope.from, &envelope.message),
+            _ => self.on_shards(alloc, &envelope.from, &envelope.message, reused),
         }
     }
 
@@ -423,6 +315,7 @@ impl State {
         alloc: Global,
         event: &E,
         dead: bool,
+        reused: &mut Reused,
     ) -> Result<Actions, AllocError>
         requires dead { dead ≡ rules.is_dead (rules.me_of self.old) (E.event event.now) }
         requires steps { self.old.steps < 2 ^ 62 }
@@ -441,7 +334,7 @@ impl State {
         if event.is_idle(self) {
             return Ok(Actions::empty(alloc));
         }
-        self.running_step(alloc, event, dead)
+        self.running_step(alloc, event, dead, reused)
     }
 
     // The event of a node that runs.
@@ -450,6 +343,7 @@ impl State {
         alloc: Global,
         event: &E,
         dead: bool,
+        reused: &mut Reused,
     ) -> Result<Actions, AllocError>
         requires dead { dead ≡ rules.is_dead (rules.me_of self.old) (E.event event.now) }
         requires ticks { self.old.membership.ticks < 2 ^ 62 }
@@ -459,19 +353,24 @@ impl State {
         ensures same { IsSameProcess self.old self.new }
     {
         if dead {
-            return one(alloc, Action::Dead);
+            return reused.one(alloc, Action::Dead);
         }
-        self.acts(alloc, event)
+        self.acts(alloc, event, reused)
     }
 
-    fn acts<E: Given>(&mut self, alloc: Global, event: &E) -> Result<Actions, AllocError>
+    fn acts<E: Given>(
+        &mut self,
+        alloc: Global,
+        event: &E,
+        reused: &mut Reused,
+    ) -> Result<Actions, AllocError>
         requires ticks { self.old.membership.ticks < 2 ^ 62 }
         requires watching { IsWatching self.old.membership }
         requires asked { is_asking (E.event event.now) self.old ≡ false }
         ensures does { IfOk result (λ actions. Does (rules.and_then rules.concludes (rules.rule (E.event event.now) self.old)) self.new actions) }
         ensures same { IsSameProcess self.old self.new }
     {
-        let mut actions = event.rule(alloc, self)?;
+        let mut actions = event.rule(alloc, self, reused)?;
         self.closes(alloc, &mut actions)?;
         self.forgets();
         self.activates(alloc, &mut actions)?;
@@ -484,19 +383,16 @@ impl State {
 #[derive(Drop)]
 pub struct Node {
     state: State,
-    // What it sent when it last asked at a tick to be let in.
-    request: Option<SharedEnvelope>,
-    // No action, and the room of a step that was given back.
-    spare: Actions,
+    // What it keeps so that a later step need not make it anew.
+    reused: Reused,
     // The error with which it ran out of memory.
     failed: Option<AllocError>,
 }
 
 impl Model for Node {
     ghost use Rattle.std.specs.Prelude.{is_some};
-    ghost use Rattle.std.specs.Prelude.{◌≡◌, [], false};
-    ghost use Rattle.ak_node.specs.Node.{me_of};
-    ghost use Rattle.ak_node.specs.NodeContracts.{NodeModel, IsNode, HasForgotten, IsConcluded, IsRequest};
+    ghost use Rattle.std.specs.Prelude.{◌≡◌, false};
+    ghost use Rattle.ak_node.specs.NodeContracts.{NodeModel, IsNode, HasForgotten, IsConcluded};
     ghost use Rattle.ak_node.specs.Sends.{KnowsProcesses, KeepsBallots, KeepsSettled, KeepsShards};
     ghost use Rattle.std.specs.Coded.{codes};
     ghost use Rattle.ak_membership.specs.contracts.membership.Membership as membership;
@@ -509,7 +405,7 @@ impl Model for Node {
 
     ghost view = { λ n. record { state = n.state; spent = is_some n.failed } };
 
-    ghost invariant = { λ n. IsNode n.state × HasForgotten (is_some n.failed) n.state × KnowsProcesses n.state × KeepsBallots n.state.singleton × KeepsSettled n.state × KeepsShards n.state × (is_some n.failed ≡ false → IsConcluded n.state) × IsRequest (me_of n.state) n.request × (n.spare ≡ []) };
+    ghost invariant = { λ n. IsNode n.state × HasForgotten (is_some n.failed) n.state × KnowsProcesses n.state × KeepsBallots n.state.singleton × KeepsSettled n.state × KeepsShards n.state × (is_some n.failed ≡ false → IsConcluded n.state) };
 }
 
 impl Node {
@@ -530,8 +426,7 @@ impl Node {
         };
         Ok(Node {
             state,
-            request: None,
-            spare: Actions::empty(alloc),
+            reused: Reused::nothing(alloc),
             failed: None,
         })
     }
@@ -613,14 +508,7 @@ impl Node {
         self.state.process();
         let runs = self.state.runs;
         let steps = self.state.steps;
-        let done = happens(
-            alloc,
-            event,
-            dead,
-            &mut self.state,
-            &mut self.request,
-            &mut self.spare,
-        );
+        let done = happens(alloc, event, dead, &mut self.state, &mut self.reused);
         match done {
             Ok(actions) => {
                 self.state.membership.invariant();
@@ -633,8 +521,7 @@ impl Node {
                 self.state.sharding.forget(alloc);
                 self.state.runs = runs;
                 self.state.steps = steps;
-                self.request = None;
-                self.spare = Actions::empty(alloc);
+                self.reused = Reused::nothing(alloc);
                 self.failed = Some(error);
                 Err(error)
             }
@@ -674,15 +561,12 @@ impl Node {
         self.take(alloc, envelope, false)
     }
 
-    /// Takes back what a step answered: its actions are dropped, and their room serves a later step. Takes no memory, and changes
-    /// nothing that the node shows.
-    pub fn take_back(&mut self, mut actions: Actions)
+    /// Takes back what a step answered, which serves a later step: as it is, or with its actions dropped and their room alone. Takes no
+    /// memory, and changes nothing that the node shows.
+    pub fn take_back(&mut self, actions: Actions)
         ensures { self.new ≡ self.old }
     {
-        if actions.len() > 0 {
-            actions.clear();
-            self.spare = actions;
-        }
+        self.reused.take_back(actions);
     }
 
     /// The process that it is.

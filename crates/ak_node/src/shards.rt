@@ -9,6 +9,7 @@ use crate::node::State;
 use ak_address::Unique;
 use ak_field::EntityId;
 use ak_membership::Membership;
+use ak_reused::Reused;
 use ak_sharding::Around;
 use ak_singleton::Singleton;
 use ak_wire::{Actions, Message};
@@ -34,11 +35,12 @@ impl State {
         alloc: Global,
         from: &Unique,
         message: &Message,
+        reused: &mut Reused,
     ) -> Result<Actions, AllocError>
         ensures does { IfOk result (λ actions. Does (rules.shards_do (λ a s. packets.on_shard_message a from.now message.now s) self.old) self.new actions) }
         ensures same { IsSameProcess self.old self.new }
     {
-        let mut actions = Actions::empty(alloc);
+        let mut actions = reused.list(alloc);
         let around = around(&self.membership, &self.singleton);
         self.sharding
             .on_message(alloc, &around, from, message, &mut actions)?;
@@ -51,12 +53,13 @@ impl State {
         alloc: Global,
         from: &Unique,
         message: &Message,
+        reused: &mut Reused,
     ) -> Result<Actions, AllocError>
         ensures does { IfOk result (λ actions. Does (rules.on_shards from.now message.now self.old) self.new actions) }
         ensures same { IsSameProcess self.old self.new }
     {
         if self.membership.is_member() {
-            return self.on_shard_message(alloc, from, message);
+            return self.on_shard_message(alloc, from, message, reused);
         }
         Ok(Actions::empty(alloc))
     }
@@ -67,11 +70,12 @@ impl State {
         alloc: Global,
         entity: &EntityId,
         payload: u64,
+        reused: &mut Reused,
     ) -> Result<Actions, AllocError>
         ensures does { IfOk result (λ actions. Does (rules.offer entity.now payload self.old) self.new actions) }
         ensures same { IsSameProcess self.old self.new }
     {
-        let mut actions = Actions::empty(alloc);
+        let mut actions = reused.list(alloc);
         let around = around(&self.membership, &self.singleton);
         self.sharding
             .offer(alloc, &around, entity, payload, &mut actions)?;

@@ -8,11 +8,11 @@ use Rattle.ak_member.proofs.Folds.{keeps_all}
 use Rattle.ak_wire.specs.declared.action.Action.{Action}
 use Rattle.ak_wire.specs.declared.action.Action.TheVariants as action
 use Rattle.ak_wire.specs.declared.envelope.Message.TheVariants as message
-use Rattle.ak_wire.specs.declared.cover.Cover.{Cover}
 use Rattle.ak_node.specs.Node.{to_process, to_each}
+use Rattle.ak_reused.specs.Reused.{heartbeat}
 use Rattle.ak_node.proofs.SendLemmas.{done_next, done_none, done_all}
 use Rattle.ak_node.proofs.node.State.beats.Goals as goal
-use Rattle.ak_node.proofs.node.State.beats.Goals.{in-Some+in_ok-cover+in_ok-around+in_ok-push, in_default}
+use Rattle.ak_node.proofs.node.State.beats.Goals.{in-Some+in_ok-beat+in_ok-push, in_default}
 
 pub watched-init : goal.watched-init
 watched-init c =
@@ -23,9 +23,9 @@ watched-preserved c =
     let each : UniqueModel → Action = λ to. to_process c.args.self.now to message.Heartbeat in
     let whos = in_order c.watched-watched.result.now in
     elim c.match-at.branch [
-      | in-Some+in_ok-cover+in_ok-around+in_ok-push w ↦
+      | in-Some+in_ok-beat+in_ok-push w ↦
           done_next each (λ xs. xs) keeps_all whos c.watched.index w.in-Some.to.now c.watched.actions c.match-at.actions _ (ap option_to_list w.in-Some.ensures)
-          (w.actions-is ∙ (w.in_ok-push.ensures {u = tt}).ok ∙ ap (λ (a : Action). c.watched.actions ++ a ∷ []) ((w.in_ok-around.ensures {u = tt}) ∙ ap (λ (cover : Cover). action.Send (record { from = cover.from; to = cover.to; uid = cover.uid; message = message.Heartbeat })) (w.in_ok-cover.ensures {u = tt}))) c.watched.invariant
+          (w.actions-is ∙ (w.in_ok-push.ensures {u = tt}).ok ∙ ap (λ (a : Action). c.watched.actions ++ a ∷ []) ((w.in_ok-beat.ensures {u = tt}) ∙ ap (λ me. action.Send (heartbeat me w.in-Some.to.now)) w.me.ensures)) c.watched.invariant
       | in_default w ↦ done_none each (λ xs. xs) keeps_all whos c.watched.index c.watched.actions c.match-at.actions _ (ap option_to_list w.in_default.ensures) w.actions-is c.watched.invariant
     ]
 
