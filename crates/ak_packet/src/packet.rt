@@ -82,6 +82,7 @@ impl PartialEq for Packet {
 
     ghost laws = { partial_equiv_from_equiv alike_equiv };
 
+    #[inline(always)]
     fn eq(&self, other: &Packet) -> bool {
         is_alike(self.envelope.get(), other.envelope.get())
     }

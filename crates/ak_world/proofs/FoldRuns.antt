@@ -27,6 +27,7 @@ use Rattle.ak_node.proofs.StepChanges.{step_changes}
 use Rattle.ak_world.specs.World.{WorldState, Done, empty_world, recorded, with_update, stepped, starts, is_process, happens, after, run_from, run}
 use Rattle.ak_wire.specs.Wire.{sent, effects_of}
 use Rattle.ak_world.specs.Fold.{IsFold, IsIn}
+use Rattle.ak_world.specs.InRun.{StartedOnce}
 use Rattle.ak_address.proofs.Elements.{any_there, contains_at}
 use Rattle.ak_history.proofs.ViewsMerged.{view-prefix}
 use Rattle.ak_world.proofs.FoldLemmas.{CarriesFold, Packets, no_packets, more_packets, Knows, Good, BringsFold, change_good}
@@ -52,7 +53,7 @@ IsNew u nodes = (index : ℕ) (n : State) → slice_get nodes index ≡ Some n �
 pub record Sound (nodes : List State) (packets : List Envelope) (history : List Entry) : Type 0 where
   pub is_numbered : IsNumbered history
   pub each : (index : ℕ) (n : State) → slice_get nodes index ≡ Some n → Knows history (me_of n) (known n)
-  pub apart : (i j : ℕ) (n m : State) → slice_get nodes i ≡ Some n → slice_get nodes j ≡ Some m → me_of n ≡ me_of m → i ≡ j
+  pub apart : StartedOnce nodes
   pub fresh : (u : UniqueModel) → IsNew u nodes → entries_of u history ≡ 0
   pub carried : Packets history packets
 

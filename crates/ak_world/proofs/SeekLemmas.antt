@@ -19,14 +19,10 @@ use Rattle.ak_world.specs.WorldContracts.{IsReady, states}
 use Rattle.ak_world.proofs.FoldRuns.{run_sound}
 use Rattle.ak_world.proofs.InLine.{tied_is}
 use Rattle.ak_world.proofs.InRunLemmas.{run_alone}
+use Rattle.ak_world.proofs.StoredLemmas.{below}
 use Rattle.ak_world.proofs.WorldLemmas.{few_run, few_steps}
 
 -- ---- where one at most passes a test, whichever passes is the first that does
-stands_at : {X : Type 0} (xs : List X) (i : ℕ) (x : X) → slice_get xs i ≡ Some x → i < length xs
-stands_at [] i x at = absurd (none-some x at)
-stands_at (y ∷ ys) zero x at = omega arith
-stands_at (y ∷ ys) (suc i) x at = let rest = stands_at ys i x at in omega (arith, rest)
-
 first_is : {X : Type 0} (p : X → Bool) (xs : List X) (i : ℕ) (x : X) → slice_get xs i ≡ Some x → p x ≡ true → ((j : ℕ) (y : X) → slice_get xs j ≡ Some y → p y ≡ true → j ≡ i) → position_or_len p xs ≡ i
 first_is p [] i x at passes only = absurd (none-some x at)
 first_is p (y ∷ ys) zero x at passes only = ap (λ b. cond (not b) (1 + position_or_len p ys) 0) (ap p (same_Some y x at) ∙ passes)
@@ -39,7 +35,7 @@ first_is p (y ∷ ys) (suc i) x at passes only = by_case (p y) refl (first_is p 
 pub found_only : (test : NodeModel → Bool) (nodes : List NodeModel) (i : ℕ) (n : NodeModel) → OneAtMost test nodes → slice_get nodes i ≡ Some n → test n ≡ true → Some i ≡ position test nodes
 found_only test nodes i n one at passes =
     let first = first_is test nodes i n at passes (λ j m there goes. one j i m n there at goes passes) in
-    sym (ap (λ (k : ℕ). cond (ltb k (length nodes)) (Some k) None) first ∙ ap (λ b. cond b (Some i) None) (lt-ltb i (length nodes) (stands_at nodes i n at)))
+    sym (ap (λ (k : ℕ). cond (ltb k (length nodes)) (Some k) None) first ∙ ap (λ b. cond b (Some i) None) (lt-ltb i (length nodes) (below nodes i n at)))
 
 -- ---- one node is a process, and a packet reaches one
 state_at : (nodes : List NodeModel) (i : ℕ) (n : NodeModel) → slice_get nodes i ≡ Some n → slice_get (states nodes) i ≡ Some n.state
@@ -49,7 +45,7 @@ module _ (w : WorldState) (nodes : List NodeModel) (are : w.nodes ≡ states nod
   there : (i : ℕ) (n : NodeModel) → slice_get nodes i ≡ Some n → slice_get w.nodes i ≡ Some n.state
   there i n at = ap (λ (xs : List State). slice_get xs i) are ∙ state_at nodes i n at
 
-  pub one_process : StartedOnce w → (who : UniqueModel) → OneAtMost (λ (n : NodeModel). is_process who n.state) nodes
+  pub one_process : StartedOnce w.nodes → (who : UniqueModel) → OneAtMost (λ (n : NodeModel). is_process who n.state) nodes
   one_process once who i j n m at also is too = once i j n.state m.state (there i n at) (there j m also) (same_key (me_of n.state) who is ∙ sym (same_key (me_of m.state) who too))
 
   pub one_receiver : RunAlone w → (e : Envelope) → OneAtMost (λ (n : NodeModel). is_reached e n.state) nodes

@@ -59,7 +59,7 @@ there [] i lt = absurd (omega (arith, lt))
 there (y ∷ ys) zero lt = (y, refl)
 there (y ∷ ys) (suc i) lt = there ys i (omega (arith, lt))
 
-below : {X : Type 0} (xs : List X) (i : ℕ) (x : X) → slice_get xs i ≡ Some x → i < length xs
+pub below : {X : Type 0} (xs : List X) (i : ℕ) (x : X) → slice_get xs i ≡ Some x → i < length xs
 below [] i x at = absurd (not_None x (sym at))
 below (y ∷ ys) zero x at = omega arith
 below (y ∷ ys) (suc i) x at = let rest = below ys i x at in omega (arith, rest)

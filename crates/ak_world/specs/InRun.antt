@@ -46,8 +46,8 @@ abbrev pub AllServe : WorldState → Type 0
 AllServe w = (index : ℕ) (n : State) → slice_get w.nodes index ≡ Some n → ServesWhileItRuns n
 
 -- no process was started twice
-abbrev pub StartedOnce : WorldState → Type 0
-StartedOnce w = (i j : ℕ) (n m : State) → slice_get w.nodes i ≡ Some n → slice_get w.nodes j ≡ Some m → me_of n ≡ me_of m → i ≡ j
+abbrev pub StartedOnce : List State → Type 0
+StartedOnce nodes = (i j : ℕ) (n m : State) → slice_get nodes i ≡ Some n → slice_get nodes j ≡ Some m → me_of n ≡ me_of m → i ≡ j
 
 -- at one address at most one process runs
 abbrev pub RunAlone : WorldState → Type 0

@@ -92,7 +92,7 @@ Acts who w (Err why) = (e : NodeEvent) → acts e (node_of who w) w ≡ Err why
 -- few nodes were started, each one once, and each was given few events; and at one address at most one runs
 pub record IsReady (w : WorldState) : Type 0 where
   pub few_nodes : length w.nodes ≤ 64
-  pub once : StartedOnce w
+  pub once : StartedOnce w.nodes
   pub alone : RunAlone w
   pub few_steps : (index : ℕ) (n : State) → slice_get w.nodes index ≡ Some n → n.steps < 2 ^ 62
 

@@ -11,8 +11,9 @@ use ak_address::{Address, Unique};
 use ak_node::{Node, is_for};
 use ak_wire::Envelope;
 
-/// The places of the nodes that started last at each address. Addresses share one whose ports are equal and whose hosts end in the
-/// same byte. They are hints: what stands there is compared, and where it is not what is sought all nodes are looked at.
+/// The places of the nodes that started last at each address. Some addresses share one, as do those whose ports are equal and whose
+/// hosts end in the same byte. They are hints: what stands there is compared, and where it is not what is sought all nodes are
+/// looked at.
 #[derive(Drop)]
 pub(crate) struct Places {
     last: [usize; MOST_STARTS],

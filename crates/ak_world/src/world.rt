@@ -80,8 +80,8 @@ pub enum Refused {
 /// the number of the first packet that it may have sent; the packet that came, where the event is a delivery; and its actions.
 #[derive(Drop)]
 pub struct Step {
-    pub node: Option<u32>,
     pub first_packet: u64,
+    pub node: Option<u32>,
     pub arrived: Option<Packet>,
     pub actions: Actions,
 }
@@ -346,6 +346,7 @@ impl Scene {
     }
 
     // What the node at an index sends and updates is kept, after it was given a packet or another event.
+    #[inline(always)]
     fn keep(
         &mut self,
         alloc: Global,
@@ -469,6 +470,7 @@ pub(crate) fn number_of(index: usize) -> Option<u32>
 }
 
 // What the actions of the node of a start number send is kept, each packet once, and what they update is added to the history.
+#[inline(never)]
 fn keep_actions(
     alloc: Global,
     from: usize,
@@ -675,8 +677,7 @@ impl World {
         }
     }
 
-    /// Takes back what an event did: its actions are dropped, and their room serves a later event. Takes no memory, and the world
-    /// is as it was.
+    /// Takes back what an event did, which serves a later event (`Node::take_back`). Takes no memory, and the world is as it was.
     pub fn take_back(&mut self, step: Step)
         ensures { self.new ≡ self.old }
     {
