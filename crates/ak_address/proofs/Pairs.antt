@@ -1,6 +1,7 @@
 -- What is found in a list of pairs in order, at the index of a key and in two lists that are woven.
 use Rattle.std.proofs.Common.{◌≡◌, ℕ, zero, suc, ◌+◌, ◌<◌, ◌≤◌, Bool, true, false, not, cond, ◌&&◌, T, List, [], ◌∷◌, ◌++◌, length, drop, set, insert, remove, get_or, slice_get, Option, Some, None, is_some, unwrap_or, ◌≢◌, option_map, Result, Ok, Err, MatchResult, ◌⊎◌, inl, inr, drop_of_length-le, append-nil, refl, sym, ap, ◌∙◌, subst, arith}
 use Rattle.std.proofs.lemmas.Option.{slice_get_within}
+use Rattle.std.proofs.lemmas.List.{at_drop_more}
 use Rattle.std.specs.declared.cmp.Ordering.{Ordering}
 use Rattle.std.specs.declared.cmp.Ordering.TheVariants.{Less, Equal, Greater}
 use Rattle.std.specs.Ordering.{is_lt, is_gt, is_eq, ordering_reverse, eq_by_cmp}
@@ -255,6 +256,14 @@ module _ {K X : Type 0} (R : K → K → Ordering) where
 
       pub goes_between : (es : List (K × X)) (n : ℕ) → T (is_sorted R es) → Err n ≡ index R q es → IsAboveBefore es n × IsBelowFrom es n
       goes_between es n h is = subst (λ r. MatchResult r (λ n. Unit {0}) (λ n. IsAboveBefore es n × IsBelowFrom es n)) (sym is) (between es h)
+
+  -- ---- a look at each pair
+  -- the pairs from an index on have at a key what the first of them has, where the keys tie, and else what those after it have
+  pub find_from : (q : K) (es : List (K × X)) (i : ℕ) (e : K × X) (b : Bool) → i < length es → e ≡ get_or es i e → b ≡ is_eq (R q e.0) → find R q (drop i es) ≡ cond b (Some e.1) (find R q (drop (i + 1) es))
+  find_from q es i e b within at tied =
+      at_drop_more (find R q) es i e within
+      ∙ ap (λ (d : K × X). cond (is_eq (R q d.0)) (Some d.1) (find R q (drop (i + 1) es))) (sym at)
+      ∙ ap (λ (b : Bool). cond b (Some e.1) (find R q (drop (i + 1) es))) (sym tied)
 
   -- what is found stands at some index, where only equal keys tie
   pub index_of_found : IsAntisymmetric R → (q : K) (v : X) (es : List (K × X)) → find R q es ≡ Some v → (i : ℕ) × (slice_get es i ≡ Some (q, v))

@@ -59,6 +59,9 @@ impl<V> Model for Table<V> {
     ghost invariant = { λ t. IsTrue (map.is_sorted unique_cmp t.entries.items) };
 }
 
+// Of so few processes each is looked at sooner than they are searched by halves.
+const FEW: usize = 8;
+
 impl<V> Table<V> {
     /// The table that has no process. Takes no memory.
     pub fn empty(alloc: Global) -> Self
@@ -82,13 +85,6 @@ impl<V> Table<V> {
         ensures { option_copied result ≡ map.get self.now who.now }
     {
         value_of(&self.entries, who)
-    }
-
-    /// The process as the table has it, and what it has at it; none where it has nothing. Takes no memory.
-    pub fn find(&self, who: &Unique) -> Option<(&Unique, &V)>
-        ensures { option_map (λ pair. (pair.0.now, pair.1.now)) result ≡ option_map {U = UniqueModel × V} (λ v. (who.now, v)) (map.get self.now who.now) }
-    {
-        pair_of(&self.entries, who)
     }
 
     /// How many processes it has.
@@ -285,24 +281,25 @@ fn value_of<'a, V>(entries: &'a [(Unique, V)], who: &Unique) -> Option<&'a V>
     requires { IsTrue (map.is_sorted unique_cmp entries.now) }
     ensures { option_copied result ≡ map.find unique_cmp who.now entries.now }
 {
+    if entries.len() <= FEW {
+        return value_along(entries, who);
+    }
     match index_of(entries, who) {
         Ok(index) => Some(&entries[index].1),
         Err(_) => None,
     }
 }
 
-// The pair of the process.
-fn pair_of<'a, V>(entries: &'a [(Unique, V)], who: &Unique) -> Option<(&'a Unique, &'a V)>
-    requires { IsTrue (map.is_sorted unique_cmp entries.now) }
-    ensures { option_map (λ pair. (pair.0.now, pair.1.now)) result ≡ option_map {U = UniqueModel × V} (λ v. (who.now, v)) (map.find unique_cmp who.now entries.now) }
+// The same by a look at each pair.
+fn value_along<'a, V>(entries: &'a [(Unique, V)], who: &Unique) -> Option<&'a V>
+    ensures { option_copied result ≡ map.find unique_cmp who.now entries.now }
 {
-    match index_of(entries, who) {
-        Ok(index) => {
-            let entry = &entries[index];
-            Some((&entry.0, &entry.1))
+    'entries: for entry in entries {
+        if who.is(&entry.0) {
+            return Some(&entry.1);
         }
-        Err(_) => None,
     }
+    None
 }
 
 // Raises the value of each pair.

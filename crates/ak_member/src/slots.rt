@@ -128,13 +128,14 @@ impl Slots {
     }
 
     /// The process as its slot has it, and what is known of it; none where it has no slot. Takes no memory.
+    #[inline(always)]
     pub(crate) fn find(&self, who: &Unique) -> Option<(&Unique, &Standing)>
         ensures { option_map (λ pair. (pair.0.now, pair.1.now)) result ≡ option_map {U = UniqueModel × Standing} (λ x. (who.now, x)) (map.get (standings_of self.now.entries) who.now) }
     {
         if self.slots.len() <= FEW {
             return found_along(&self.slots, who);
         }
-        self.slots.get_key_value(who)
+        found_by_hash(&self.slots, who)
     }
 
     /// The process of a slot, and what is known of it; none past the last. Takes no memory.
@@ -254,7 +255,19 @@ fn process_of(slots: &IndexMap<Unique, Standing>, slot: usize) -> Option<&Unique
     }
 }
 
-// The process and what is known of it, as its hash finds them, by a look at each slot.
+// The process and what is known of it. Apart, so that a walk along few slots stays small.
+#[inline(never)]
+fn found_by_hash<'a>(
+    slots: &'a IndexMap<Unique, Standing>,
+    who: &Unique,
+) -> Option<(&'a Unique, &'a Standing)>
+    ensures { option_map (λ pair. (pair.0.now, pair.1.now)) result ≡ option_map {U = UniqueModel × Standing} (λ x. (who.now, x)) (map.get (standings_of slots.now.entries) who.now) }
+{
+    slots.get_key_value(who)
+}
+
+// The same by a look at each slot.
+#[inline(always)]
 fn found_along<'a>(
     slots: &'a IndexMap<Unique, Standing>,
     who: &Unique,
