@@ -4,7 +4,7 @@ ghost use Rattle.std.specs.Prelude.{◌≡◌, ◌↔◌, IfOk, IsTrue};
 ghost use Rattle.ak_reused.specs.Reused.{heartbeat, request};
 
 use ak_address::{Address, Unique};
-use ak_wire::{Envelope, Message, SharedEnvelope};
+use ak_wire::{Cover, Envelope, Message, SharedEnvelope};
 use std::alloc::{AllocError, Global};
 
 /// The packet is a request of this process to be let in at this address.
@@ -37,15 +37,7 @@ pub(crate) fn new_request(
 ) -> Result<SharedEnvelope, AllocError>
     ensures { IfOk result (λ sent. sent ≡ request from.now to.now) }
 {
-    let from = from.copy(alloc)?;
-    let to = to.copy(alloc)?;
-    let envelope = Envelope {
-        from,
-        to,
-        uid: 0,
-        message: Message::Join,
-    };
-    SharedEnvelope::of(alloc, envelope)
+    Cover::to_any(alloc, from, to)?.packet(alloc, Message::Join)
 }
 
 /// A heartbeat from one process to another.
@@ -56,13 +48,5 @@ pub(crate) fn new_beat(
 ) -> Result<SharedEnvelope, AllocError>
     ensures { IfOk result (λ sent. sent ≡ heartbeat from.now to.now) }
 {
-    let from = from.copy(alloc)?;
-    let address = to.address.copy(alloc)?;
-    let envelope = Envelope {
-        from,
-        to: address,
-        uid: to.uid,
-        message: Message::Heartbeat,
-    };
-    SharedEnvelope::of(alloc, envelope)
+    Cover::between(alloc, from, to)?.packet(alloc, Message::Heartbeat)
 }

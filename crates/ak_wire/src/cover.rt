@@ -29,9 +29,18 @@ impl Cover {
         })
     }
 
-    /// The action that sends the message so. Only memory can fail.
-    pub fn around(self, alloc: Global, message: Message) -> Result<Action, AllocError>
-        ensures { IfOk result (λ action. action ≡ Action.Send (record { from = self.from; to = self.to; uid = self.uid; message = message })) }
+    /// From a process to whichever one is at an address. Only memory can fail.
+    pub fn to_any(alloc: Global, from: &Unique, to: &Address) -> Result<Cover, AllocError>
+        ensures { IfOk result (λ cover. cover ≡ record { from = from.now; to = to.now; uid = 0 }) }
+    {
+        let from = from.copy(alloc)?;
+        let to = to.copy(alloc)?;
+        Ok(Cover { from, to, uid: 0 })
+    }
+
+    /// The packet with the message so. Only memory can fail.
+    pub fn packet(self, alloc: Global, message: Message) -> Result<SharedEnvelope, AllocError>
+        ensures { IfOk result (λ packet. packet ≡ record { from = self.from; to = self.to; uid = self.uid; message = message }) }
     {
         let Cover { from, to, uid } = self;
         let envelope = Envelope {
@@ -40,6 +49,13 @@ impl Cover {
             uid,
             message,
         };
-        Ok(Action::Send(SharedEnvelope::of(alloc, envelope)?))
+        SharedEnvelope::of(alloc, envelope)
+    }
+
+    /// The action that sends the message so. Only memory can fail.
+    pub fn around(self, alloc: Global, message: Message) -> Result<Action, AllocError>
+        ensures { IfOk result (λ action. action ≡ Action.Send (record { from = self.from; to = self.to; uid = self.uid; message = message })) }
+    {
+        Ok(Action::Send(self.packet(alloc, message)?))
     }
 }
