@@ -90,8 +90,9 @@ fn candidate_at_pair<'a>(
 {
     match members.member_at_pair(pair) {
         Some(member) => {
-            if is_reachable_other(members, rows, me, member.unique)
-                && !is_passed_over(seen, member.unique)
+            // The set is asked first: the rows of observers are walked only for whoever is left.
+            if !is_passed_over(seen, member.unique)
+                && is_reachable_other(members, rows, me, member.unique)
             {
                 return Some(member.unique);
             }
