@@ -1,5 +1,5 @@
 -- Which event comes next in a generated schedule, by what is seen of the world and by words (this project's choice).
-use Rattle.std.specs.Prelude.{◌≡◌, ℕ, ◌≤◌, ◌+◌, ◌-◌, ◌%◌, min, Bool, false, not, ◌&&◌, ◌==◌, nat_lt, nat_le, List, [], ◌∷◌, slice_get, Option, None, Some, decimal, option_and_then, if◌then◌else◌}
+use Rattle.std.specs.Prelude.{◌≡◌, ℕ, ◌≤◌, ◌+◌, ◌-◌, ◌%◌, min, Bool, true, false, not, ◌&&◌, ◌==◌, nat_lt, nat_le, List, [], ◌∷◌, slice_get, Option, None, Some, decimal, option_and_then, if◌then◌else◌}
 use Rattle.std.specs.List.{list_any}
 use Rattle.std.specs.Option.{option_map}
 use Rattle.std.specs.Ordering.{is_eq}
@@ -39,6 +39,10 @@ choice_of c =
     else (if c == 95 then Stop
     else (if nat_le c 97 then Start
     else Join))))))
+
+abbrev pub is_delivery : Choice → Bool
+is_delivery Deliver = true
+is_delivery _ = false
 
 -- ---- events
 -- a tick stands for an event that may not happen

@@ -1,5 +1,5 @@
 ghost use Rattle.std.specs.Prelude.{◌≡◌, ◌%◌};
-ghost use Rattle.ak_generate.specs.Generated.{choice_of};
+ghost use Rattle.ak_generate.specs.Generated.{choice_of, is_delivery};
 
 // Which event a word chooses, where a process runs.
 #[derive(Clone, Copy)]
@@ -12,6 +12,18 @@ pub(crate) enum Choice {
     Stop,
     Start,
     Join,
+}
+
+impl Choice {
+    // A packet is delivered.
+    pub(crate) fn is_delivery(self) -> bool
+        ensures { result ≡ is_delivery self }
+    {
+        match self {
+            Choice::Deliver => true,
+            _ => false,
+        }
+    }
 }
 
 // Of a hundred words one after another 35 choose a tick, 55 a delivery, 3 an offer, one each a leave, a down and a stop, and

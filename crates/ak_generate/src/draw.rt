@@ -4,7 +4,9 @@ ghost use Rattle.ak_generate.specs.Generated as rules;
 ghost use Rattle.ak_generate.specs.Words.{drawn, moved, words_of};
 
 use crate::choice::{Choice, choice_of};
-use crate::event::{MOST_STARTS, deliver, down, join, leave, offer, start, start_anew, stop, tick};
+use crate::event::{
+    MOST_STARTS, deliver, delivery, down, join, leave, offer, start, start_anew, stop, tick,
+};
 use crate::sight::Sight;
 use ak_address::{Unique, Uniques};
 use ak_schedule::Event;
@@ -46,6 +48,10 @@ pub(crate) fn later_event(
     }
     let choice = choice_of(draw(words));
     let place = draw(words);
+    // A packet is delivered by its number: where one was sent nobody need be chosen, which takes a division.
+    if choice.is_delivery() && sight.packets != 0 {
+        return Ok(Some(delivery(draw(words), sight.packets)));
+    }
     match chosen(place, &sight.running) {
         Some(who) => chosen_event(alloc, choice, words, sight, who),
         None => Ok(None),

@@ -1,4 +1,4 @@
-ghost use Rattle.std.specs.Prelude.{◌≡◌, ◌<◌, ◌∷◌, decimal, Some, IfOk, option_copied, slice_get};
+ghost use Rattle.std.specs.Prelude.{◌≡◌, ◌<◌, ◌≤◌, ◌-◌, ◌%◌, ◌∷◌, min, decimal, Some, IfOk, option_copied, slice_get};
 ghost use Rattle.std.specs.Option.{option_map};
 ghost use Rattle.ak_address.specs.Unique.{UniqueModel};
 ghost use Rattle.ak_generate.specs.Generated as rules;
@@ -66,7 +66,16 @@ pub(crate) fn tick(alloc: Global, word: u32, who: &Unique) -> Result<Option<Even
     Ok(Some(Event::Tick(who, word)))
 }
 
-// One of the last packets arrives.
+// One of the last packets arrives, of so many, at least one.
+pub(crate) fn delivery(word: u32, packets: u64) -> Event
+    requires { 1 ≤ packets }
+    ensures { result ≡ Event.Deliver (packets - word % min 40 packets) }
+{
+    let back = u64::from(word) % packets.min(RECENT);
+    Event::Deliver(packets - back)
+}
+
+// One of the last packets arrives, if one was sent.
 pub(crate) fn deliver(
     alloc: Global,
     word: u32,
@@ -75,12 +84,10 @@ pub(crate) fn deliver(
 ) -> Result<Option<Event>, AllocError>
     ensures { IfOk result (λ event. event ≡ Some (rules.delivers sight.now word who.now)) }
 {
-    let packets = sight.packets;
-    if packets == 0 {
+    if sight.packets == 0 {
         return tick(alloc, 0, who);
     }
-    let back = u64::from(word) % packets.min(RECENT);
-    Ok(Some(Event::Deliver(packets - back)))
+    Ok(Some(delivery(word, sight.packets)))
 }
 
 // The entity of a number.
