@@ -20,7 +20,6 @@ pub mod HeldInOrder
 pub mod InLine
 pub mod InRunLemmas
 pub mod IndexLemmas
-pub mod KeptLemmas
 pub mod ListedTables
 pub mod MadeFrom
 pub mod MarginRuns

@@ -418,7 +418,3 @@ at-ok (Err y) P e p = absurd (true≢false (sym e))
 pub on-ok : {X Y P : Type 0} (r : Result X Y) → P → OnOk r P
 on-ok (Ok x) p = p
 on-ok (Err y) p = tt
-
-pub on-err : {X Y P : Type 0} (r : Result X Y) → P → OnErr r P
-on-err (Ok x) p = tt
-on-err (Err y) p = p

@@ -4,7 +4,6 @@ pub mod Fold
 pub mod Held
 pub mod Homes
 pub mod InRun
-pub mod Kept
 pub mod Margin
 pub mod MarginMark
 pub mod Noting

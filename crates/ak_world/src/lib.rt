@@ -2,7 +2,6 @@
 #![tactic(auto)]
 
 mod double;
-mod kept;
 mod laws;
 mod margin;
 mod marks;

@@ -1,16 +1,17 @@
 //! What a world keeps in mind of its events: whether the removal margin was kept, and the first double.
 
-ghost use Rattle.std.specs.Prelude.{◌≡◌, ◌+◌, ◌<◌, ◌≤◌, ◌^◌, ◌++◌, ◌∷◌, [], length, OnOk, OnErr};
+ghost use Rattle.std.specs.Prelude.{◌≡◌, ◌+◌, ◌<◌, ◌≤◌, ◌^◌, ◌++◌, ◌∷◌, [], length, None, OnOk, OnErr};
 ghost use Rattle.std.specs.Option.{option_map};
 ghost use Rattle.std.specs.List.{list_any};
+ghost use Rattle.ak_world.specs.declared.margin.Margin.TheVariants.{Kept};
 ghost use Rattle.ak_world.specs.MarginMark as mark;
 ghost use Rattle.ak_world.specs.DoubleMark.{NextDouble};
 ghost use Rattle.ak_world.specs.WorldContracts.{state_of, doubled_of};
 
 use crate::double::Double;
-use crate::kept::Accepted;
 use crate::margin::Margin;
 use crate::world::{Scene, Step};
+use ak_accepted::Accepted;
 use ak_schedule::Event;
 use ak_wire::Action;
 use std::alloc::{AllocError, Global};
@@ -20,6 +21,19 @@ use std::alloc::{AllocError, Global};
 pub(crate) struct Marks {
     pub(crate) margin: Margin,
     pub(crate) double: Option<Double>,
+}
+
+impl Marks {
+    /// Those of no event.
+    pub(crate) fn none() -> Marks
+        ensures margin { result.margin ≡ Kept }
+        ensures double { result.double ≡ None }
+    {
+        Marks {
+            margin: Margin::Kept,
+            double: None,
+        }
+    }
 }
 
 // The action is one that may break the margin or make a double.

@@ -28,11 +28,11 @@ ghost use Rattle.ak_world.specs.DoubleMark.{NextDouble};
 ghost use Rattle.ak_world.specs.Stored.{AreToldApart, LeavesToldApart, different};
 
 use crate::double::{Double, first_made};
-use crate::kept::Accepted;
 use crate::margin::{Margin, first_end};
 use crate::marks::{Marks, keep_step};
 use crate::packets::Packets;
 use crate::seek::{Places, is_in_use, node_near, node_of, receiver_near};
+use ak_accepted::Accepted;
 use ak_address::{Address, Unique};
 use ak_field::EntityId;
 use ak_history::History;
@@ -80,6 +80,8 @@ pub enum Refused {
 /// the number of the first packet that it may have sent; the packet that came, where the event is a delivery; and its actions.
 #[derive(Drop)]
 pub struct Step {
+    // The first field, since a tag of one byte stands before it in an answer: after that byte a smaller field would be written in
+    // pieces and read at once, for which a processor waits.
     pub first_packet: u64,
     pub node: Option<u32>,
     pub arrived: Option<Packet>,
@@ -583,12 +585,21 @@ impl World {
         World {
             scene,
             accepted: Accepted::none(alloc),
-            marks: Marks {
-                margin: Margin::Kept,
-                double: None,
-            },
+            marks: Marks::none(),
             failed: None,
         }
+    }
+
+    /// The world in which nothing has happened, under these settings, again: the room that its nodes, packets and events took
+    /// serves those that come. Takes no memory, and a spent world is spent no more.
+    pub fn renew(&mut self, alloc: Global, settings: Settings)
+        ensures { self.new ≡ record { settings = settings; state = rules.empty_world; events = []; spent = false } }
+    {
+        self.scene.clear(alloc);
+        self.scene.settings = settings;
+        self.accepted.clear();
+        self.marks = Marks::none();
+        self.failed = None;
     }
 
     /// Applies one event, or says why it is refused: the first reason of `Reason` that applies, whether or not memory

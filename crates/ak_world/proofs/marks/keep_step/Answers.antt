@@ -4,7 +4,8 @@ use Rattle.std.specs.Option.{option_map}
 use Rattle.ak_world.specs.MarginMark.{may_mark}
 use Rattle.ak_world.specs.WorldContracts.{doubled_of, state_of, states}
 use Rattle.ak_world.proofs.Unmarked.{margin_stays, double_stays}
-use Rattle.ak_world.proofs.WorldLemmas.{on-ok, on-err}
+use Rattle.ak_accepted.proofs.AcceptedLemmas.{on-err}
+use Rattle.ak_world.proofs.WorldLemmas.{on-ok}
 use Rattle.ak_world.proofs.marks.keep_step.Goals as goal
 
 pub returns-then-not-any_may_mark : goal.returns-then-not-any_may_mark

@@ -1,6 +1,6 @@
 use Rattle.std.proofs.Common.{rules, length, sym, ap, ◌∙◌}
-use Rattle.ak_world.proofs.KeptLemmas.{length-events}
-use Rattle.ak_world.proofs.kept.Accepted.len.Goals as goal
+use Rattle.ak_accepted.proofs.AcceptedLemmas.{length-events}
+use Rattle.ak_accepted.proofs.accepted.Accepted.len.Goals as goal
 
 pub returns : goal.returns
 returns c =

@@ -1,9 +1,9 @@
 use Rattle.std.proofs.Common.{List, [], ◌∷◌, ◌++◌, sym, subst, ap, ◌∙◌}
 use Rattle.ak_schedule.specs.declared.event.Event.{Event}
-use Rattle.ak_world.specs.Kept.{events_of, AreKept}
-use Rattle.ak_world.proofs.KeptLemmas.{events_grown, kept_grown, events_pushed, kept_pushed}
-use Rattle.ak_world.proofs.WorldLemmas.{on-err}
-use Rattle.ak_world.proofs.kept.Accepted.push_named.Goals as goal
+use Rattle.ak_accepted.specs.Accepted.{events_of, AreKept}
+use Rattle.ak_accepted.proofs.AcceptedLemmas.{events_grown, kept_grown, events_pushed, kept_pushed}
+use Rattle.ak_accepted.proofs.AcceptedLemmas.{on-err}
+use Rattle.ak_accepted.proofs.accepted.Accepted.push_named.Goals as goal
 
 pub invariant_of-self : goal.invariant_of-self
 invariant_of-self c =

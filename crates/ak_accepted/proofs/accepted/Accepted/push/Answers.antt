@@ -1,9 +1,9 @@
 use Rattle.std.proofs.Common.{List, [], ◌∷◌, ◌++◌, Some, sym, subst, ap, ◌∙◌}
 use Rattle.ak_schedule.specs.declared.event.Event.{Event}
-use Rattle.ak_world.specs.declared.kept.Form.TheVariants.{Deliver}
-use Rattle.ak_world.specs.Kept.{events_of, AreKept}
-use Rattle.ak_world.proofs.KeptLemmas.{events_pushed, kept_pushed}
-use Rattle.ak_world.proofs.kept.Accepted.push.Goals as goal
+use Rattle.ak_accepted.specs.declared.accepted.Form.TheVariants.{Deliver}
+use Rattle.ak_accepted.specs.Accepted.{events_of, AreKept}
+use Rattle.ak_accepted.proofs.AcceptedLemmas.{events_pushed, kept_pushed}
+use Rattle.ak_accepted.proofs.accepted.Accepted.push.Goals as goal
 
 pub invariant_of-self-2 : goal.invariant_of-self-2
 invariant_of-self-2 c =

@@ -1,14 +1,12 @@
 -- Kept events stay what they are as more is named, and one more is kept.
-use Rattle.std.proofs.Common.{◌≡◌, ◌≢◌, ℕ, zero, suc, List, [], ◌∷◌, ◌++◌, length, slice_get, Option, None, Some, refl, sym, ap, subst, ◌∙◌}
+use Rattle.std.proofs.Common.{◌≡◌, ◌≢◌, ℕ, zero, suc, List, [], ◌∷◌, ◌++◌, length, slice_get, Option, None, Some, option_to_list, Result, Ok, Err, OnErr, append_assoc, refl, sym, ap, subst, ◌∙◌}
 use Rattle.std.specs.Option.{option_map}
 use Rattle.ak_address.proofs.Pairs.{not_None}
 use Rattle.ak_schedule.specs.declared.event.Event.{Event}
-use Rattle.ak_wire.specs.Wire.{put}
-use Rattle.ak_world.specs.declared.kept.Form.{Form}
-use Rattle.ak_world.specs.declared.kept.Form.TheVariants.{Start, Found, Join, Tick, Deliver, Leave, Down, Offer, Stop}
-use Rattle.ak_world.specs.declared.kept.Part.{Part}
-use Rattle.ak_world.proofs.StoredLemmas.{holds_more, put-append}
-use Rattle.ak_world.specs.Kept.{process_in, target_in, offered_in, of_both, event_of, events_of, AreKept, Grows}
+use Rattle.ak_accepted.specs.declared.accepted.Form.{Form}
+use Rattle.ak_accepted.specs.declared.accepted.Form.TheVariants.{Start, Found, Join, Tick, Deliver, Leave, Down, Offer, Stop}
+use Rattle.ak_accepted.specs.declared.accepted.Part.{Part}
+use Rattle.ak_accepted.specs.Accepted.{process_in, target_in, offered_in, of_both, event_of, events_of, AreKept, Grows}
 
 -- ---- what was named stays at its place
 stays : (parts more : List Part) (place : ℕ) → slice_get parts place ≢ None → slice_get (parts ++ more) place ≡ slice_get parts place
@@ -58,7 +56,7 @@ module _ (parts more : List Part) where
 
   events_stay : (forms : List Form) → AreKept parts forms → events_of (parts ++ more) forms ≡ events_of parts forms
   events_stay [] kept = refl
-  events_stay (form ∷ forms) kept = λ i. put ((event_stays form kept.0.0 kept.0.1 ∙ sym kept.0.1) i) (events_stay forms kept.1 i)
+  events_stay (form ∷ forms) kept = λ i. option_to_list ((event_stays form kept.0.0 kept.0.1 ∙ sym kept.0.1) i) ++ events_stay forms kept.1 i
 
   kept_stay : (forms : List Form) → AreKept parts forms → AreKept (parts ++ more) forms
   kept_stay [] kept = tt
@@ -72,12 +70,17 @@ kept_grown old new forms grows kept = subst (λ (parts : List Part). AreKept par
 
 -- ---- one more event
 pub events_pushed : (parts : List Part) (forms : List Form) (form : Form) (e : Event) → event_of parts form ≡ Some e → events_of parts (forms ++ form ∷ []) ≡ events_of parts forms ++ e ∷ []
-events_pushed parts [] form e is = ap (λ (o : Option Event). put o []) is
-events_pushed parts (f ∷ fs) form e is = ap (put (event_of parts f)) (events_pushed parts fs form e is) ∙ put-append (event_of parts f) (events_of parts fs) (e ∷ [])
+events_pushed parts [] form e is = ap (λ (o : Option Event). option_to_list o ++ []) is
+events_pushed parts (f ∷ fs) form e is = ap (λ (es : List Event). option_to_list (event_of parts f) ++ es) (events_pushed parts fs form e is) ∙ sym (append_assoc (option_to_list (event_of parts f)) (events_of parts fs) (e ∷ []))
 
 pub kept_pushed : (parts : List Part) (forms : List Form) (form : Form) (e : Event) → event_of parts form ≡ Some e → AreKept parts forms → AreKept parts (forms ++ form ∷ [])
-kept_pushed parts forms form e is kept = holds_more (λ (f : Form). (e : Event) × (event_of parts f ≡ Some e)) forms form kept (e, is)
+kept_pushed parts [] form e is kept = ((e, is), tt)
+kept_pushed parts (f ∷ fs) form e is kept = (kept.0, kept_pushed parts fs form e is kept.1)
 
 pub length-events : (parts : List Part) (forms : List Form) → AreKept parts forms → length (events_of parts forms) ≡ length forms
 length-events parts [] kept = refl
-length-events parts (f ∷ fs) kept = ap (λ (o : Option Event). length (put o (events_of parts fs))) kept.0.1 ∙ ap suc (length-events parts fs kept.1)
+length-events parts (f ∷ fs) kept = ap (λ (o : Option Event). length (option_to_list o ++ events_of parts fs)) kept.0.1 ∙ ap suc (length-events parts fs kept.1)
+
+pub on-err : {X Y P : Type 0} (r : Result X Y) → P → OnErr r P
+on-err (Ok x) p = tt
+on-err (Err y) p = p

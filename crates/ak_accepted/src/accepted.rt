@@ -1,7 +1,5 @@
-//! What a world keeps of the events that it accepted.
-
 ghost use Rattle.std.specs.Prelude.{◌≡◌, ◌++◌, ◌∷◌, [], length, slice_get, Some, IsTrue, IfOk, IfSome, OnOk, OnErr};
-ghost use Rattle.ak_world.specs.Kept.{event_of, process_at, target_at, offered_at, Grows};
+ghost use Rattle.ak_accepted.specs.Accepted.{event_of, process_at, target_at, offered_at, Grows};
 
 use ak_address::{Address, Unique};
 use ak_field::EntityId;
@@ -44,6 +42,16 @@ impl Parts {
             others: Vec::new(alloc),
             targets: Vec::new(alloc),
         }
+    }
+
+    // Nothing is named any more.
+    fn clear(&mut self)
+        ensures { self.new.list.items ≡ [] }
+    {
+        self.list.clear();
+        self.started.clear();
+        self.others.clear();
+        self.targets.clear();
     }
 
     // The place of one more. Only memory can fail.
@@ -221,7 +229,7 @@ fn form_of(
 
 /// The events that a world accepted, in as little memory as they can be kept. Contracts see the events.
 #[derive(Drop)]
-pub(crate) struct Accepted {
+pub struct Accepted {
     forms: Vec<Form>,
     parts: Parts,
 }
@@ -231,7 +239,7 @@ impl Model for Accepted {
     ghost use Rattle.std.specs.Coded.{codes};
     ghost use Rattle.ak_address.specs.Unique.{coded_address, coded_unique};
     ghost use Rattle.ak_schedule.specs.declared.event.Event.{Event};
-    ghost use Rattle.ak_world.specs.Kept.{events_of, AreKept};
+    ghost use Rattle.ak_accepted.specs.Accepted.{events_of, AreKept};
 
     ghost Value = { List Event };
 
@@ -244,7 +252,7 @@ impl Model for Accepted {
 
 impl Accepted {
     /// No event. Takes no memory.
-    pub(crate) fn none(alloc: Global) -> Accepted
+    pub fn none(alloc: Global) -> Accepted
         ensures { result ≡ [] }
     {
         Accepted {
@@ -253,16 +261,25 @@ impl Accepted {
         }
     }
 
+    /// No event any more; the room that they took is kept. Takes no memory.
+    pub fn clear(&mut self)
+        ensures { self.new ≡ [] }
+    {
+        self.forms.clear();
+        self.parts.clear();
+    }
+
     /// How many events there are.
-    pub(crate) fn len(&self) -> u64
+    pub fn len(&self) -> u64
         ensures { result ≡ length self.now }
     {
         self.forms.len() as u64
     }
 
-    /// One more event, of the node of this start number. An error leaves the events as they were; only memory can fail.
+    /// One more event, of the node of this start number, if it is of one: where the one that acts was named is sought there first, and
+    /// the event is kept whatever the number is. An error leaves the events as they were; only memory can fail.
     #[inline(always)]
-    pub(crate) fn push(
+    pub fn push(
         &mut self,
         alloc: Global,
         event: &Event,

@@ -1,15 +1,14 @@
 -- The events that are kept, with the places of what they name.
-use Rattle.std.specs.Prelude.{◌≡◌, ℕ, List, [], ◌∷◌, ◌++◌, slice_get, Option, None, Some}
+use Rattle.std.specs.Prelude.{◌≡◌, ℕ, List, [], ◌∷◌, ◌++◌, slice_get, Option, None, Some, option_to_list}
 use Rattle.std.specs.Option.{option_map}
 use Rattle.std.specs.List.{AllByRecursion}
 use Rattle.ak_address.specs.Unique.{AddressModel, UniqueModel}
 use Rattle.ak_schedule.specs.declared.event.Event.{Event}
 use Rattle.ak_schedule.specs.declared.event.Event.TheVariants as event
-use Rattle.ak_wire.specs.Wire.{put}
-use Rattle.ak_world.specs.declared.kept.Form.{Form}
-use Rattle.ak_world.specs.declared.kept.Form.TheVariants.{Start, Found, Join, Tick, Deliver, Leave, Down, Offer, Stop}
-use Rattle.ak_world.specs.declared.kept.Part.{Part}
-use Rattle.ak_world.specs.declared.kept.Part.TheVariants.{Process, Target, Offered}
+use Rattle.ak_accepted.specs.declared.accepted.Form.{Form}
+use Rattle.ak_accepted.specs.declared.accepted.Form.TheVariants.{Start, Found, Join, Tick, Deliver, Leave, Down, Offer, Stop}
+use Rattle.ak_accepted.specs.declared.accepted.Part.{Part}
+use Rattle.ak_accepted.specs.declared.accepted.Part.TheVariants.{Process, Target, Offered}
 
 -- what is named, where it is of that kind
 abbrev pub process_in : Option Part → Option UniqueModel
@@ -54,7 +53,7 @@ event_of parts (Stop who) = option_map (λ u. event.Stop u) (process_at parts wh
 -- the events, in their order
 abbrev pub events_of : List Part → List Form → List Event
 events_of parts [] = []
-events_of parts (form ∷ forms) = put (event_of parts form) (events_of parts forms)
+events_of parts (form ∷ forms) = option_to_list (event_of parts form) ++ events_of parts forms
 
 -- each is an event
 abbrev pub AreKept : List Part → List Form → Type 0
