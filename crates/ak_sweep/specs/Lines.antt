@@ -1,7 +1,5 @@
 -- The lines of a sweep: for each seed one, in the order of the seeds (this project's choice).
-use Rattle.std.specs.Prelude.{◌≡◌, ℕ, zero, suc, ◌+◌, ◌-◌, ◌*◌, ◌^◌, ◌<◌, ◌≤◌, min, List, [], ◌∷◌, length, slice_get, Some, Result, Ok}
-use Rattle.std.specs.Fn.{Shared, FnReturns}
-use Rattle.std.specs.declared.alloc.AllocError.{AllocError}
+use Rattle.std.specs.Prelude.{◌≡◌, ℕ, zero, suc, ◌+◌, ◌-◌, ◌*◌, ◌^◌, ◌<◌, min, List, [], ◌∷◌, length, slice_get, Some}
 use Rattle.ak_sweep.specs.declared.line.Line.{Line}
 
 -- the lines of so many seeds from the first one on, where each has this one
@@ -14,15 +12,12 @@ lines_from answer first (suc count) = answer first ∷ lines_from answer (first 
 abbrev pub start_of : ℕ → ℕ → ℕ → ℕ
 start_of size count part = min (part * size) count
 
-module _ {F : Type 0} (job : Shared F (ℕ × Unit {0}) (Result Line AllocError)) (f : F) where
-  -- the job may answer this line for the seed
-  abbrev pub MayAnswer : ℕ → Line → Type 0
-  MayAnswer seed line = FnReturns job f (seed, tt) (Ok line)
-
+-- of a job the lines that may be its answer for a seed are given
+module _ (answers : ℕ → Line → Type 0) where
   -- there is a line for each of so many seeds from the first one on, and it is an answer of the job for its seed
   pub record AreLines (first count : ℕ) (lines : List Line) : Type 0 where
     pub many : length lines ≡ count
-    pub each : (index : ℕ) (line : Line) → slice_get lines index ≡ Some line → MayAnswer (first + index) line
+    pub each : (index : ℕ) (line : Line) → slice_get lines index ≡ Some line → answers (first + index) line
 
   -- they are the lines of a part
   abbrev pub AreLinesOfPart : ℕ → ℕ → ℕ → ℕ → List Line → Type 0
@@ -30,11 +25,10 @@ module _ {F : Type 0} (job : Shared F (ℕ × Unit {0}) (Result Line AllocError)
 
   -- the job has one answer for each seed
   abbrev pub AnswersAs : (ℕ → Line) → Type 0
-  AnswersAs answer = (seed : ℕ) (line : Line) → MayAnswer seed line → line ≡ answer seed
+  AnswersAs answer = (seed : ℕ) (line : Line) → answers seed line → line ≡ answer seed
 
--- a part of few and short ones, in which the job may be called for each seed
-pub record IsPart {F : Type 0} (may_call : F → ℕ × Unit {0} → Type 0) (f : F) (first count size part : ℕ) : Type 0 where
+-- a part of few and short ones
+pub record IsPart (first count size part : ℕ) : Type 0 where
   pub seeds : first + count < 2 ^ 64
   pub few : part < 64
   pub short : size < 2 ^ 33
-  pub callable : (seed : ℕ) → first ≤ seed → seed < first + count → may_call f (seed, tt)

@@ -15,6 +15,7 @@ use Rattle.ak_sweep.specs.declared.line.Line.{Line}
 use Rattle.ak_sweeps.specs.RunContracts.{WritesLines}
 use Rattle.ak_outside.specs.Endings.{Written, memory_line}
 use Rattle.ak_sweeps.specs.SweepPromise.{status_of, Ends, RunsOut, Sweeps, IsCompleted}
+use Rattle.ak_sweeps.proofs.SweepLines.{no_lines}
 use Rattle.ak_sweeps.specs.SweepText.{AreLines, line_text, lines_text, totals_text, sweep_text}
 
 -- the texts of these lines are written, since the start, or stand in what is printed
@@ -98,9 +99,6 @@ first_lines first count most lines done few are = record {
   many = length-take-le done lines few;
   each = λ index line at. are.each index line (taken_at lines done index line at);
 }
-
-pub no_lines : (first most : ℕ) → AreLines first 0 most []
-no_lines first most = record { many = refl; each = λ index line at. absurd (cc) }
 
 pub swept : (first count most : ℕ) (lines : List Line) (answer : Status) (w0 w1 : ℕ) (old new : Option (List ℕ)) → AreLines first count most lines → WritesLines lines answer w0 w1 old new → Sweeps first count most answer w0 w1 old new
 swept first count most lines answer w0 w1 old new are (inl w) = inl (lines, are, w)

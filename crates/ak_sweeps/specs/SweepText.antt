@@ -1,14 +1,14 @@
 -- What a sweep of generated runs prints: a line for each seed, and the totals (this project's choice).
-use Rattle.std.specs.Prelude.{◌≡◌, ℕ, ◌+◌, Bool, List, [], ◌∷◌, ◌++◌, codes, length, map, slice_get, Some, if◌then◌else◌}
+use Rattle.std.specs.Prelude.{ℕ, Bool, List, [], ◌∷◌, ◌++◌, codes, length, map, if◌then◌else◌}
 use Rattle.std.specs.List.{concat, count_by, list_any}
 use Rattle.std.specs.Fmt.{decimal}
 use Rattle.ak_sweep.specs.declared.line.Line.{Line}
+use Rattle.ak_sweep.specs.Lines as seeds
 use Rattle.ak_sweeps.specs.GeneratedRun.{IsLineOf}
 
 -- the lines of so many seeds from the first one on, in the order of the seeds, each of a run of at most so many events
-pub record AreLines (first count most : ℕ) (lines : List Line) : Type 0 where
-  pub many : length lines ≡ count
-  pub each : (index : ℕ) (line : Line) → slice_get lines index ≡ Some line → IsLineOf (first + index) most line
+abbrev pub AreLines : ℕ → ℕ → ℕ → List Line → Type 0
+AreLines first count most lines = seeds.AreLines (λ seed line. IsLineOf seed most line) first count lines
 
 -- a name and a number
 abbrev pub counted : List ℕ → ℕ → List ℕ

@@ -1,6 +1,7 @@
 //! The generated run of a seed: a world is given what its generator gives, event by event.
 
-ghost use Rattle.std.specs.Prelude.{◌≡◌, ◌<◌, ◌≤◌, ◌^◌, IfOk, OnOk, length};
+ghost use Rattle.std.specs.Prelude.{◌≡◌, ◌<◌, ◌≤◌, ◌^◌, [], false, IfOk, OnOk, length};
+ghost use Rattle.ak_generate.specs.Fixed.{fixed};
 ghost use Rattle.ak_world.specs.World.{empty_world};
 ghost use Rattle.ak_sweeps.specs.GeneratedRun as rules;
 ghost use Rattle.ak_sweeps.specs.GeneratedRun.{IsLineOf, KeepsApart};
@@ -87,13 +88,32 @@ struct Played {
     steps: u64,
 }
 
-// The run of a seed, of at most so many events.
-fn play(alloc: Global, seed: u64, events: u64) -> Result<Played, AllocError>
+// The world in which nothing has happened: the spare one, if there is one.
+fn begin(alloc: Global, spare: &mut Option<World>) -> Result<World, AllocError>
+    ensures { IfOk result (λ world. world ≡ record { settings = fixed; state = empty_world; events = []; spent = false }) }
+{
+    let settings = fixed_settings(alloc)?;
+    match spare.take() {
+        Some(mut world) => {
+            world.renew(alloc, settings);
+            Ok(world)
+        }
+        None => Ok(World::new(alloc, settings)),
+    }
+}
+
+// The run of a seed, of at most so many events, in the spare world, if there is one.
+fn play(
+    alloc: Global,
+    spare: &mut Option<World>,
+    seed: u64,
+    events: u64,
+) -> Result<Played, AllocError>
     requires { events < 2 ^ 62 }
     ensures { IfOk result (IsAfter seed events) }
 {
     let mut generator = Generator::new(seed);
-    let mut world = World::new(alloc, fixed_settings(alloc)?);
+    let mut world = begin(alloc, spare)?;
     let mut sight = first_sight(alloc);
     'events: for steps in 0..events {
         if !turn(alloc, &mut generator, &mut sight, &mut world)? {
@@ -121,19 +141,28 @@ fn is_kept(margin: Margin) -> bool
 
 /// The line of a seed: what came of its run, which is over after so many events, where none comes next, or before one that
 /// is refused because as many packets were sent as may be. No event is refused for another reason, so each seed has one line.
-/// Where the line says that the margin was kept it says that there is no double. Only memory can fail. (This project's choice.)
-pub fn line_of(alloc: Global, seed: u64, events: u64) -> Result<Line, AllocError>
+/// Where the line says that the margin was kept it says that there is no double. The spare world, if there is one, may be of any
+/// run: the room that it took serves this run, and the world of this run is spare then. Only memory can fail. (This project's
+/// choice.)
+pub fn line_of(
+    alloc: Global,
+    spare: &mut Option<World>,
+    seed: u64,
+    events: u64,
+) -> Result<Line, AllocError>
     requires { events < 2 ^ 62 }
     ensures line { IfOk result (IsLineOf seed events) }
     ensures apart { IfOk result KeepsApart }
 {
-    let Played { world, steps } = play(alloc, seed, events)?;
-    Ok(Line {
+    let Played { world, steps } = play(alloc, spare, seed, events)?;
+    let line = Line {
         seed,
         steps,
         packets: world.packets(),
         history: world.history().len() as u64,
         kept: is_kept(world.margin()),
         double: world.first_double().is_some(),
-    })
+    };
+    *spare = Some(world);
+    Ok(line)
 }

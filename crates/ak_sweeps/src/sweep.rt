@@ -12,7 +12,8 @@ use crate::print::{is_doubled, print_line, print_totals};
 use crate::run::line_of;
 use ak_notes::Notes;
 use ak_outside::{Sink, Status, out_of_memory, write_all, written};
-use ak_sweep::{Line, OpenGate, sweep};
+use ak_sweep::{Job, Line, OpenGate, sweep};
+use ak_world::World;
 use std::alloc::{AllocError, Global};
 use std::thread::Threads;
 
@@ -59,6 +60,32 @@ pub fn write_lines<W: Sink>(alloc: Global, lines: &[Line], output: &mut W) -> St
     written(output, &out, status_of(lines))
 }
 
+// The runs of a sweep, each of at most so many events. A worker keeps a world from one run to the next.
+#[derive(Drop)]
+struct Runs {
+    alloc: Global,
+    events: u64,
+    ghost few: { events < 2 ^ 62 },
+}
+
+impl Job for Runs {
+    type Kept = Option<World>;
+
+    ghost answers = { λ runs seed line. IsLineOf seed runs.events line };
+
+    fn begin(&self) -> Option<World> {
+        None
+    }
+
+    fn line(&self, spare: &mut Option<World>, seed: u64) -> Result<Line, AllocError> {
+        line_of(self.alloc, spare, seed, self.events)
+    }
+
+    fn end(&self, spare: Option<World>) {
+        drop(spare);
+    }
+}
+
 // The lines of a block of seeds, by so many workers.
 fn lines_of_block<R: Threads + Sync>(
     rt: &R,
@@ -74,11 +101,8 @@ fn lines_of_block<R: Threads + Sync>(
     requires few { workers ≤ 64 }
     ensures { IfOk result (λ lines. AreLines first count events lines.items) }
 {
-    let job = |seed: u64| -> Result<Line, AllocError>
-        requires { events < 2 ^ 62 }
-        ensures { IfOk result (IsLineOf seed events) }
-    { line_of(alloc, seed, events) };
-    sweep(rt, alloc, first, count, workers, &job, &OpenGate)
+    let runs = Runs { alloc, events };
+    sweep(rt, alloc, first, count, workers, &runs, &OpenGate)
 }
 
 // The lines of the seeds, block by block.

@@ -4,4 +4,4 @@ use Rattle.ak_sweep.proofs.workers.lines_between.Given as goal
 
 -- the lines up to here
 abbrev pub invariant-seeds : goal.invariant-seeds
-invariant-seeds g l = AreLines g.F.Fn l.job (l.first + l.from) (l.index - l.from) l.lines.items
+invariant-seeds g l = AreLines (g.J.Job.answers l.job) (l.first + l.from) (l.index - l.from) l.lines.items

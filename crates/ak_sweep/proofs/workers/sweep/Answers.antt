@@ -5,5 +5,5 @@ use Rattle.ak_sweep.proofs.workers.sweep.Goals as goal
 
 pub returns-clause-alone : goal.returns-clause-alone
 returns-clause-alone g c answer one =
-    of_answer (λ lines. AreLines g.F.Fn c.args.job.now c.args.first c.args.count lines.items) (λ lines. lines.items ≡ lines_from answer c.args.first c.args.count)
-    c.in_parts.result c.in_parts.ensures (λ lines are. lines_are g.F.Fn c.args.job.now answer c.args.first c.args.count lines.items one are)
+    of_answer (λ lines. AreLines (g.J.Job.answers c.args.job.now) c.args.first c.args.count lines.items) (λ lines. lines.items ≡ lines_from answer c.args.first c.args.count)
+    c.in_parts.result c.in_parts.ensures (λ lines are. lines_are (g.J.Job.answers c.args.job.now) answer c.args.first c.args.count lines.items one are)

@@ -1,6 +1,4 @@
-use Rattle.std.proofs.Common.{◌≡◌, [], ◌+◌, ◌-◌, ℕ, Bool, false, refl, sym, ap, ◌∙◌, subst, arith}
-use Rattle.ak_settings.specs.Settings.{SettingsModel}
-use Rattle.ak_world.specs.World.{empty_world}
+use Rattle.std.proofs.Common.{◌≡◌, ◌+◌, ◌-◌, ℕ, Bool, refl, sym, ap, ◌∙◌, subst, arith}
 use Rattle.ak_world.specs.WorldContracts.{WorldModel}
 use Rattle.ak_sweeps.specs.GeneratedRun.{sight_of}
 use Rattle.ak_sweeps.specs.RunContracts.{TurnAnswers, Went, Stayed}
@@ -18,10 +16,9 @@ turn-requires-clause-few c =
 
 pub events-init : goal.events-init
 events-init c = (
-  c.first_sight-sight.ensures ∙ ap (λ (w : WorldModel). sight_of w.state) (sym c.new-world.ensures),
-  subst (λ (n : ℕ). Along c.args.seed c.args.events 0 n c.new-generator.result c.new-world.result) (let e : c.args.events ≡ c.args.events - 0 = omega arith in e)
-      (along_start c.args.seed c.args.events c.new-generator.result c.new-world.result c.new-generator.ensures
-      (c.new-world.ensures ∙ ap (λ (s : SettingsModel). record { settings = s; state = empty_world; events = []; spent = false }) c.in_ok-fixed_settings.ensures)),
+  c.first_sight-sight.ensures ∙ ap (λ (w : WorldModel). sight_of w.state) (sym c.in_ok-world.ensures),
+  subst (λ (n : ℕ). Along c.args.seed c.args.events 0 n c.new-generator.result c.in_ok-world.world) (let e : c.args.events ≡ c.args.events - 0 = omega arith in e)
+      (along_start c.args.seed c.args.events c.new-generator.result c.in_ok-world.world c.new-generator.ensures c.in_ok-world.ensures),
 )
 
 pub returns-then-not-branch : goal.returns-then-not-branch
