@@ -2,27 +2,13 @@
 use Rattle.std.proofs.Common.{◌≡◌, ℕ, ◌+◌, ◌*◌, ◌<◌, ◌≤◌, Bool, true, false, ◌||◌, ◌&&◌, if◌then◌else◌, List, [], ◌∷◌, Contains, refl, sym, ap, ◌∙◌, subst, arith, true≢false}
 use Rattle.std.specs.List.{list_any}
 use Rattle.std.specs.Ordering.{is_eq}
-use Rattle.std.specs.declared.cmp.Ordering.{Ordering}
-use Rattle.std.specs.declared.cmp.Ordering.TheVariants.{Less, Equal, Greater}
-use Rattle.std.proofs.lemmas.Cmp.{tied_itself}
 use Rattle.ak_address.specs.Unique.{AddressModel, address_cmp}
 use Rattle.ak_address.specs.Distinct.{distinct}
-use Rattle.ak_address.proofs.OrderLemmas.{address_total, address_exact}
+use Rattle.ak_address.proofs.OrderLemmas.{tied_is, tied_self}
 use Rattle.ak_address.proofs.Elements.{any_there, any_found, contains_first, contains_rest}
 
 abbrev tied : AddressModel → AddressModel → Bool
 tied a b = is_eq (address_cmp a b)
-
-tied_is : (a b : AddressModel) → tied a b ≡ true → a ≡ b
-tied_is a b is = by_case (address_cmp a b) refl is
-  where
-    by_case : (o : Ordering) → address_cmp a b ≡ o → is_eq o ≡ true → a ≡ b
-    by_case Less e h = absurd (true≢false (sym h))
-    by_case Equal e h = address_exact a b e
-    by_case Greater e h = absurd (true≢false (sym h))
-
-tied_self : (a : AddressModel) → tied a a ≡ true
-tied_self a = ap is_eq (tied_itself address_total a)
 
 -- an address is among these
 abbrev among : List AddressModel → AddressModel → Bool

@@ -1,19 +1,16 @@
 -- How a map from addresses to their uses is seen as a finite map, and what one use more or less makes of it.
 use Rattle.std.proofs.Common.{◌≡◌, ℕ, ◌+◌, ◌-◌, ◌≤◌, ◌<◌, Bool, true, false, cond, ◌||◌, List, [], ◌∷◌, length, if◌then◌else◌, Option, Some, None, is_some, nat_eq, refl, sym, ap, ◌∙◌, true≢false, arith}
 use Rattle.std.proofs.lemmas.Bool.{lt-ltb, le-ltb}
-use Rattle.std.specs.declared.cmp.Ordering.{Ordering}
-use Rattle.std.specs.declared.cmp.Ordering.TheVariants.{Less, Equal, Greater}
 use Rattle.std.specs.Ordering.{is_eq, eq_by_cmp}
 use Rattle.std.specs.Cmp.Lexicographic.{pointwise}
 use Rattle.std.specs.List.{AllByRecursion, IsDistinct, list_any, fold}
 use Rattle.std.specs.Map.{keys_of, lookup}
 use Rattle.std.specs.FinMap as map
-use Rattle.std.proofs.lemmas.Cmp.{tied_itself}
 use Rattle.ak_address.specs.Keys.{address_key}
 use Rattle.ak_address.specs.Unique.{AddressModel, address_cmp}
 use Rattle.ak_address.specs.Distinct.{distinct}
 use Rattle.ak_address.proofs.KeyLaws.{address_keys}
-use Rattle.ak_address.proofs.OrderLemmas.{address_total, address_exact}
+use Rattle.ak_address.proofs.OrderLemmas.{address_total, address_exact, tied_is, tied_self}
 use Rattle.ak_converge.specs.Tally.{Uses, uses_or_none, uses_at, with_use, without_use, uses_of}
 
 -- ---- keys
@@ -22,17 +19,6 @@ key_eq a b = pointwise nat_eq (address_key a) (address_key b)
 
 abbrev pub tied : AddressModel → AddressModel → Bool
 tied a b = eq_by_cmp address_cmp a b
-
-pub tied_is : (a b : AddressModel) → tied a b ≡ true → a ≡ b
-tied_is a b is = by_case (address_cmp a b) refl is
-  where
-    by_case : (o : Ordering) → address_cmp a b ≡ o → is_eq o ≡ true → a ≡ b
-    by_case Less e h = absurd (true≢false (sym h))
-    by_case Equal e h = address_exact a b e
-    by_case Greater e h = absurd (true≢false (sym h))
-
-pub tied_self : (a : AddressModel) → tied a a ≡ true
-tied_self a = ap is_eq (tied_itself address_total a)
 
 is_tied : (a b : AddressModel) → a ≡ b → tied a b ≡ true
 is_tied a b same = sym (ap (tied a) same) ∙ tied_self a

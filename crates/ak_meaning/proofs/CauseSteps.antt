@@ -2,13 +2,10 @@
 use Rattle.std.proofs.Common.{◌≡◌, ℕ, ◌+◌, Bool, true, false, not, ◌&&◌, inl, inr, if◌then◌else◌, nat_le, List, [], ◌∷◌, Option, Some, None, is_some, Result, Ok, Err, Contains, refl, sym, ap, ◌∙◌, subst, true≢false}
 use Rattle.std.proofs.lemmas.Bool.{leb-true}
 use Rattle.std.specs.FinMap as map
-use Rattle.std.specs.Ordering.{is_eq}
-use Rattle.std.specs.declared.cmp.Ordering.{Ordering}
-use Rattle.std.specs.declared.cmp.Ordering.TheVariants.{Less, Equal, Greater}
 use Rattle.ak_address.specs.Distinct.{distinct}
-use Rattle.ak_address.specs.Unique.{AddressModel, UniqueModel, address_cmp}
+use Rattle.ak_address.specs.Unique.{UniqueModel}
 use Rattle.ak_address.proofs.Elements.{first_or_rest, contains_nothing, index_of}
-use Rattle.ak_address.proofs.OrderLemmas.{address_exact}
+use Rattle.ak_address.proofs.OrderLemmas.{tied_is}
 use Rattle.ak_address.proofs.TableLaws.{same_key}
 use Rattle.ak_converge.specs.Convergence.{is_converged}
 use Rattle.ak_downing.specs.Downing.{decide, is_against}
@@ -91,14 +88,6 @@ module _ (P : Effect → Type 0) where
   allowed_if m false r s x y = y refl
 
 -- ---- why
-same_address : (a b : AddressModel) → is_eq (address_cmp a b) ≡ true → a ≡ b
-same_address a b is = by_case (address_cmp a b) refl is
-  where
-    by_case : (r : Ordering) → address_cmp a b ≡ r → is_eq r ≡ true → a ≡ b
-    by_case Less e h = absurd (true≢false (sym h))
-    by_case Equal e h = address_exact a b e
-    by_case Greater e h = absurd (true≢false (sym h))
-
 is_it : (me : UniqueModel) (o : Option UniqueModel) → is_process me o ≡ true → o ≡ Some me
 is_it me None is = absurd (true≢false (sym is))
 is_it me (Some who) is = ap Some (same_key who me is)
@@ -148,7 +137,7 @@ module _ (n : State) (ev : NodeEvent) where
       beside : is_known m.gossip.view.standings from ≡ false → (x : Effect) → Contains (replaced from m.gossip.view.standings) x → Why x
       beside unknown x there =
           let d = downed_has (is_beside from) (members_of m.gossip.view.standings) x there in
-          subst Why (sym d.4) (cause.IsCause.downs_replaced d.0.0 from asked (sym (same_address d.0.0.address from.address d.2)) unknown (ap is_some (members_have m.gossip.view.standings d.0 d.1)))
+          subst Why (sym d.4) (cause.IsCause.downs_replaced d.0.0 from asked (sym (tied_is d.0.0.address from.address d.2)) unknown (ap is_some (members_have m.gossip.view.standings d.0 d.1)))
 
   -- ---- a tick
   module _ (ticks : TicksNow n ev) where

@@ -2,14 +2,13 @@
 use Rattle.std.proofs.Common.{◌≡◌, zero, suc, ◌+◌, Bool, true, false, if◌then◌else◌, List, [], ◌∷◌, length, Contains, inl, inr, refl, sym, ap, ◌∙◌, subst, arith, true≢false}
 use Rattle.std.specs.List.{list_any}
 use Rattle.std.specs.Ordering.{is_eq}
-use Rattle.std.specs.declared.cmp.Ordering.{Ordering}
-use Rattle.std.specs.declared.cmp.Ordering.TheVariants.{Less, Equal, Greater}
+use Rattle.std.specs.declared.cmp.Ordering.TheVariants.{Less}
 use Rattle.std.specs.Cmp.{tied_itself}
 use Rattle.ak_address.specs.Distinct.{distinct}
 use Rattle.ak_address.specs.Unique.{AddressModel, UniqueModel, address_cmp, unique_cmp}
 use Rattle.ak_address.proofs.DistinctLaws.{IsBelow, AreRising}
 use Rattle.ak_address.proofs.Elements.{contains_first, contains_rest, first_or_rest, contains_nothing, contains_at, any_there, any_found}
-use Rattle.ak_address.proofs.OrderLemmas.{address_total, address_exact, unique_total}
+use Rattle.ak_address.proofs.OrderLemmas.{unique_total, tied_is, tied_self}
 use Rattle.ak_meaning.specs.Counting.{HasEachOnce}
 
 -- ---- each once
@@ -41,17 +40,6 @@ rising_once [] rising = once_none
 rising_once (u ∷ us) rising = once_more u us (λ there. less_itself u (below_none u us rising.0 u there)) (rising_once us rising.1)
 
 -- ---- addresses
-tied_is : (a b : AddressModel) → is_eq (address_cmp a b) ≡ true → a ≡ b
-tied_is a b is = by_case (address_cmp a b) refl is
-  where
-    by_case : (o : Ordering) → address_cmp a b ≡ o → is_eq o ≡ true → a ≡ b
-    by_case Less e h = absurd (true≢false (sym h))
-    by_case Equal e h = address_exact a b e
-    by_case Greater e h = absurd (true≢false (sym h))
-
-tied_self : (a : AddressModel) → is_eq (address_cmp a a) ≡ true
-tied_self a = ap is_eq (tied_itself address_total a)
-
 -- the last of each
 abbrev pub last_ones : List AddressModel → List AddressModel
 last_ones [] = []

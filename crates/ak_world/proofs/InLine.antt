@@ -1,14 +1,12 @@
 -- Any two settled versions of a run are comparable, where fewer addresses are listed than twice as many as a settled view counts.
-use Rattle.std.proofs.Common.{◌≡◌, ℕ, ◌+◌, ◌*◌, ◌<◌, ◌≤◌, true, false, Bool, if◌then◌else◌, ◌⊎◌, inl, inr, List, [], ◌∷◌, length, Some, slice_get, Contains, refl, sym, ap, ◌∙◌, subst, arith, true≢false}
+use Rattle.std.proofs.Common.{◌≡◌, ℕ, ◌+◌, ◌*◌, ◌<◌, ◌≤◌, true, false, Bool, if◌then◌else◌, ◌⊎◌, inl, inr, List, [], ◌∷◌, length, Some, slice_get, Contains, refl, sym, ap, ◌∙◌, subst, arith}
 use Rattle.std.proofs.lemmas.Option.{same_Some}
 use Rattle.std.specs.List.{list_any}
 use Rattle.std.specs.Ordering.{is_eq}
-use Rattle.std.specs.declared.cmp.Ordering.{Ordering}
-use Rattle.std.specs.declared.cmp.Ordering.TheVariants.{Less, Equal, Greater}
 use Rattle.ak_address.specs.Distinct.{distinct}
 use Rattle.ak_address.specs.Unique.{AddressModel, UniqueModel, address_cmp}
 use Rattle.ak_address.proofs.Elements.{any_found, in_map}
-use Rattle.ak_address.proofs.OrderLemmas.{address_exact}
+use Rattle.ak_address.proofs.OrderLemmas.{tied_is}
 use Rattle.ak_address.proofs.SharedAddress.{shared_address}
 use Rattle.ak_clock.specs.Version.{Counts, Covers}
 use Rattle.ak_clock.proofs.VersionLaws.{covers_along}
@@ -31,14 +29,6 @@ use Rattle.ak_world.proofs.Founding.{either_way, in_history, risen, founding_cov
 use Rattle.ak_world.proofs.Processes.{IsThere}
 use Rattle.ak_world.proofs.RaisedFor.{Raised}
 use Rattle.ak_world.proofs.Rises.{counted_named, named_more}
-
-pub tied_is : (a b : AddressModel) → is_eq (address_cmp a b) ≡ true → a ≡ b
-tied_is a b is = by_case (address_cmp a b) refl is
-  where
-    by_case : (o : Ordering) → address_cmp a b ≡ o → is_eq o ≡ true → a ≡ b
-    by_case Less e h = absurd (true≢false (sym h))
-    by_case Equal e h = address_exact a b e
-    by_case Greater e h = absurd (true≢false (sym h))
 
 listed_in : (listed : List AddressModel) (a : AddressModel) → is_listed listed a ≡ true → Contains listed a
 listed_in listed a is = let h = any_found (λ b. is_eq (address_cmp b a)) listed is in subst (Contains listed) (tied_is h.0 a h.2) h.1

@@ -4,6 +4,7 @@ use Rattle.std.proofs.lemmas.Option.{none-some, same_Some, slice_get-map}
 use Rattle.std.specs.List.{position_or_len}
 use Rattle.std.specs.Option.{option_map}
 use Rattle.ak_address.specs.Unique.{UniqueModel}
+use Rattle.ak_address.proofs.OrderLemmas.{tied_is}
 use Rattle.ak_address.proofs.TableLaws.{same_key}
 use Rattle.ak_gossip.proofs.InvariantLemmas.{and_first, and_second}
 use Rattle.ak_settings.specs.Settings.{SettingsModel}
@@ -17,7 +18,6 @@ use Rattle.ak_world.specs.InRun.{StartedOnce, RunAlone}
 use Rattle.ak_world.specs.Seek.{OneAtMost}
 use Rattle.ak_world.specs.WorldContracts.{IsReady, states}
 use Rattle.ak_world.proofs.FoldRuns.{run_sound}
-use Rattle.ak_world.proofs.InLine.{tied_is}
 use Rattle.ak_world.proofs.InRunLemmas.{run_alone}
 use Rattle.ak_world.proofs.StoredLemmas.{below}
 use Rattle.ak_world.proofs.WorldLemmas.{few_run, few_steps}
