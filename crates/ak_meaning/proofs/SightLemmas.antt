@@ -8,7 +8,7 @@ use Rattle.ak_leader.specs.Led.{IsMemberWith}
 use Rattle.ak_member.specs.declared.status.Status.{Status}
 use Rattle.ak_member.specs.Standing.{member_of}
 use Rattle.ak_member.specs.View.{View}
-use Rattle.ak_membership.specs.Sight.{sight}
+use Rattle.ak_sight.specs.Sight.{sight}
 use Rattle.ak_reach.specs.Unreachable.{unreachable_members, IsUnreachable}
 use Rattle.ak_reach.proofs.UnreachableLaws.{unreachable_means}
 use Rattle.ak_meaning.specs.Standstill.{AreShownAlike}

@@ -9,7 +9,7 @@ use Rattle.ak_member.specs.declared.effect.Effect.{Effect}
 use Rattle.ak_member.specs.declared.effect.Effect.TheVariants.{Rise}
 use Rattle.ak_member.specs.declared.status.Status.TheVariants.{Down}
 use Rattle.ak_membership.specs.Membership as membership
-use Rattle.ak_membership.specs.Sight.{sight}
+use Rattle.ak_sight.specs.Sight.{sight}
 use Rattle.ak_membership.specs.Tick.{decides, stood, some_counts, has_lost}
 use Rattle.ak_node.specs.declared.node.NodeEvent.{NodeEvent}
 use Rattle.ak_node.specs.declared.node.NodeEvent.TheVariants as event

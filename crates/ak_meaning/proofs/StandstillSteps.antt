@@ -18,10 +18,10 @@ use Rattle.ak_membership.specs.declared.change.MemberFault.{MemberFault}
 use Rattle.ak_membership.specs.declared.change.Reply.TheVariants.{Welcome}
 use Rattle.ak_membership.specs.declared.state.MembershipState.{MembershipState}
 use Rattle.ak_membership.specs.Membership.{Outcome, unchanged, replying, may_count, made, update, update_any, knowing, is_member, leave, down, has_member_beside, replaced, most_at_join, on_join, on_received, on_gossip, on_heard}
-use Rattle.ak_membership.specs.Sight.{sight, has_moved}
+use Rattle.ak_sight.specs.Sight.{sight, has_moved}
 use Rattle.ak_membership.specs.Tick.{observes, silent, decides, decided, founds, leads, updates, counted}
 use Rattle.ak_membership.specs.Closing.{stable_after}
-use Rattle.ak_membership.proofs.MovedLaws.{stood_still}
+use Rattle.ak_sight.proofs.MovedLaws.{stood_still}
 use Rattle.ak_node.specs.declared.node.NodeEvent.{NodeEvent}
 use Rattle.ak_node.specs.declared.node.NodeEvent.TheVariants as event
 use Rattle.ak_node.specs.declared.node.State.{State}

@@ -1,14 +1,12 @@
 pub mod EffectLemmas
-pub mod AlikeLaws
 pub mod Causes
-pub mod CountLemmas
 pub mod MayMake
 pub mod MayRise
 pub mod MembershipLemmas
-pub mod MovedLaws
+pub mod ObservedLaws
+pub mod ReceivedLaws
 pub mod RestLemmas
 pub mod RuleLemmas
 pub mod SilenceLemmas
-pub mod SightLaws
 pub mod Walk
 pub mod WalkLemmas

@@ -16,7 +16,7 @@ use Rattle.ak_member.specs.declared.effect.Effect.TheVariants.{Observed}
 use Rattle.ak_membership.specs.declared.state.MembershipState.{MembershipState}
 use Rattle.ak_membership.specs.Membership.{unchanged, made, update, update_any, may_count}
 use Rattle.ak_membership.specs.Tick.{silent, own_subjects, lacks, observes, decides, decided, founds, leads, updates}
-use Rattle.ak_membership.proofs.MovedLaws.{none_any, all_none}
+use Rattle.ak_sight.proofs.MovedLaws.{none_any, all_none}
 
 in_set : (s : UniqueSet) (who : UniqueModel) → Contains (in_order s) who → has s who ≡ true
 in_set s who there = let at = index_of (in_order s) who there in has_at s at.0 who at.1

@@ -1,7 +1,6 @@
--- Walks along lists: for one that passes a test, and for the Joining members.
-use Rattle.std.proofs.Common.{◌≡◌, ℕ, ◌+◌, ◌≤◌, Bool, true, false, cond, ◌&&◌, ◌||◌, ◌⊎◌, inl, inr, List, [], ◌∷◌, ◌++◌, length, drop, slice_get, option_to_list, refl, sym, ap, ◌∙◌}
-use Rattle.std.proofs.lemmas.List.Folds.{list_any-append}
-use Rattle.std.specs.List.{list_any, fold, filter}
+-- Walks along lists: for the Joining members, and for those of a set that pass a test.
+use Rattle.std.proofs.Common.{◌≡◌, ℕ, Bool, true, false, cond, ◌&&◌, ◌⊎◌, inl, inr, List, [], ◌∷◌, ◌++◌, refl, sym, ap, ◌∙◌}
+use Rattle.std.specs.List.{fold, filter}
 use Rattle.ak_address.specs.Unique.{UniqueModel}
 use Rattle.ak_address.specs.Uniques.{UniqueSet, no_one, has, with_one, those, in_order, set_of}
 use Rattle.ak_address.proofs.CountersLaws.{among-filter, has-set_of, set_of-in_order, set_walked}
@@ -10,23 +9,9 @@ use Rattle.ak_member.specs.declared.status.Status.{Status}
 use Rattle.ak_member.specs.declared.standing.Standing.{Standing}
 use Rattle.ak_member.specs.declared.standing.Standing.TheVariants.{Member, Buried}
 use Rattle.ak_member.specs.Standing.{member_pairs, is_joining}
-use Rattle.ak_member.proofs.MemberLemmas.{KeepsPairs, kept_from, kept_at_end}
+use Rattle.ak_member.proofs.MemberLemmas.{KeepsPairs}
 use Rattle.ak_member.proofs.CountedLaws.{KeepsProcess}
 use Rattle.ak_membership.specs.Tick.{joining_pairs}
-
--- ---- for one that passes a test, among what is kept of a list
-module _ {X Y : Type 0} (kept : List X → List Y) (keeps : KeepsPairs kept) (p : Y → Bool) (xs : List X) (i : ℕ) where
-  test_from : list_any p (kept (drop i xs)) ≡ (list_any p (kept (option_to_list (slice_get xs i))) || list_any p (kept (drop (i + 1) xs)))
-  test_from = ap (list_any p) (kept_from kept keeps xs i) ∙ list_any-append p _ _
-
-  pub some_found : (b : Bool) → b ≡ list_any p (kept (drop i xs)) → true ≡ list_any p (kept (option_to_list (slice_get xs i))) → true ≡ b
-  some_found b is here = sym (is ∙ test_from ∙ ap (λ a. a || list_any p (kept (drop (i + 1) xs))) (sym here))
-
-  pub some_passed : (b : Bool) → b ≡ list_any p (kept (drop i xs)) → false ≡ list_any p (kept (option_to_list (slice_get xs i))) → b ≡ list_any p (kept (drop (i + 1) xs))
-  some_passed b is here = is ∙ test_from ∙ ap (λ a. a || list_any p (kept (drop (i + 1) xs))) (sym here)
-
-  pub none_left : (b : Bool) → b ≡ list_any p (kept (drop i xs)) → length xs ≤ i → false ≡ b
-  none_left b is past = sym (is ∙ ap (list_any p) (kept_at_end kept keeps xs i past))
 
 -- ---- for the Joining ones among the pairs
 abbrev pub joining_among : List (UniqueModel × Standing) → List (UniqueModel × ℕ)

@@ -26,7 +26,7 @@ use Rattle.ak_membership.specs.declared.change.Reply.TheVariants.{Nothing, Welco
 use Rattle.ak_membership.specs.declared.change.MemberFault.{MemberFault}
 use Rattle.ak_membership.specs.declared.change.MemberFault.TheVariants.{NotUp, UnknownMember, NotMember, Unlisted, ForeignCount, TooManyUniques}
 use Rattle.ak_membership.specs.declared.state.MembershipState.{MembershipState}
-use Rattle.ak_membership.specs.Sight.{has_moved}
+use Rattle.ak_sight.specs.Sight.{has_moved}
 
 -- a process starts, and knows nothing
 abbrev pub started : UniqueModel → SettingsModel → MembershipState

@@ -6,7 +6,6 @@ use Rattle.ak_address.specs.Changed.{keys_of}
 use Rattle.ak_address.specs.Unique.{UniqueModel}
 use Rattle.ak_address.specs.Uniques.{no_one, has}
 use Rattle.ak_clock.specs.Version.{Covers}
-use Rattle.ak_converge.specs.Tally.{TallyModel, tally_of}
 use Rattle.ak_detector.specs.Detector.{watch_ring, silent}
 use Rattle.ak_gossip.specs.declared.gossip.Received.{Received}
 use Rattle.ak_gossip.specs.declared.gossip.Received.TheVariants as received
@@ -61,10 +60,6 @@ LeavesAtRest received.Same m = is_noted m ≡ false
 LeavesAtRest received.Newer m = ⊥
 LeavesAtRest received.Older m = ⊤
 LeavesAtRest received.Merged m = ⊥
-
--- a tally has the numbers of what is known
-abbrev pub IsTallyOf : TallyModel → GossipState → Type 0
-IsTallyOf t g = t ≡ tally_of g.view g.seen
 
 -- whatever a rule answers, it is the same process with the same settings
 pub record IsSameProcess (old new : MembershipState) : Type 0 where

@@ -6,7 +6,8 @@ ghost use Rattle.ak_clock.specs.Version.{Covers};
 ghost use Rattle.ak_detector.specs.Detector.{watching, watch_ring};
 ghost use Rattle.ak_settled.specs.Settled.{version_of, after_note};
 ghost use Rattle.ak_membership.specs.Closing as closing;
-ghost use Rattle.ak_membership.specs.MembershipContracts.{Closes, MayTake, IsAtRest, IsTallyOf, RestsIf, WatchesAnew};
+ghost use Rattle.ak_sight.specs.Counted.{IsTallyOf};
+ghost use Rattle.ak_membership.specs.MembershipContracts.{Closes, MayTake, IsAtRest, RestsIf, WatchesAnew};
 
 use crate::change::Closing;
 use crate::state::MembershipState;

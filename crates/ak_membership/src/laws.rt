@@ -1,16 +1,8 @@
 ghost use Rattle.std.specs.Prelude.{◌≡◌, ◌↔◌, false};
 ghost use Rattle.ak_address.specs.Unique.{UniqueModel};
 ghost use Rattle.ak_address.specs.Uniques.{has};
-ghost use Rattle.ak_member.specs.View.{View};
-ghost use Rattle.ak_membership.specs.Sight.{sight, has_moved};
 ghost use Rattle.ak_membership.specs.Tick.{silent, own_subjects, observes};
 ghost use Rattle.ak_membership.specs.declared.state.MembershipState.{MembershipState};
-
-/// A view stood still exactly where each process is shown the same: it is no member of both views, or a member of both with the
-/// same status and reachability (Akka's Split Brain Resolver, "stable-after"; what counts is this project's choice).
-pub fn views_that_stand_still_show_the_same()
-    ensures { (v w : View) → (has_moved v w ≡ false) ↔ ((who : UniqueModel) → sight v who ≡ sight w who) }
-{}
 
 /// A node observes nothing new exactly where those that it finds silent with a tick are the members that its own row names
 /// (Akka's Cluster Specification, "Failure Detector"; that the row means its members is this project's choice).

@@ -4,16 +4,14 @@
 
 mod change;
 mod closing;
-mod count;
 mod laws;
 mod lost;
 mod members;
 mod membership;
-mod sight;
 mod silence;
 mod state;
 
 pub use change::{Change, Closing, MemberFault, Reply};
-pub use laws::{rows_name_who_is_silent, views_that_stand_still_show_the_same};
+pub use laws::rows_name_who_is_silent;
 pub use membership::Membership;
 pub use state::MembershipState;

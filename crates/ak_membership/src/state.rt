@@ -5,18 +5,17 @@ ghost use Rattle.ak_gossip.specs.Gossip.{MayUpdate, is_known};
 ghost use Rattle.ak_member.specs.Standing as standing;
 ghost use Rattle.ak_settings.specs.Settings.{is_listed};
 ghost use Rattle.ak_leader.specs.Leader as leads;
+ghost use Rattle.ak_sight.specs.Counted.{IsTallyOf};
+ghost use Rattle.ak_sight.specs.Sight.{is_news};
 ghost use Rattle.ak_membership.specs.Membership as rules;
-ghost use Rattle.ak_membership.specs.MembershipContracts.{Makes, Answers, IsAccepted, IsCounting, IsKnownIn, IsUnknown, MayAdmit, MayConfirm, MayDown, IsTallyOf, RestsIf, LeavesAtRest, IsWatching, KnowsItself, Receives, or_no_memory};
-ghost use Rattle.ak_membership.specs.Sight.{is_news};
+ghost use Rattle.ak_membership.specs.MembershipContracts.{Makes, Answers, IsAccepted, IsCounting, IsKnownIn, IsUnknown, MayAdmit, MayConfirm, MayDown, RestsIf, LeavesAtRest, IsWatching, KnowsItself, Receives, or_no_memory};
 ghost use Rattle.ak_membership.specs.Tick as ticks;
 
 use crate::change::{Change, MemberFault, Reply};
-use crate::count::{keep, keep_received};
 use crate::lost::{has_lost, some_counts};
 use crate::members::{
     downed_beside, has_member_beside, is_down, is_joining, is_known, joining_addresses,
 };
-use crate::sight::moves;
 use ak_address::{Address, Unique, Uniques};
 use ak_clock::{BOUND, Version};
 use ak_converge::Tally;
@@ -28,6 +27,7 @@ use ak_member::{Effect, Effects, Status};
 use ak_select::peer;
 use ak_settings::{Settings, Strategy};
 use ak_settled::Settled;
+use ak_sight::{keep_tally, keep_tally_received, moves};
 use std::alloc::{AllocError, Global};
 
 /// A view that holds this many uniques admits no further process: so two views that grew by joins apart hold no more together than
@@ -182,7 +182,7 @@ impl MembershipState {
     {
         let before = self.gossip.copy(alloc)?;
         let number = self.gossip.update(alloc, &self.me, &effects)?;
-        if let Err(error) = keep(alloc, &before, &self.gossip, tally) {
+        if let Err(error) = keep_tally(alloc, &before, &self.gossip, tally) {
             self.gossip = before;
             return Err(error);
         }
@@ -451,7 +451,13 @@ impl MembershipState {
         };
         match self.gossip.receive(alloc, &self.me, incoming) {
             Ok(received) => {
-                if let Err(error) = keep_received(alloc, received, &before, &self.gossip, tally) {
+                if let Err(error) = keep_tally_received(
+                    alloc,
+                    received,
+                    &before,
+                    &self.gossip,
+                    tally,
+                ) {
                     self.gossip = before;
                     return Err(error.into());
                 }

@@ -5,7 +5,7 @@ use Rattle.ak_member.proofs.MemberLemmas.{keeps_members}
 use Rattle.ak_downing.specs.Sides.{seen_with}
 use Rattle.ak_reach.specs.Unreachable.{unreachable_members}
 use Rattle.ak_membership.specs.Tick.{is_lost}
-use Rattle.ak_membership.proofs.WalkLemmas.{some_found, some_passed, none_left}
+use Rattle.ak_sight.proofs.WalkLemmas.{some_found, some_passed, none_left}
 use Rattle.ak_membership.proofs.lost.has_lost.Goals as goal
 
 pub returns-then-is_lost_at : goal.returns-then-is_lost_at

@@ -3,7 +3,7 @@ use Rattle.std.specs.FinMap as map
 use Rattle.ak_member.specs.Standing.{member_pairs}
 use Rattle.ak_member.proofs.MemberLemmas.{keeps_members}
 use Rattle.ak_member.specs.Age.{counts}
-use Rattle.ak_membership.proofs.WalkLemmas.{some_found, some_passed, none_left}
+use Rattle.ak_sight.proofs.WalkLemmas.{some_found, some_passed, none_left}
 use Rattle.ak_membership.proofs.lost.some_counts.Goals as goal
 
 pub returns-then-counts_at : goal.returns-then-counts_at

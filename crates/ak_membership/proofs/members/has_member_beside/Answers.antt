@@ -3,7 +3,7 @@ use Rattle.std.specs.FinMap as map
 use Rattle.ak_member.specs.Standing.{member_pairs}
 use Rattle.ak_member.proofs.MemberLemmas.{keeps_members}
 use Rattle.ak_membership.specs.Membership.{is_beside}
-use Rattle.ak_membership.proofs.WalkLemmas.{some_found, some_passed, none_left}
+use Rattle.ak_sight.proofs.WalkLemmas.{some_found, some_passed, none_left}
 use Rattle.ak_membership.proofs.members.has_member_beside.Goals as goal
 
 pub returns-then-is_member_beside : goal.returns-then-is_member_beside

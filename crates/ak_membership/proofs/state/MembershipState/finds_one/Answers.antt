@@ -6,7 +6,7 @@ use Rattle.ak_detector.proofs.DetectorLemmas.{length-in_order}
 use Rattle.ak_member.proofs.Folds.{keeps_all}
 use Rattle.ak_membership.specs.Tick.{silent, own_subjects}
 use Rattle.ak_membership.proofs.SilenceLemmas.{found_watched}
-use Rattle.ak_membership.proofs.WalkLemmas.{some_found, some_passed, none_left}
+use Rattle.ak_sight.proofs.WalkLemmas.{some_found, some_passed, none_left}
 use Rattle.ak_membership.proofs.state.MembershipState.finds_one.Goals as goal
 
 pub indices-init : goal.indices-init

@@ -6,7 +6,7 @@ use Rattle.ak_member.proofs.Folds.{keeps_all}
 use Rattle.ak_member.specs.Standing.{is_member}
 use Rattle.ak_membership.specs.Tick.{silent}
 use Rattle.ak_membership.proofs.SilenceLemmas.{heard_subjects}
-use Rattle.ak_membership.proofs.WalkLemmas.{some_found, some_passed, none_left}
+use Rattle.ak_sight.proofs.WalkLemmas.{some_found, some_passed, none_left}
 use Rattle.ak_membership.proofs.state.MembershipState.hears_one_of.Goals as goal
 
 pub subjects-init : goal.subjects-init

@@ -1,13 +1,13 @@
 use Rattle.std.proofs.Common.{sym, subst, ◌∙◌}
 use Rattle.ak_gossip.specs.Gossip.{GossipState}
-use Rattle.ak_membership.specs.Counted.{IsAsReceived}
-use Rattle.ak_membership.proofs.CountLemmas.{received_so}
-use Rattle.ak_membership.proofs.SightLaws.{received_no_news, received_news}
+use Rattle.ak_sight.specs.Counted.{IsAsReceived}
+use Rattle.ak_sight.proofs.CountLemmas.{received_so}
+use Rattle.ak_membership.proofs.ReceivedLaws.{received_no_news, received_news}
 use Rattle.ak_membership.proofs.state.MembershipState.receive.Goals as goal
 use Rattle.ak_membership.proofs.state.MembershipState.receive.Goals.{then-is_news, else-is_news}
 
-pub keep_received-requires-clause-received : goal.keep_received-requires-clause-received
-keep_received-requires-clause-received c =
+pub keep_tally_received-requires-clause-received : goal.keep_tally_received-requires-clause-received
+keep_tally_received-requires-clause-received c =
     subst (λ (g : GossipState). IsAsReceived c.in-Ok-receive.received g c.receive.new.self) (sym c.in-Ok.ensures)
     (received_so c.args.self.now.me c.args.self.now.gossip c.args.incoming.now c.receive.new.self c.in-Ok-receive.received c.in-Ok-receive.ensures)
 

@@ -1,0 +1,5 @@
+pub mod AlikeLaws
+pub mod CountLemmas
+pub mod MovedLaws
+pub mod SightLaws
+pub mod WalkLemmas
