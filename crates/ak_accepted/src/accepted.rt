@@ -158,24 +158,20 @@ fn is_target_at(list: &[Part], place: usize, at: &Address) -> bool
 fn process_among(list: &[Part], places: &[usize], who: &Unique) -> Option<usize>
     ensures { IfSome result (λ place. process_at list.now place ≡ Some who.now) }
 {
-    'places: for place in places {
-        if is_process_at(list, *place, who) {
-            return Some(*place);
-        }
-    }
-    None
+    places
+        .iter()
+        .copied()
+        .find(|place| is_process_at(list, *place, who))
 }
 
 // The one of these places at which the address stands.
 fn target_among(list: &[Part], places: &[usize], at: &Address) -> Option<usize>
     ensures { IfSome result (λ place. target_at list.now place ≡ Some at.now) }
 {
-    'places: for place in places {
-        if is_target_at(list, *place, at) {
-            return Some(*place);
-        }
-    }
-    None
+    places
+        .iter()
+        .copied()
+        .find(|place| is_target_at(list, *place, at))
 }
 
 // An event, with the places of what it names.
