@@ -1,5 +1,5 @@
 -- Kept events stay what they are as more is named, and one more is kept.
-use Rattle.std.proofs.Common.{◌≡◌, ◌≢◌, ℕ, zero, suc, List, [], ◌∷◌, ◌++◌, length, slice_get, Option, None, Some, option_to_list, Result, Ok, Err, OnErr, append_assoc, refl, sym, ap, subst, ◌∙◌}
+use Rattle.std.proofs.Common.{◌≡◌, ◌≢◌, ℕ, zero, suc, List, [], ◌∷◌, ◌++◌, length, slice_get, Option, None, Some, option_to_list, append_assoc, refl, sym, ap, subst, ◌∙◌}
 use Rattle.std.specs.Option.{option_map}
 use Rattle.ak_address.proofs.Pairs.{not_None}
 use Rattle.ak_schedule.specs.declared.event.Event.{Event}
@@ -80,7 +80,3 @@ kept_pushed parts (f ∷ fs) form e is kept = (kept.0, kept_pushed parts fs form
 pub length-events : (parts : List Part) (forms : List Form) → AreKept parts forms → length (events_of parts forms) ≡ length forms
 length-events parts [] kept = refl
 length-events parts (f ∷ fs) kept = ap (λ (o : Option Event). length (option_to_list o ++ events_of parts fs)) kept.0.1 ∙ ap suc (length-events parts fs kept.1)
-
-pub on-err : {X Y P : Type 0} (r : Result X Y) → P → OnErr r P
-on-err (Ok x) p = tt
-on-err (Err y) p = p

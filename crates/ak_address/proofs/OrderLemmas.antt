@@ -2,7 +2,7 @@
 use Rattle.std.proofs.Common.{◌≡◌, ℕ, Bool, true, false, ◌&&◌, nat_eq, List, refl, sym, ap, ◌∙◌, true≢false}
 use Rattle.std.specs.declared.cmp.Ordering.{Ordering}
 use Rattle.std.specs.declared.cmp.Ordering.TheVariants.{Less, Equal, Greater}
-use Rattle.std.specs.Ordering.{nat_cmp, is_eq, ordering_then}
+use Rattle.std.specs.Ordering.{nat_cmp, is_eq, is_lt, ordering_then}
 use Rattle.std.specs.Cmp.{IsTotalOrder, unsigned_ties, both_tied}
 use Rattle.std.specs.Cmp.Lexicographic.{slice_cmp, pointwise, lists_ties}
 use Rattle.std.specs.FinMap.{IsAntisymmetric}
@@ -36,6 +36,12 @@ tied_is a b is = by_case (address_cmp a b) refl is
 
 pub tied_self : (a : AddressModel) → is_eq (address_cmp a a) ≡ true
 tied_self a = ap is_eq (tied_itself address_total a)
+
+-- ---- what an order tells
+pub less_of : (o : Ordering) → is_lt o ≡ true → o ≡ Less
+less_of Less is = refl
+less_of Equal is = absurd (true≢false (sym is))
+less_of Greater is = absurd (true≢false (sym is))
 
 -- ---- equal ones tie
 pub bytes_tie : (a b : List ℕ) → pointwise nat_eq a b ≡ is_eq (slice_cmp nat_cmp a b)

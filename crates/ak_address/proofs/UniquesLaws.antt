@@ -1,12 +1,13 @@
 -- What a set of processes has after a change, and at each index.
-use Rattle.std.proofs.Common.{◌≡◌, ℕ, Bool, true, false, cond, not, ◌&&◌, ◌||◌, List, [], ◌∷◌, slice_get, Option, Some, None, is_some, unwrap_or, option_map, refl, sym, ap, ◌∙◌, true≢false}
+use Rattle.std.proofs.Common.{◌≡◌, ℕ, Bool, true, false, cond, ◌&&◌, ◌||◌, List, [], ◌∷◌, length, slice_get, Option, Some, None, is_some, unwrap_or, option_map, refl, sym, ap, ◌∙◌, true≢false}
 use Rattle.std.specs.Ordering.{eq_by_cmp}
 use Rattle.std.specs.FinMap as map
 use Rattle.std.specs.List.{list_any}
 use Rattle.std.proofs.lemmas.Option.{slice_get-map}
+use Rattle.std.proofs.lemmas.List.{length-map}
 use Rattle.ak_address.specs.Unique.{UniqueModel, unique_cmp}
 use Rattle.ak_address.specs.Table.{merged_at}
-use Rattle.ak_address.specs.Uniques.{UniqueSet, no_one, has, with_one, those, in_order, union, set_of}
+use Rattle.ak_address.specs.Uniques.{UniqueSet, no_one, has, with_one, those, in_order, union, set_of, how_many}
 use Rattle.ak_address.proofs.OrderLemmas.{unique_exact}
 use Rattle.ak_address.proofs.TableLaws.{same_key, same_table, get-empty, get-insert, get_at, index_of_get, get-merged_tables}
 
@@ -24,10 +25,6 @@ alike (Some u) (Some v) h = refl
 put_in : (b : Bool) (a : Option (Unit {0})) → is_some (cond b (Some tt) a) ≡ (b || is_some a)
 put_in true a = refl
 put_in false a = refl
-
-removed_pair : (b : Bool) (a : Option (Unit {0})) → is_some (cond b None a) ≡ (not b && is_some a)
-removed_pair true a = refl
-removed_pair false a = refl
 
 passed : (b : Bool) (a : Option (Unit {0})) → is_some (cond b a None) ≡ (is_some a && b)
 passed true None = refl
@@ -86,3 +83,7 @@ has-union s t q = ap is_some (get-merged_tables (λ _ _. tt) s t q) ∙ either (
 pub has-set_of : (whos : List UniqueModel) (q : UniqueModel) → has (set_of whos) q ≡ list_any (eq_by_cmp unique_cmp q) whos
 has-set_of [] q = has-no_one q
 has-set_of (who ∷ whos) q = has-with_one (set_of whos) who q ∙ ap (λ b. eq_by_cmp unique_cmp q who || b) (has-set_of whos q)
+
+-- a set has as many processes as there are in its order
+pub length-in_order : (s : UniqueSet) → length (in_order s) ≡ how_many s
+length-in_order s = length-map (map.entries s) _ ∙ sym (map.len-entries s)

@@ -1,8 +1,9 @@
 -- What versions count after a merge and a bump, and the order that covering is.
-use Rattle.std.proofs.Common.{◌≡◌, ◌≢◌, ℕ, zero, suc, ◌+◌, ◌<◌, ◌≤◌, max, leb, Bool, true, false, ◌&&◌, ◌↔◌, inl, inr, T, List, [], ◌∷◌, Option, Some, None, is_some, unwrap_or, slice_get, Result, Ok, Err, IfOk, OnOk, OnErr, refl, sym, ap, ◌∙◌, subst, arith, true≢false, leb-true, leb-false, le-leb, ◌⊎◌, if◌then◌else◌}
-use Rattle.std.proofs.lemmas.Bool.{lt-leb}
+use Rattle.std.proofs.Common.{◌≡◌, ◌≢◌, ℕ, zero, suc, ◌+◌, ◌<◌, ◌≤◌, max, leb, Bool, true, false, ◌↔◌, inl, inr, T, List, [], ◌∷◌, Option, Some, None, is_some, unwrap_or, slice_get, Result, Ok, Err, IfOk, OnOk, OnErr, refl, sym, ap, ◌∙◌, subst, arith, true≢false, leb-true, leb-false, le-leb, ◌⊎◌, if◌then◌else◌}
+use Rattle.std.proofs.lemmas.Bool.{lt-leb, and_from}
 use Rattle.std.specs.List.{list_all}
 use Rattle.std.specs.FinMap as map
+use Rattle.std.specs.Cmp.{first_so, second_so}
 use Rattle.ak_address.specs.Pairs.{index}
 use Rattle.ak_address.specs.Unique.{UniqueModel, unique_cmp}
 use Rattle.ak_address.specs.Table.{merged_at}
@@ -35,13 +36,13 @@ twice : (a : Option ℕ) → merged_at max a a ≡ a
 twice None = refl
 twice (Some x) = ap Some (omega arith)
 
-same_at : (a b : Option ℕ) → a ≢ Some 0 → b ≢ Some 0 → unwrap_or a 0 ≡ unwrap_or b 0 → a ≡ b
+pub same_at : (a b : Option ℕ) → a ≢ Some 0 → b ≢ Some 0 → unwrap_or a 0 ≡ unwrap_or b 0 → a ≡ b
 same_at None None p q e = refl
 same_at None (Some y) p q e = absurd (q (ap Some (sym e)))
 same_at (Some x) None p q e = absurd (p (ap Some e))
 same_at (Some x) (Some y) p q e = ap Some e
 
-no_zero_at : (a b : Option ℕ) → a ≢ Some 0 → b ≢ Some 0 → merged_at max a b ≢ Some 0
+pub no_zero_at : (a b : Option ℕ) → a ≢ Some 0 → b ≢ Some 0 → merged_at max a b ≢ Some 0
 no_zero_at None b p q e = q e
 no_zero_at (Some x) None p q e = p e
 no_zero_at (Some x) (Some y) p q e = let zero_max : max x y ≡ 0 = ap (λ o. unwrap_or o 0) e in p (ap Some (omega arith))
@@ -220,27 +221,15 @@ bumped_covers v a u = elim (same_or_apart u a) [
 ]
 
 -- ---- the test of covering
-and_both : (a b : Bool) → a ≡ true → b ≡ true → (a && b) ≡ true
-and_both true b p q = q
-and_both false b p q = p
-
-and_first : (a b : Bool) → (a && b) ≡ true → a ≡ true
-and_first true b p = refl
-and_first false b p = p
-
-and_second : (a b : Bool) → (a && b) ≡ true → b ≡ true
-and_second true b p = p
-and_second false b p = absurd (true≢false (sym p))
-
 module _ {A : Type 0} (p : A → Bool) where
   pub passes_at : (xs : List A) (i : ℕ) (x : A) → list_all p xs ≡ true → slice_get xs i ≡ Some x → p x ≡ true
   passes_at [] i x all is = absurd (true≢false (ap is_some (sym is)))
-  passes_at (y ∷ xs) zero x all is = ap p (sym (ap (λ o. unwrap_or o y) is)) ∙ and_first _ _ all
-  passes_at (y ∷ xs) (suc i) x all is = passes_at xs i x (and_second _ _ all) is
+  passes_at (y ∷ xs) zero x all is = ap p (sym (ap (λ o. unwrap_or o y) is)) ∙ first_so _ _ all
+  passes_at (y ∷ xs) (suc i) x all is = passes_at xs i x (second_so _ _ all) is
 
   pub all_pass : (xs : List A) → ((i : ℕ) (x : A) → slice_get xs i ≡ Some x → p x ≡ true) → list_all p xs ≡ true
   all_pass [] each = refl
-  all_pass (y ∷ xs) each = and_both _ _ (each 0 y refl) (all_pass xs (λ i x is. each (suc i) x is))
+  all_pass (y ∷ xs) each = and_from _ _ (each 0 y refl) (all_pass xs (λ i x is. each (suc i) x is))
 
 pub covers_from_test : (v w : Counts) → covers v w ≡ true → Covers v w
 unfolding covers

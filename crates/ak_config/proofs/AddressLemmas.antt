@@ -1,7 +1,7 @@
 -- The address that a text spells by its parts is the one that it spells.
 use Rattle.std.proofs.Common.{◌≡◌, ℕ, ◌^◌, ◌<◌, ◌≤◌, Bool, true, false, ◌&&◌, List, [], ◌∷◌, length, Some, None, refl, sym, ◌∙◌, ap, subst, arith, inl, inr}
 use Rattle.std.specs.Prelude.{nat_le, nat_lt, if◌then◌else◌}
-use Rattle.std.proofs.lemmas.Bool.{and_parts, cases_Bool}
+use Rattle.std.proofs.lemmas.Bool.{and_parts, cases_Bool, and_from}
 use Rattle.std.proofs.lemmas.Bool.Decides.{nat_tests}
 use Rattle.std.proofs.lemmas.Option.{same_Some}
 use Rattle.std.specs.List.{list_all}
@@ -11,9 +11,6 @@ use Rattle.ak_address.specs.Unique.{AddressModel, IsHost, is_host_byte}
 use Rattle.ak_address.specs.Spelling.{IsNumber, IsPort, SpellsAddress, before_byte, after_byte}
 use Rattle.ak_address.proofs.SpellingLemmas.{address_parts, address_read}
 use Rattle.ak_config.specs.Address.{is_host, is_port, spelled_address}
-
-both : (a b : Bool) → a ≡ true → b ≡ true → (a && b) ≡ true
-both a b p q = rw (p, q) refl
 
 le_from : (m n : ℕ) → nat_le m n ≡ true → m ≤ n
 le_from m n h = grind (arith, nat_tests)
@@ -30,7 +27,7 @@ lt_passes m n h = grind (arith, nat_tests)
 host_passes : (bytes : List ℕ) → IsHost bytes → is_host bytes ≡ true
 unfolding is_host
 host_passes bytes h =
-    both _ _ (le_passes 1 (length bytes) h.not_empty) (both _ _ (le_passes (length bytes) 64 h.short) h.letters)
+    and_from _ _ (le_passes 1 (length bytes) h.not_empty) (and_from _ _ (le_passes (length bytes) 64 h.short) h.letters)
 
 host_from : (bytes : List ℕ) → is_host bytes ≡ true → IsHost bytes
 unfolding is_host
@@ -45,7 +42,7 @@ are_digits digits = list_all (λ c. nat_lt (digit_value c) 10) digits
 
 digits_pass : (ds : List ℕ) → AllDigits 10 ds → are_digits ds ≡ true
 digits_pass [] h = refl
-digits_pass (d ∷ ds) h = both _ _ (lt_passes (digit_value d) 10 h.0) (digits_pass ds h.1)
+digits_pass (d ∷ ds) h = and_from _ _ (lt_passes (digit_value d) 10 h.0) (digits_pass ds h.1)
 
 digits_from : (ds : List ℕ) → are_digits ds ≡ true → AllDigits 10 ds
 digits_from [] h = tt
@@ -54,12 +51,12 @@ digits_from (d ∷ ds) h =
     (lt_from (digit_value d) 10 here, digits_from ds more)
 
 port_range : (n value : ℕ) → value ≡ n → 1 ≤ n → n < 2 ^ 16 → (nat_le 1 value && nat_lt value (2 ^ 16)) ≡ true
-port_range n value is least most = both _ _ (le_passes 1 value (rw is least)) (lt_passes value (2 ^ 16) (rw is most))
+port_range n value is least most = and_from _ _ (le_passes 1 value (rw is least)) (lt_passes value (2 ^ 16) (rw is most))
 
 port_passes : (digits : List ℕ) (n : ℕ) → IsNumber digits n → 1 ≤ n → n < 2 ^ 16 → is_port digits ≡ true
 unfolding is_port
 port_passes digits n number least most =
-    both _ _ (le_passes 1 (length digits) number.not_empty) (both _ _ (le_passes (length digits) 20 number.short) (both _ _ (digits_pass digits number.digits) (port_range n (digits_value 10 digits) number.value least most)))
+    and_from _ _ (le_passes 1 (length digits) number.not_empty) (and_from _ _ (le_passes (length digits) 20 number.short) (and_from _ _ (digits_pass digits number.digits) (port_range n (digits_value 10 digits) number.value least most)))
 
 port_from : (digits : List ℕ) → is_port digits ≡ true → IsPort digits
 unfolding is_port

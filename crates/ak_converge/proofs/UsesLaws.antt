@@ -6,6 +6,7 @@ use Rattle.std.specs.Cmp.Lexicographic.{pointwise}
 use Rattle.std.specs.List.{AllByRecursion, IsDistinct, list_any, fold}
 use Rattle.std.specs.Map.{keys_of, lookup}
 use Rattle.std.specs.FinMap as map
+use Rattle.std.specs.Cmp.{both_ways}
 use Rattle.ak_address.specs.Keys.{address_key}
 use Rattle.ak_address.specs.Unique.{AddressModel, address_cmp}
 use Rattle.ak_address.specs.Distinct.{distinct}
@@ -22,12 +23,6 @@ tied a b = eq_by_cmp address_cmp a b
 
 is_tied : (a b : AddressModel) → a ≡ b → tied a b ≡ true
 is_tied a b same = sym (ap (tied a) same) ∙ tied_self a
-
-both_ways : (b c : Bool) → (b ≡ true → c ≡ true) → (c ≡ true → b ≡ true) → b ≡ c
-both_ways true true _ _ = refl
-both_ways true false f _ = sym (f refl)
-both_ways false true _ g = g refl
-both_ways false false _ _ = refl
 
 tied_back : (a b : AddressModel) → tied a b ≡ tied b a
 tied_back a b = both_ways (tied a b) (tied b a) (λ is. is_tied b a (sym (tied_is a b is))) (λ is. is_tied a b (sym (tied_is b a is)))

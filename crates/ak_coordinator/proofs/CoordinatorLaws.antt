@@ -5,6 +5,7 @@ use Rattle.std.proofs.lemmas.Bool.{eqb-true, eq-eqb, ltb-true, ltb-false}
 use Rattle.std.specs.Ordering.{is_eq}
 use Rattle.ak_address.specs.Unique.{UniqueModel, unique_cmp}
 use Rattle.ak_address.proofs.TableLaws.{key_itself, same_key}
+use Rattle.ak_address.proofs.BoolLemmas.{both_true}
 use Rattle.ak_allocation.specs.declared.load.Load.{Load}
 use Rattle.ak_allocation.specs.Allocation.{lightest}
 use Rattle.ak_allocation.specs.Meaning.{IsLightest}
@@ -57,11 +58,6 @@ pub learnt_as_many : (asking : Bool) (from : UniqueModel) (left reports : List R
 learnt_as_many asking from left reports now table same = sym (learnt_many asking from left now) ∙ ap length same ∙ learnt_many asking from reports table
 
 -- ---- which stops are awaited
-both_true : (a b : Bool) → (a && b) ≡ true → (a ≡ true) × (b ≡ true)
-both_true true true h = (refl, refl)
-both_true true false h = absurd (true≢false (sym h))
-both_true false b h = absurd (true≢false (sym h))
-
 is_home_means : (from : UniqueModel) (number : ℕ) (home : Option Home) → (is_home from number home ≡ true) ↔ (home ≡ Some (record { owner = from; number = number }))
 is_home_means from number None = (λ is. absurd (true≢false (sym is)), λ is. absurd (true≢false (sym (ap is_some is))))
 is_home_means from number (Some home) = (forward, λ is. ap (is_home from number) is ∙ itself)

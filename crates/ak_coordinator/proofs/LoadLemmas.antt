@@ -1,13 +1,13 @@
 -- Walks along the pairs of a table, and along the processes of a set.
 use Rattle.std.proofs.Common.{◌≡◌, ◌≢◌, ◌⊎◌, inl, inr, ℕ, ◌+◌, ◌≤◌, Bool, true, false, true≢false, cond, ◌||◌, List, [], ◌∷◌, ◌++◌, map, length, drop, slice_get, Option, None, Some, option_to_list, unwrap_or, refl, sym, ap, ◌∙◌, subst, arith}
-use Rattle.std.proofs.lemmas.List.{map-append, length-map}
+use Rattle.std.proofs.lemmas.List.{map-append}
 use Rattle.std.specs.FinMap as finmap
 use Rattle.std.specs.Ordering.{is_eq}
 use Rattle.ak_address.specs.Unique.{UniqueModel, unique_cmp}
 use Rattle.ak_address.specs.Counters.{Counters, counter}
 use Rattle.ak_address.proofs.TableLaws.{key_itself, other_key, same_or_apart, get-empty, get-insert_here, get-insert_elsewhere}
 use Rattle.ak_member.specs.declared.standing.Standing.{Standing}
-use Rattle.ak_address.specs.Uniques.{UniqueSet, in_order, how_many}
+use Rattle.ak_address.specs.Uniques.{UniqueSet}
 use Rattle.ak_member.specs.declared.status.Status.{Status}
 use Rattle.ak_member.specs.Standing.{member_pairs}
 use Rattle.ak_member.proofs.MemberLemmas.{KeepsPairs, drop_from, keeps_members, kept_pair}
@@ -49,9 +49,6 @@ counted_home counts entry who = by_home entry.home refl
     by_home : (home : Option Home) → entry.home ≡ home → counter (with_home counts home) who ≡ counter counts who + length (filter (is_at who) (entry ∷ []))
     by_home None is = (omega arith) ∙ ap (λ h. counter counts who + length (cond (is_owner who h) (entry ∷ []) [])) (sym is)
     by_home (Some home) is = by_node home (same_or_apart who home.owner) ∙ ap (λ h. counter counts who + length (cond (is_owner who h) (entry ∷ []) [])) (sym is)
-
-pub many_in_order : (s : UniqueSet) → length (in_order s) ≡ how_many s
-many_in_order s = length-map (finmap.entries s) _ ∙ sym (finmap.len-entries s)
 
 -- what is made of the process at an index, and of those after it
 pub begins_next : {Y : Type 0} (f : UniqueModel → Y) (whos : List UniqueModel) (i : ℕ) (who : Option UniqueModel) → who ≡ slice_get whos i

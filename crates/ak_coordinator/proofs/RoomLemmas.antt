@@ -4,6 +4,7 @@ use Rattle.std.specs.Option.{IfSome, IsSome}
 use Rattle.std.proofs.lemmas.Bool.{eq-eqb, lt-ltb}
 use Rattle.std.proofs.lemmas.List.{length-map, length-set, nil_from_length, get_or-map, get_or-set_same}
 use Rattle.ak_address.specs.Uniques.{UniqueSet, no_one, how_many, in_order}
+use Rattle.ak_address.proofs.UniquesLaws.{length-in_order}
 use Rattle.ak_settled.specs.SettledView.{SettledView}
 use Rattle.ak_settled.specs.Settled.{standings_of}
 use Rattle.ak_coordinator.specs.declared.entry.Stage.TheVariants as stages
@@ -11,7 +12,6 @@ use Rattle.ak_coordinator.specs.Table.{Home, ShardEntry, ShardTable}
 use Rattle.ak_coordinator.specs.Entry.{unplaced}
 use Rattle.ak_coordinator.specs.Coordinator.{entry_of, with_entry}
 use Rattle.ak_coordinator.specs.Tick.{unfinished, noticed, hurried, moving, first_leaver, after_begin, begun, with_begun, begin_order, orders_of, orders_from, AnyWaited}
-use Rattle.ak_coordinator.proofs.LoadLemmas.{many_in_order}
 
 -- ---- who is waited for
 walked_at : (f : ShardEntry → ShardEntry) (xs : List ShardEntry) (i : ℕ) (d : ShardEntry) → i < length xs → get_or (map f (take i xs) ++ drop i xs) i d ≡ get_or xs i d
@@ -54,7 +54,7 @@ begun_ordered : (shard last : ℕ) (home : Option Home) (started : Bool) (waits 
 begun_ordered shard last None started waits there b is none = true≢false (sym there)
 begun_ordered shard last (Some home) started waits there true is none = let e = ap length none in omega arith
 begun_ordered shard last (Some home) started waits there false is none =
-    let nobody : how_many waits ≡ 0 = sym (many_in_order waits) ∙ sym (length-map (in_order waits) (begin_order shard home.number)) ∙ ap length none in
+    let nobody : how_many waits ≡ 0 = sym (length-in_order waits) ∙ sym (length-map (in_order waits) (begin_order shard home.number)) ∙ ap length none in
     true≢false (sym (eq-eqb (how_many waits) 0 nobody) ∙ is)
 
 pub begin_ordered : (waits : UniqueSet) (table : ShardTable) (shard : ℕ) → shard < length table → IsSome (entry_of table shard).home → orders_from 0 (map hurried (with_begun waits table (Some shard))) ≢ []

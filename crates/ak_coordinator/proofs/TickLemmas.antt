@@ -1,5 +1,5 @@
 -- Where a tick has nothing to do.
-use Rattle.std.proofs.Common.{◌≡◌, ℕ, Bool, true, false, cond, not, ◌||◌, ◌+◌, List, [], ◌∷◌, ◌++◌, take, drop, slice_get, Option, None, Some, option_map, option_to_list, Result, Ok, Err, OnErr, refl, sym, ap, ◌∙◌, arith, map, length}
+use Rattle.std.proofs.Common.{◌≡◌, ℕ, Bool, true, false, cond, not, ◌||◌, ◌+◌, List, [], ◌∷◌, ◌++◌, take, drop, slice_get, Option, None, Some, option_map, option_to_list, refl, sym, ap, ◌∙◌, arith, map, length}
 use Rattle.std.proofs.lemmas.Bool.{or_parts, and_right}
 use Rattle.std.proofs.lemmas.List.{nil_from_length}
 use Rattle.std.proofs.lemmas.List.Folds.{list_any-append}
@@ -9,6 +9,7 @@ use Rattle.std.specs.FinMap as finmap
 use Rattle.ak_address.specs.Unique.{UniqueModel, unique_cmp}
 use Rattle.ak_address.specs.Uniques.{UniqueSet, in_order, how_many, set_of}
 use Rattle.ak_address.proofs.CountersLaws.{set_of-in_order}
+use Rattle.ak_address.proofs.UniquesLaws.{length-in_order}
 use Rattle.ak_member.specs.declared.standing.Standing.{Standing}
 use Rattle.ak_member.specs.declared.status.Status.{Status}
 use Rattle.ak_member.specs.declared.standing.Standing.TheVariants.{Member, Buried}
@@ -20,12 +21,11 @@ use Rattle.ak_settled.specs.Settled.{standings_of, is_over, is_finished}
 use Rattle.ak_coordinator.specs.Table.{Home, ShardEntry}
 use Rattle.ak_coordinator.specs.Entry.{moves, freed}
 use Rattle.ak_coordinator.specs.Tick.{is_unfinished, unfinished, noticed, IsPartlyNoticed, has_finished_home, is_exiting_pair, has_exiting_home, leaves_exiting, first_from}
-use Rattle.ak_coordinator.proofs.LoadLemmas.{many_in_order}
 
 -- nobody was waited for, and nobody is
 nobody_left : (margin : ℕ) (settled : SettledView) (whos : UniqueSet) → how_many whos ≡ 0 → unfinished margin settled whos ≡ whos
 nobody_left margin settled whos none =
-    let empty = nil_from_length (in_order whos) (many_in_order whos ∙ none) in
+    let empty = nil_from_length (in_order whos) (length-in_order whos ∙ none) in
     ap (λ l. set_of (filter (is_unfinished margin settled) l)) empty ∙ ap set_of (sym empty) ∙ set_of-in_order whos
 
 pub nothing_noticed : (margin : ℕ) (settled : SettledView) (entry : ShardEntry) → has_finished_home margin settled entry.home ≡ false → how_many entry.waits ≡ 0 → entry ≡ noticed margin settled entry
@@ -129,8 +129,3 @@ module _ (p : UniqueModel × (Status × ℕ) → Bool) (pairs : List (UniqueMode
   pub nobody_there : {M : Type 0} (f : M → UniqueModel × (Status × ℕ)) (found : Option M) → found ≡ None
       → option_to_list (option_map f found) ≡ member_pairs (option_to_list (slice_get pairs i)) → false ≡ list_any p (member_pairs (option_to_list (slice_get pairs i)))
   nobody_there f found none at = ap (list_any p) (ap (λ r. option_to_list (option_map f r)) (sym none) ∙ at)
-
--- ---- where memory ran out
-pub on_err : {X E P : Type 0} (r : Result X E) → P → OnErr r P
-on_err (Ok x) p = tt
-on_err (Err error) p = p

@@ -1,5 +1,5 @@
 -- Who is on the ring, who is watched, and who is silent.
-use Rattle.std.proofs.Common.{◌≡◌, ◌≢◌, ℕ, ◌+◌, ◌≤◌, Bool, true, false, cond, ◌&&◌, ◌||◌, ◌⊎◌, inl, inr, IsTrue, List, [], ◌∷◌, map, length, take, nat_lt, Option, Some, None, is_some, unwrap_or, if◌then◌else◌, refl, sym, ap, ◌∙◌, arith, true≢false}
+use Rattle.std.proofs.Common.{◌≡◌, ◌≢◌, ℕ, ◌+◌, ◌≤◌, Bool, true, false, cond, ◌&&◌, ◌||◌, inl, inr, IsTrue, List, [], ◌∷◌, map, length, take, nat_lt, Option, Some, None, is_some, unwrap_or, if◌then◌else◌, refl, sym, ap, ◌∙◌, arith, true≢false}
 use Rattle.std.proofs.lemmas.Bool.{le-ltb}
 use Rattle.std.proofs.lemmas.List.{take_all, length-take}
 use Rattle.std.proofs.lemmas.List.Folds.{list_any-append}
@@ -7,7 +7,7 @@ use Rattle.std.specs.List.{filter}
 use Rattle.std.specs.declared.cmp.Ordering.{Ordering}
 use Rattle.std.specs.declared.cmp.Ordering.TheVariants.{Less, Equal, Greater}
 use Rattle.std.specs.Ordering.{is_eq, is_lt, eq_by_cmp, ordering_reverse}
-use Rattle.std.specs.Cmp.{tied_itself}
+use Rattle.std.specs.Cmp.{tied_itself, first_so, second_so}
 use Rattle.std.specs.FinMap as finmap
 use Rattle.ak_address.specs.Unique.{UniqueModel, unique_cmp}
 use Rattle.ak_address.specs.Uniques.{has, how_many, in_order, set_of}
@@ -15,25 +15,13 @@ use Rattle.ak_address.specs.Counters.{Counters, counter}
 use Rattle.ak_address.proofs.OrderLemmas.{unique_total, unique_exact}
 use Rattle.ak_address.proofs.TableLaws.{same_key, same_table, get-insert_here}
 use Rattle.ak_address.proofs.CountersLaws.{among, among-filter, among-take, has-set_of, how_many-set_of, raised_same, get-with_each, passes, among_passing}
+use Rattle.ak_address.proofs.BoolLemmas.{or_either}
 use Rattle.ak_member.specs.declared.status.Status.{Status}
 use Rattle.ak_member.specs.declared.standing.Standing.{Standing}
 use Rattle.ak_member.specs.declared.standing.Standing.TheVariants.{Member, Buried}
 use Rattle.ak_member.specs.Standing.{Standings, is_member, member_of, as_member, member_pairs, members_of}
 use Rattle.ak_detector.specs.Detector.{most_watched, others_around, watch_ring, is_silent, silent, watching, heard, ticked}
 use Rattle.ak_detector.proofs.DetectorLemmas.{is_silent_by, has-silent}
-
--- ---- bools
-or_either : (a b : Bool) → (a || b) ≡ true → (a ≡ true) ⊎ (b ≡ true)
-or_either true b is = inl refl
-or_either false b is = inr is
-
-and_first : (a b : Bool) → (a && b) ≡ true → a ≡ true
-and_first true b is = refl
-and_first false b is = absurd (true≢false (sym is))
-
-and_last : (a b : Bool) → (a && b) ≡ true → b ≡ true
-and_last true b is = is
-and_last false b is = absurd (true≢false (sym is))
 
 -- ---- the other members
 members_by_pair : (pairs : List (UniqueModel × Standing)) → map (λ (pair : UniqueModel × (Status × ℕ)). pair.0) (member_pairs pairs) ≡ map (λ (e : UniqueModel × Standing). e.0) (filter (λ (e : UniqueModel × Standing). is_some (as_member e.1)) pairs)
@@ -87,13 +75,13 @@ pub ring_others : (me : UniqueModel) (s : Standings) (who : UniqueModel) → has
 ring_others me s who is = sym (among_others me s who) ∙ among-take most_watched (others_around me s) who (sym (has-set_of (take most_watched (others_around me s)) who) ∙ is)
 
 pub ring_members : (me : UniqueModel) (s : Standings) (who : UniqueModel) → IsTrue (has (watch_ring me s) who) → is_member s who ≡ true
-ring_members me s who is = and_first _ _ (ring_others me s who is)
+ring_members me s who is = first_so _ _ (ring_others me s who is)
 
 pub ring_without : (me : UniqueModel) (s : Standings) → has (watch_ring me s) me ≡ false
 ring_without me s = by_presence (has (watch_ring me s) me) refl
   where
     by_presence : (b : Bool) → has (watch_ring me s) me ≡ b → b ≡ false
-    by_presence true is = sym (and_last _ _ (ring_others me s me is)) ∙ not_other me
+    by_presence true is = sym (second_so _ _ (ring_others me s me is)) ∙ not_other me
     by_presence false is = refl
 
 pub ring_few : (me : UniqueModel) (s : Standings) → how_many (watch_ring me s) ≤ most_watched
@@ -133,7 +121,7 @@ module _ (me : UniqueModel) (s : Standings) (deadline : ℕ) (c : Counters) (who
   pub watched_member : finmap.contains_key (watching me s deadline c) who ≡ true → is_member s who ≡ true
   watched_member is = elim (or_either (has (watch_ring me s) who) ((is_silent deadline c who && is_member s who) && finmap.contains_key c who) (sym is_watched ∙ is)) [
     | inl ring ↦ ring_members me s who ring
-    | inr kept ↦ and_last (is_silent deadline c who) (is_member s who) (and_first _ _ kept)
+    | inr kept ↦ second_so (is_silent deadline c who) (is_member s who) (first_so _ _ kept)
   ]
 
   -- the ring is watched

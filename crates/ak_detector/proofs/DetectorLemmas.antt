@@ -7,7 +7,7 @@ use Rattle.std.proofs.lemmas.List.{length-append}
 use Rattle.std.proofs.lemmas.Bool.Decides.{nat_tests}
 use Rattle.std.proofs.lemmas.List.Sums.{fold-append}
 use Rattle.ak_address.specs.Unique.{UniqueModel, unique_cmp}
-use Rattle.ak_address.specs.Uniques.{UniqueSet, no_one, has, with_one, how_many, in_order, set_of}
+use Rattle.ak_address.specs.Uniques.{UniqueSet, no_one, has, with_one, in_order, set_of}
 use Rattle.ak_address.specs.Changed.{keys_of}
 use Rattle.ak_address.specs.Counters.{Counters, counter, with_each, above}
 use Rattle.ak_address.proofs.TableLaws.{same_key, same_table, get-empty, get-insert}
@@ -27,14 +27,6 @@ keeps_above limit = keeps_mapped (filter (λ (e : UniqueModel × ℕ). nat_lt li
 
 pub keeps_those : (p : UniqueModel → Bool) → KeepsPairs (filter p)
 keeps_those p = keeps_filtered (λ xs. xs) keeps_all p
-
--- a set has as many processes as indices
-length-names : {X : Type 0} (es : List (UniqueModel × X)) → length (map (λ (e : UniqueModel × X). e.0) es) ≡ length es
-length-names [] = refl
-length-names (e ∷ es) = ap suc (length-names es)
-
-pub length-in_order : (s : UniqueSet) → length (in_order s) ≡ how_many s
-length-in_order s = length-names (finmap.entries s) ∙ sym (finmap.len-entries s)
 
 -- ---- the ring
 take-none : {X : Type 0} (n : ℕ) → take {A = X} n [] ≡ []

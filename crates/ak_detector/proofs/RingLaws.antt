@@ -20,6 +20,7 @@ use Rattle.ak_address.proofs.Pairs.{Stands, known, rises, not_None, IsAboveBefor
 use Rattle.ak_address.proofs.TableLaws.{same_table, none_of_length}
 use Rattle.ak_address.proofs.ChangedLaws.{has-keys_of}
 use Rattle.ak_address.proofs.CountersLaws.{set_of-in_order}
+use Rattle.ak_address.proofs.UniquesLaws.{length-in_order}
 use Rattle.ak_member.specs.declared.standing.Standing.{Standing}
 use Rattle.ak_member.specs.declared.standing.Standing.TheVariants.{Member, Buried}
 use Rattle.ak_member.specs.Standing.{Standings, is_member}
@@ -28,7 +29,7 @@ use Rattle.ak_member.proofs.Folds.{kept_none, set_of_none}
 use Rattle.ak_detector.specs.Detector.{most_watched, watch_ring, is_silent, watching}
 use Rattle.ak_detector.specs.Sides.{Agrees, BeginWith, Differs, is_on_side, names_of, run, side_pairs}
 use Rattle.ak_detector.proofs.DetectorLaws.{get-watching}
-use Rattle.ak_detector.proofs.DetectorLemmas.{take-append, length-in_order, ring_walked}
+use Rattle.ak_detector.proofs.DetectorLemmas.{take-append, ring_walked}
 use Rattle.ak_detector.proofs.RingOrder.{keeps_names, set_turned, ring_in_order}
 
 -- ---- elements of parts of a list

@@ -1,5 +1,5 @@
 -- The ring in the order of processes: those before the node, and then those after it.
-use Rattle.std.proofs.Common.{◌≡◌, ℕ, zero, suc, ◌-◌, ◌⊎◌, inl, inr, Bool, true, false, cond, ◌||◌, T, List, [], ◌∷◌, ◌++◌, map, length, take, subst, refl, sym, ap, ◌∙◌}
+use Rattle.std.proofs.Common.{◌≡◌, ℕ, zero, suc, ◌-◌, ◌⊎◌, inl, inr, Bool, true, false, cond, T, List, [], ◌∷◌, ◌++◌, map, length, take, subst, refl, sym, ap, ◌∙◌}
 use Rattle.std.proofs.lemmas.List.Folds.{list_any-append}
 use Rattle.std.specs.List.{filter}
 use Rattle.std.specs.declared.cmp.Ordering.{Ordering}
@@ -14,6 +14,7 @@ use Rattle.ak_address.proofs.Pairs.{both}
 use Rattle.ak_address.proofs.DistinctLaws.{IsBelow, AreRising}
 use Rattle.ak_address.proofs.UniquesLaws.{same_uniques}
 use Rattle.ak_address.proofs.CountersLaws.{among, has-set_of, set_of-in_order}
+use Rattle.ak_address.proofs.BoolLemmas.{or_turned}
 use Rattle.ak_member.specs.declared.standing.Standing.{Standing}
 use Rattle.ak_member.specs.declared.standing.Standing.TheVariants.{Member, Buried}
 use Rattle.ak_member.specs.Standing.{Standings, member_pairs}
@@ -118,12 +119,6 @@ module _ (me : UniqueModel) where
       own (who, Buried confirmed) = inl refl
 
 -- ---- the ring
-or_turned : (a b : Bool) → (a || b) ≡ (b || a)
-or_turned true true = refl
-or_turned true false = refl
-or_turned false true = refl
-or_turned false false = refl
-
 pub set_turned : (xs ys : List UniqueModel) → set_of (xs ++ ys) ≡ set_of (ys ++ xs)
 set_turned xs ys = same_uniques _ _ (λ q.
     has-set_of (xs ++ ys) q

@@ -6,6 +6,7 @@ use Rattle.std.proofs.lemmas.Option.{same_Some}
 use Rattle.ak_address.specs.Unique.{AddressModel}
 use Rattle.ak_options.specs.CommandLine.{IsCommandName}
 use Rattle.ak_options.specs.declared.command.Request.{Request}
+use Rattle.ak_options.proofs.CommandLemmas.{same_name}
 use Rattle.ak_driver.specs.WordsContracts.{NamesCommand, words_of}
 use Rattle.ak_driver.specs.StatusContracts.{AsksReplay, AsksSweep, AsksNode, AsksControl}
 
@@ -15,16 +16,13 @@ first_word [] word is = absurd (true≢false (sym (ap is_some is)))
 first_word (x ∷ []) word is = absurd (true≢false (sym (ap is_some is)))
 first_word (x ∷ y ∷ rest) word is = (rest, ap (λ (w : List ℕ). w ∷ rest) (same_Some _ _ is))
 
-same_first : (one other : List ℕ) (rest more : List (List ℕ)) → one ∷ rest ≡ other ∷ more → one ≡ other
-same_first one other rest more is = cc
-
 pub named : (known : Option (List (List ℕ))) (word : List ℕ) (b : Bool) → IfSome known (λ all. slice_get all 1 ≡ Some word) → (IsTrue b ↔ IsCommandName word)
     → IfSome known (λ all. IsTrue b ↔ NamesCommand (words_of all))
 named None word b is says = tt
 named (Some all) word b is says =
     let first = first_word all word is in (
       λ on. (word, first.0, first.1, says.0 on),
-      λ names. says.1 (subst IsCommandName (same_first names.0 word names.1 first.0 (sym names.2 ∙ first.1)) names.3),
+      λ names. says.1 (subst IsCommandName (same_name names.0 word names.1 first.0 (sym names.2 ∙ first.1)) names.3),
     )
 
 -- ---- words whose first is no command's name ask for nothing

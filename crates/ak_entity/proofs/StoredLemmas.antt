@@ -1,5 +1,5 @@
 -- A tree from vectors of bytes, seen as a finite map from ids.
-use Rattle.std.proofs.Common.{◌≡◌, ℕ, Bool, true, false, cond, T, not, ◌==◌, length, List, [], ◌∷◌, Some, Result, Ok, Err, OnErr, is_some, Vec, IsTrue, refl, sym, ap, ◌∙◌, true≢false}
+use Rattle.std.proofs.Common.{◌≡◌, ℕ, Bool, true, false, cond, T, not, ◌==◌, length, List, [], ◌∷◌, Some, is_some, Vec, IsTrue, refl, sym, ap, ◌∙◌, true≢false}
 use Rattle.std.specs.Global.{Global}
 use Rattle.std.specs.List.{filter}
 use Rattle.std.specs.FinMap as finmap
@@ -130,7 +130,3 @@ module _ (stored : Stored) (sorted : IsTrue (is_sorted entity_cmp (pairs_of stor
 
   pub rest_is : finmap.from_sorted (pairs_of after) ≡ without_shard m shard
   rest_is = ap finmap.from_sorted (left ∙ ap (filter (is_elsewhere shard)) (sym (stored_pairs stored sorted m is)))
-
-pub on_err : {A E P : Type 0} (r : Result A E) → P → OnErr r P
-on_err (Ok a) p = tt
-on_err (Err e) p = p

@@ -7,7 +7,7 @@ use Rattle.std.specs.List.{AllByRecursion, flat_map}
 use Rattle.std.specs.Ordering.{is_lt}
 use Rattle.std.specs.declared.cmp.Ordering.TheVariants.{Less}
 use Rattle.ak_address.specs.Unique.{UniqueModel, IsUnique, unique_cmp}
-use Rattle.ak_address.proofs.OrderLemmas.{unique_total}
+use Rattle.ak_address.proofs.OrderLemmas.{unique_total, less_of}
 use Rattle.ak_address.proofs.Pairs.{below_at, first, second}
 use Rattle.ak_clock.specs.declared.version.TheConstants.{BOUND}
 use Rattle.ak_shard_id.specs.declared.report.Report.{Report}
@@ -23,7 +23,7 @@ use Rattle.ak_field.proofs.Combined.{checked_field, made_field, first_field}
 use Rattle.ak_field.proofs.Small.{wide16, wide_field}
 use Rattle.ak_field.proofs.Whole.{Ranges, in_range, range_of, length_field, number_field, shard_field, flag_field, unique_field}
 use Rattle.ak_field.proofs.Items.{items_field}
-use Rattle.ak_field.proofs.Versions.{who, less, made_again}
+use Rattle.ak_field.proofs.Versions.{who, made_again}
 
 -- ---- the next process
 pub next_unique_field : (last : Option UniqueModel) → IsField (next_unique_at last) process (λ u. IsUnique u × IsTrue (is_above last u))
@@ -61,7 +61,7 @@ is_less u v e = subst (λ o. T (is_lt o)) (sym e) tt
 below_chain : (k : UniqueModel) (last : UniqueModel × ℕ) (es : List (UniqueModel × ℕ)) → ((u : UniqueModel) → unique_cmp last.0 u ≡ Less → unique_cmp k u ≡ Less) → AllAfter IsCounted (Some last) es → T (below_all unique_cmp k es)
 below_chain k last [] under chain = tt
 below_chain k last (e ∷ es) under chain =
-    let here : unique_cmp k e.0 ≡ Less = under e.0 (less _ chain.0.above) in
+    let here : unique_cmp k e.0 ≡ Less = under e.0 (less_of _ chain.0.above) in
     both_true _ _ (is_less k e.0 here) (below_chain k e es (λ u lt. unique_total.trans k e.0 u here lt) chain.1)
 
 sorted_chain : (last : Option (UniqueModel × ℕ)) (es : List (UniqueModel × ℕ)) → AllAfter IsCounted last es → T (is_sorted unique_cmp es)

@@ -4,8 +4,8 @@ use Rattle.std.specs.List.{flat_map}
 use Rattle.std.proofs.lemmas.List.{length-append}
 use Rattle.std.proofs.lemmas.List.Concat.{flat_map-cons}
 use Rattle.std.proofs.lemmas.Option.{same_Some}
+use Rattle.ak_address.proofs.BoolLemmas.{none_there}
 use Rattle.ak_shard_id.specs.declared.report.Report.{Report}
-use Rattle.ak_gossip.proofs.PartsOrder.{not_there}
 use Rattle.ak_field.specs.Spelling.{report}
 
 module _ {X : Type 0} (spelled : X → List ℕ) (xs : List X) where
@@ -20,7 +20,7 @@ module _ {X : Type 0} (spelled : X → List ℕ) (xs : List X) where
       omega (arith, len, added, so_far)
     where
       drop_at_index : (ys : List X) (j : ℕ) (y : X) → slice_get ys j ≡ Some y → drop j ys ≡ y ∷ drop (j + 1) ys
-      drop_at_index [] j y at = absurd (not_there y at)
+      drop_at_index [] j y at = absurd (none_there y at)
       drop_at_index (z ∷ ys) zero y at = ap (λ (w : X). w ∷ ys) (same_Some z y at)
       drop_at_index (z ∷ ys) (suc j) y at = let one : suc (j + 1) ≡ suc j + 1 = omega arith in drop_at_index ys j y at ∙ ap (λ (k : ℕ). y ∷ drop k (z ∷ ys)) one
 

@@ -2,15 +2,17 @@
 use Rattle.std.proofs.Common.{◌≡◌, ℕ, zero, suc, ◌^◌, ◌<◌, ◌≤◌, Bool, true, nat_lt, IsTrue, List, [], ◌∷◌, ◌++◌, length, slice_get, Option, Some, None, option_map, Result, Ok, refl, sym, ap, subst, ◌∙◌, arith}
 use Rattle.std.specs.List.{AllByRecursion, flat_map}
 use Rattle.std.specs.Int.{w64}
+use Rattle.std.specs.Cmp.{first_so, second_so}
 use Rattle.std.proofs.lemmas.List.Concat.{flat_map-cons}
 use Rattle.std.proofs.lemmas.Option.{same_Some}
+use Rattle.std.proofs.lemmas.Bool.{and_from}
 use Rattle.ak_address.specs.Unique.{UniqueModel, IsUnique}
+use Rattle.ak_address.proofs.BoolLemmas.{none_there}
 use Rattle.ak_clock.specs.declared.version.TheConstants.{BOUND}
 use Rattle.ak_gossip.specs.declared.part.Part.{Part}
 use Rattle.ak_gossip.specs.Parts.{IsPart}
 use Rattle.ak_gossip.specs.PartsWalk.{ascend_from, is_above, ascend_after}
-use Rattle.ak_gossip.proofs.PartsOrder.{test_of, all_ascend, all_below, both_true, not_there, uniques_ascend_from, uniques_test}
-use Rattle.ak_gossip.proofs.InvariantLemmas.{and_first, and_second}
+use Rattle.ak_gossip.proofs.PartsOrder.{test_of, all_ascend, all_below, uniques_ascend_from, uniques_test}
 use Rattle.ak_field.specs.declared.fault.WireFault.{WireFault}
 use Rattle.ak_field.specs.declared.fault.WireFault.TheVariants.{Order, Range}
 use Rattle.ak_field.specs.Reading.{◌>>=◌, byte_at, wide_at, checked, items_at}
@@ -262,10 +264,10 @@ unique_of p = p.unique
 
 in_order : (many : ℕ) (last : Option Part) (list : List Part) → AllAfter (From1 many) last list → ascend_after (option_map unique_of last) list ≡ true
 in_order many last [] each = refl
-in_order many last (p ∷ list) each = both_true _ _ each.0.0.1 (in_order many (Some p) list each.1)
+in_order many last (p ∷ list) each = and_from _ _ each.0.0.1 (in_order many (Some p) list each.1)
 
 each_part : (many : ℕ) (last : Option Part) (list : List Part) → AllAfter (From1 many) last list → (i : ℕ) (p : Part) → slice_get list i ≡ Some p → IsPart many p
-each_part many last [] each i p at = absurd (not_there p at)
+each_part many last [] each i p at = absurd (none_there p at)
 each_part many last (x ∷ list) each zero p at = subst (IsPart many) (same_Some x p at) (part_is many last x each.0)
 each_part many last (x ∷ list) each (suc i) p at = each_part many (Some x) list each.1 i p at
 
@@ -276,8 +278,8 @@ each_unique many last (x ∷ list) each = (each.0.0.0, each_unique many (Some x)
 chained : (many : ℕ) (last : Option Part) (list : List Part) → ascend_after (option_map unique_of last) list ≡ true → ((i : ℕ) (p : Part) → slice_get list i ≡ Some p → IsPart many p) → AllByRecursion (λ (p : Part). IsUnique p.unique) list → AllAfter (From1 many) last list
 chained many last [] order each uniques = tt
 chained many last (x ∷ list) order each uniques = (
-  is_part many last x (uniques.0, and_first _ _ order) (each 0 x refl),
-  chained many (Some x) list (and_second _ _ order) (λ i p at. each (suc i) p at) uniques.1,
+  is_part many last x (uniques.0, first_so _ _ order) (each 0 x refl),
+  chained many (Some x) list (second_so _ _ order) (λ i p at. each (suc i) p at) uniques.1,
 )
 
 pub parts_field : IsField parts_at parts AreSpelled

@@ -3,20 +3,20 @@ use Rattle.std.proofs.Common.{◌≡◌, ◌↔◌, inl, inr, ℕ, zero, suc, �
 use Rattle.std.specs.FinMap as map
 use Rattle.std.specs.List.{AllByRecursion}
 use Rattle.std.proofs.lemmas.Bool.Decides.{nat_tests}
-use Rattle.std.proofs.lemmas.Bool.{cases_lt}
+use Rattle.std.proofs.lemmas.Bool.{cases_lt, and_from}
 use Rattle.std.proofs.lemmas.Option.{same_Some}
 use Rattle.ak_address.specs.Unique.{UniqueModel, IsUnique}
+use Rattle.ak_address.proofs.BoolLemmas.{both_true, none_there}
 use Rattle.ak_clock.specs.declared.version.TheConstants.{BOUND}
 use Rattle.ak_clock.specs.Version.{Counts}
 use Rattle.ak_shard_id.specs.declared.report.Report.{Report}
-use Rattle.ak_gossip.proofs.PartsOrder.{not_there, both_true}
 use Rattle.ak_field.specs.Ranges.{is_from, IsNumber}
 use Rattle.ak_field.specs.Lists.{is_later, AllAfter, IsShort, IsReport, AreReports}
 use Rattle.ak_gossip.specs.declared.part.Part.{Part}
 use Rattle.ak_gossip.specs.Parts.{AreParts}
 use Rattle.ak_field.specs.Parts.{AreSpelled}
 use Rattle.ak_field.specs.Walk.{report_passes, reports_pass}
-use Rattle.ak_field.proofs.Whole.{both, in_range, range_of}
+use Rattle.ak_field.proofs.Whole.{in_range, range_of}
 
 -- ---- one more
 pub so_far : {X : Type 0} (xs : List X) (P : X → Type 0) (n : ℕ) (here : X) → ((i : ℕ) (x : X) → i < n → slice_get xs i ≡ Some x → P x) → slice_get xs n ≡ Some here → P here → (i : ℕ) (x : X) → i < n + 1 → slice_get xs i ≡ Some x → P x
@@ -37,7 +37,7 @@ one_by_one [] all = tt
 one_by_one (e ∷ es) all = (all 0 e refl, one_by_one es (λ i pair at. all (suc i) pair at))
 
 everywhere : (es : List (UniqueModel × ℕ)) → AllByRecursion Holds es → Everywhere es
-everywhere [] each i pair at = absurd (not_there pair at)
+everywhere [] each i pair at = absurd (none_there pair at)
 everywhere (e ∷ es) each zero pair at = subst Holds (same_Some e pair at) each.0
 everywhere (e ∷ es) each (suc i) pair at = everywhere es each.1 i pair at
 
@@ -53,24 +53,24 @@ is_at_most a b le = grind (arith, nat_tests)
 
 report_of : (last : Option Report) (r : Report) → report_passes last r ≡ true → IsReport last r
 report_of last r e =
-    let a = both (nat_le r.shard 999) (is_from 1 BOUND r.number && is_later last r.shard) e in
-    let b = both (is_from 1 BOUND r.number) (is_later last r.shard) a.1 in
+    let a = both_true (nat_le r.shard 999) (is_from 1 BOUND r.number && is_later last r.shard) e in
+    let b = both_true (is_from 1 BOUND r.number) (is_later last r.shard) a.1 in
     let c = range_of 1 BOUND r.number b.0 in
     record { shard = at_most r.shard 999 a.0; later = b.1; number = record { some = c.0; bounded = c.1 } }
 
 of_report : (last : Option Report) (r : Report) → IsReport last r → report_passes last r ≡ true
 of_report last r is =
-    both_true _ _ (is_at_most r.shard 999 is.shard) (both_true _ _ (in_range 1 BOUND r.number is.number.some is.number.bounded) is.later)
+    and_from _ _ (is_at_most r.shard 999 is.shard) (and_from _ _ (in_range 1 BOUND r.number is.number.some is.number.bounded) is.later)
 
 reports_of : (last : Option Report) (rs : List Report) → reports_pass last rs ≡ true → AllAfter IsReport last rs
 reports_of last [] e = tt
 reports_of last (r ∷ rs) e =
-    let a = both (report_passes last r) (reports_pass (Some r) rs) e in
+    let a = both_true (report_passes last r) (reports_pass (Some r) rs) e in
     (report_of last r a.0, reports_of (Some r) rs a.1)
 
 of_reports : (last : Option Report) (rs : List Report) → AllAfter IsReport last rs → reports_pass last rs ≡ true
 of_reports last [] each = refl
-of_reports last (r ∷ rs) each = both_true _ _ (of_report last r each.0) (of_reports (Some r) rs each.1)
+of_reports last (r ∷ rs) each = and_from _ _ (of_report last r each.0) (of_reports (Some r) rs each.1)
 
 pub are_reports_when : (rs : List Report) (b : Bool) → length rs ≤ 1000 → b ≡ reports_pass None rs → IsTrue b ↔ AreReports rs
 are_reports_when rs b few is = (λ h. record { few = few; each = reports_of None rs (sym is ∙ h) }, λ are. is ∙ of_reports None rs are.each)
@@ -84,7 +84,7 @@ all_unique [] all = tt
 all_unique (x ∷ list) all = (all 0 x refl, all_unique list (λ i p at. all (suc i) p at))
 
 unique_all : (list : List Part) → AllByRecursion (λ (p : Part). IsUnique p.unique) list → HaveProcesses list
-unique_all [] each i p at = absurd (not_there p at)
+unique_all [] each i p at = absurd (none_there p at)
 unique_all (x ∷ list) each zero p at = subst (λ (q : Part). IsUnique q.unique) (same_Some x p at) each.0
 unique_all (x ∷ list) each (suc i) p at = unique_all list each.1 i p at
 

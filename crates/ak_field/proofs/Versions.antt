@@ -1,16 +1,16 @@
 -- Versions as lists of counted processes.
-use Rattle.std.proofs.Common.{◌≡◌, ◌⊎◌, inl, inr, ℕ, suc, ◌-◌, ◌<◌, ◌≤◌, Bool, true, false, cond, nat_le, T, List, [], ◌∷◌, ◌++◌, length, slice_get, Option, Some, None, option_map, unwrap_or, is_some, if◌then◌else◌, refl, sym, ap, subst, ◌∙◌, arith, true≢false}
+use Rattle.std.proofs.Common.{◌≡◌, ◌⊎◌, inl, inr, ℕ, suc, ◌-◌, ◌<◌, ◌≤◌, Bool, true, false, cond, nat_le, T, List, [], ◌∷◌, ◌++◌, length, slice_get, Option, Some, None, option_map, unwrap_or, if◌then◌else◌, refl, sym, ap, subst, ◌∙◌, arith}
 use Rattle.std.specs.FinMap as map
 use Rattle.std.specs.FinMap.Entries.{by_order, put, find, is_sorted}
-use Rattle.std.specs.Ordering.{is_lt, is_eq, ordering_reverse}
-use Rattle.std.specs.declared.cmp.Ordering.{Ordering}
-use Rattle.std.specs.declared.cmp.Ordering.TheVariants.{Less, Equal, Greater}
+use Rattle.std.specs.Ordering.{is_eq, ordering_reverse}
+use Rattle.std.specs.declared.cmp.Ordering.TheVariants.{Less, Greater}
 use Rattle.std.proofs.lemmas.Option.{same_Some, slice_get_within}
 use Rattle.std.proofs.lemmas.Bool.Decides.{nat_tests}
 use Rattle.std.proofs.lemmas.Bool.{cases_lt}
 use Rattle.ak_address.specs.Unique.{UniqueModel, unique_cmp}
-use Rattle.ak_address.proofs.OrderLemmas.{unique_total, unique_exact}
+use Rattle.ak_address.proofs.OrderLemmas.{unique_total, unique_exact, less_of}
 use Rattle.ak_address.proofs.Pairs.{rises}
+use Rattle.ak_address.proofs.BoolLemmas.{none_there}
 use Rattle.ak_clock.specs.Version.{Counts, count, reaching}
 use Rattle.ak_gossip.specs.PartsWalk.{is_above}
 use Rattle.std.proofs.Common.{Result, Ok}
@@ -23,14 +23,6 @@ use Rattle.ak_field.specs.Fields.{number_at}
 
 abbrev pub who : UniqueModel × ℕ → UniqueModel
 who pair = pair.0
-
-pub less : (o : Ordering) → is_lt o ≡ true → o ≡ Less
-less Less p = refl
-less Equal p = absurd (true≢false (sym p))
-less Greater p = absurd (true≢false (sym p))
-
-not_there : {X : Type 0} (x : X) → None ≡ Some x → ⊥
-not_there x is = true≢false (sym (ap is_some is))
 
 before_or_last : (i len : ℕ) → i < len → (i ≡ len - 1) ⊎ (i < len - 1)
 before_or_last i len lt = elim (cases_lt i (len - 1)) [ inl less ↦ inr less | inr le ↦ inl (omega arith) ]
@@ -59,7 +51,7 @@ module _ (k : UniqueModel) (n : ℕ) where
   find_none (e ∷ es) below = ap (λ r. cond (is_eq r) (Some e.1) (find unique_cmp k es)) (above_first e es below) ∙ find_none es (later_below e es below)
 
   last_is_there : (es : List (UniqueModel × ℕ)) (i : ℕ) (e : UniqueModel × ℕ) → slice_get es i ≡ Some e → (l : UniqueModel × ℕ) × (slice_get es (length es - 1) ≡ Some l)
-  last_is_there [] i e at = absurd (not_there e at)
+  last_is_there [] i e at = absurd (none_there e at)
   last_is_there (x ∷ []) i e at = (x, refl)
   last_is_there (x ∷ y ∷ es) i e at =
       let rest = last_is_there (y ∷ es) 0 y refl in
@@ -69,16 +61,16 @@ module _ (k : UniqueModel) (n : ℕ) where
   all_below : (es : List (UniqueModel × ℕ)) → T (is_sorted unique_cmp es) → is_above (option_map who (last_of es)) k ≡ true → IsBelow es
   all_below es h above i e at =
       let l = last_is_there es i e at in
-      let last : unique_cmp l.0.0 k ≡ Less = less _ (ap (λ (o : Option (UniqueModel × ℕ)). is_above (option_map who o) k) (sym l.1) ∙ above) in
+      let last : unique_cmp l.0.0 k ≡ Less = less_of _ (ap (λ (o : Option (UniqueModel × ℕ)). is_above (option_map who o) k) (sym l.1) ∙ above) in
       let within : i < length es = slice_get_within es i e at in
       elim (before_or_last i (length es) within) [
         | inl same ↦ subst (λ (d : UniqueModel × ℕ). unique_cmp d.0 k ≡ Less) (same_Some l.0 e (sym l.1 ∙ ap (slice_get es) (sym same) ∙ at)) last
         | inr lt ↦ unique_total.trans e.0 l.0.0 k (rises unique_cmp unique_total es i (length es - 1) e l.0 h lt at l.1) last
       ]
 
-none_there : (es : List (UniqueModel × ℕ)) → length es ≡ 0 → last_of es ≡ None
-none_there [] none = refl
-none_there (e ∷ es) none = absurd cc
+nobody_last : (es : List (UniqueModel × ℕ)) → length es ≡ 0 → last_of es ≡ None
+nobody_last [] none = refl
+nobody_last (e ∷ es) none = absurd cc
 
 -- the counts of a version after those of one more process
 pub reached_last : (v : Counts) (k : UniqueModel) (n : ℕ) → is_above (option_map who (last_of (map.entries v))) k ≡ true → 1 ≤ n → map.entries (reaching v k n) ≡ map.entries v ++ (k, n) ∷ []
@@ -108,7 +100,7 @@ unfolding counted_at
 counted_read last bytes mid left u n first second = rw (first, second) refl
 
 pub last_none : (v : Counts) → map.len v ≡ 0 → last_of (map.entries v) ≡ None
-last_none v none = none_there (map.entries v) (sym (map.len-entries v) ∙ none)
+last_none v none = nobody_last (map.entries v) (sym (map.len-entries v) ∙ none)
 
 pub last_at : (v : Counts) (many : ℕ) → many ≡ map.len v → slice_get (map.entries v) (many - 1) ≡ last_of (map.entries v)
 last_at v many is = ap (λ (n : ℕ). slice_get (map.entries v) (n - 1)) (is ∙ map.len-entries v)

@@ -5,6 +5,7 @@ use Rattle.std.specs.Int.{w16, w64, from_be_bytes}
 use Rattle.std.proofs.lemmas.Bool.Decides.{nat_tests}
 use Rattle.std.proofs.lemmas.List.{take_at, drop_at, take-append-drop, length-append, length-take, length-drop}
 use Rattle.ak_address.specs.Unique.{UniqueModel, IsUnique, is_host_byte}
+use Rattle.ak_address.proofs.BoolLemmas.{both_true}
 use Rattle.ak_clock.specs.declared.version.TheConstants.{BOUND}
 use Rattle.ak_promise.specs.Ballot.{BallotModel, IsBallot}
 use Rattle.ak_field.specs.declared.fault.WireFault.{WireFault}
@@ -18,11 +19,6 @@ use Rattle.ak_field.proofs.Combined.{later_bytes, first_bytes, checked_field, ma
 use Rattle.ak_field.proofs.Small.{bytes_field, byte_field, wide16, wide64, wide_field}
 
 -- ---- tests
-pub both : (a b : Bool) → (a && b) ≡ true → (a ≡ true) × (b ≡ true)
-both true true e = (refl, refl)
-both true false e = absurd cc
-both false b e = absurd cc
-
 at_most : (a b : ℕ) → nat_le a b ≡ true → a ≤ b
 at_most a b e = grind (arith, nat_tests)
 
@@ -33,7 +29,7 @@ pub in_range : (least most n : ℕ) → least ≤ n → n ≤ most → is_from l
 in_range least most n above below = rw (is_at_most least n above, is_at_most n most below) refl
 
 pub range_of : (least most n : ℕ) → is_from least most n ≡ true → (least ≤ n) × (n ≤ most)
-range_of least most n e = let b = both (nat_le least n) (nat_le n most) e in (at_most least n b.0, at_most n most b.1)
+range_of least most n e = let b = both_true (nat_le least n) (nat_le n most) e in (at_most least n b.0, at_most n most b.1)
 
 -- ---- lengths and numbers
 abbrev pub Ranges : ℕ → ℕ → ℕ → Type 0
@@ -143,8 +139,8 @@ passes_process least most u is = rw (is.address.host.letters, is_at_most 1 u.add
 
 process_from : (least most host : ℕ) (u : UniqueModel) → Ranges 1 64 host → Fits host u → is_process least most u ≡ true → IsProcess least most u
 process_from least most host u range fits e =
-    let a = both (list_all is_host_byte u.address.host) (nat_le 1 u.address.port && is_from least most u.uid) e in
-    let b = both (nat_le 1 u.address.port) (is_from least most u.uid) a.1 in
+    let a = both_true (list_all is_host_byte u.address.host) (nat_le 1 u.address.port && is_from least most u.uid) e in
+    let b = both_true (nat_le 1 u.address.port) (is_from least most u.uid) a.1 in
     let c = range_of least most u.uid b.1 in
     record {
       address = record {
@@ -210,8 +206,8 @@ magic_is [] len e = absurd cc
 magic_is (a ∷ []) len e = absurd cc
 magic_is (a ∷ b ∷ []) len e = absurd cc
 magic_is (a ∷ b ∷ c ∷ []) len e =
-    let x = both (a == 65) (b == 75 && c == 67) e in
-    let y = both (b == 75) (c == 67) x.1 in
+    let x = both_true (a == 65) (b == 75 && c == 67) e in
+    let y = both_true (b == 75) (c == 67) x.1 in
     rw (eq_is a 65 x.0, eq_is b 75 y.0, eq_is c 67 y.1) refl
 magic_is (a ∷ b ∷ c ∷ d ∷ rest) len e = absurd (omega (arith, len))
 

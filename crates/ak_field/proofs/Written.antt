@@ -4,11 +4,12 @@ use Rattle.std.specs.List.{flat_map}
 use Rattle.std.proofs.lemmas.List.{append-nil}
 use Rattle.std.proofs.lemmas.List.Concat.{flat_map-cons}
 use Rattle.std.proofs.lemmas.Option.{same_Some}
+use Rattle.ak_address.proofs.BoolLemmas.{none_there}
 use Rattle.ak_shard_id.specs.declared.report.Report.{Report}
 use Rattle.ak_gossip.specs.declared.part.Part.{Part}
 use Rattle.ak_gossip.specs.Parts.{IsPart, AreParts}
 use Rattle.ak_gossip.specs.PartsWalk.{ascend_from}
-use Rattle.ak_gossip.proofs.PartsOrder.{IsHead, head_of, test_of, not_there}
+use Rattle.ak_gossip.proofs.PartsOrder.{IsHead, head_of, test_of}
 use Rattle.ak_field.specs.Ranges.{IsShard}
 use Rattle.ak_field.specs.Lists.{AllAfter, IsReport}
 use Rattle.ak_field.specs.Parts.{indices, subjects}
@@ -28,7 +29,7 @@ module _ {X : Type 0} (spelled : X → List ℕ) (xs : List X) (old : List ℕ) 
       ap (λ (l : List ℕ). l ++ flat_map spelled (drop (i + 1) xs)) added ∙ append_assoc mid (spelled x) (flat_map spelled (drop (i + 1) xs)) ∙ ap (λ (l : List ℕ). mid ++ l) (sym rest) ∙ so_far
     where
       drop_at_index : (ys : List X) (j : ℕ) (y : X) → slice_get ys j ≡ Some y → drop j ys ≡ y ∷ drop (j + 1) ys
-      drop_at_index [] j y at = absurd (not_there y at)
+      drop_at_index [] j y at = absurd (none_there y at)
       drop_at_index (z ∷ ys) zero y at = ap (λ (w : X). w ∷ ys) (same_Some z y at)
       drop_at_index (z ∷ ys) (suc j) y at = let one : suc (j + 1) ≡ suc j + 1 = omega arith in drop_at_index ys j y at ∙ ap (λ (k : ℕ). y ∷ drop k (z ∷ ys)) one
 
@@ -43,7 +44,7 @@ module _ {X : Type 0} (spelled : X → List ℕ) (xs : List X) (old : List ℕ) 
 
 -- ---- what is asked of each item
 pub report_fits : (last : Option Report) (rs : List Report) → AllAfter IsReport last rs → (i : ℕ) (r : Report) → slice_get rs i ≡ Some r → IsShard r.shard
-report_fits last [] each i r at = absurd (not_there r at)
+report_fits last [] each i r at = absurd (none_there r at)
 report_fits last (x ∷ rs) each zero r at = subst (λ (y : Report). IsShard y.shard) (same_Some x r at) each.0.shard
 report_fits last (x ∷ rs) each (suc i) r at = report_fits (Some x) rs each.1 i r at
 

@@ -15,12 +15,13 @@ use Rattle.ak_address.specs.Uniques.{UniqueSet, has, in_order, how_many}
 use Rattle.ak_address.proofs.CountersLaws.{is_among, contained}
 use Rattle.ak_address.proofs.Elements.{contains_at, any_there}
 use Rattle.ak_address.proofs.OrderLemmas.{address_total}
+use Rattle.ak_address.proofs.UniquesLaws.{length-in_order}
 use Rattle.ak_field.specs.Ranges.{is_entity_byte, IsEntity}
 use Rattle.rand_pcg.specs.Lcg.{Lcg}
 use Rattle.ak_generate.specs.Words.{drawn, moved, words_of}
 use Rattle.ak_generate.specs.Fixed.{address, addresses, process}
 use Rattle.ak_generate.specs.Generated.{chosen, is_at, is_in_use}
-use Rattle.ak_generate.proofs.GenerateLemmas.{address_is_one, length-in_order, number_at, number_of}
+use Rattle.ak_generate.proofs.GenerateLemmas.{address_is_one, number_at, number_of}
 
 -- ---- who is chosen
 pub chosen_runs : (word : ℕ) (s : UniqueSet) (who : UniqueModel) → chosen word s ≡ Some who → IsTrue (has s who)

@@ -3,20 +3,17 @@ use Rattle.std.proofs.Common.{◌≡◌, ◌≢◌, ℕ, zero, suc, ◌+◌, ◌
 use Rattle.std.specs.FinMap as finmap
 use Rattle.std.specs.List.{list_any}
 use Rattle.std.proofs.Math.Nat.{mod-lt}
-use Rattle.std.proofs.lemmas.List.{length-map}
 use Rattle.std.proofs.lemmas.Fmt.{decimal_digit}
 use Rattle.std.proofs.lemmas.Option.{slice_get_cases, slice_get_past}
 use Rattle.rand_pcg.specs.Lcg.{Lcg}
 use Rattle.ak_address.specs.Unique.{AddressModel, UniqueModel, IsAddress, is_host_byte}
 use Rattle.ak_address.specs.Uniques.{UniqueSet, in_order, how_many}
+use Rattle.ak_address.proofs.UniquesLaws.{length-in_order}
 use Rattle.ak_settings.specs.Settings.{IsSettings}
 use Rattle.ak_generate.specs.Fixed.{address, addresses, fixed}
 use Rattle.ak_generate.specs.Generated.{chosen, is_at, is_in_use, opening, later, next_event}
 use Rattle.ak_generate.specs.Words.{Words}
 use Rattle.ak_generate.specs.declared.sight.Sight.{Sight}
-
-pub length-in_order : (s : UniqueSet) → length (in_order s) ≡ how_many s
-length-in_order s = length-map (finmap.entries s) (λ (e : UniqueModel × Unit {0}). e.0) ∙ sym (finmap.len-entries s)
 
 -- ---- who is chosen
 pub nobody_chosen : (word : ℕ) (s : UniqueSet) → how_many s ≡ 0 → chosen word s ≡ None

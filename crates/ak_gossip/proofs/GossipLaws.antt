@@ -1,13 +1,16 @@
 -- Who has seen a gossip after one with the same version came, and that joins may be admitted.
-use Rattle.std.proofs.Common.{◌≡◌, ◌≢◌, ◌⊎◌, inl, inr, ◌↔◌, ◌<◌, Bool, true, false, ◌||◌, ◌&&◌, if◌then◌else◌, IsTrue, [], ◌∷◌, Option, Some, None, is_some, refl, sym, ap, ◌∙◌, subst, arith, true≢false}
+use Rattle.std.proofs.Common.{◌≡◌, ◌≢◌, ◌⊎◌, inl, inr, ◌↔◌, ◌<◌, Bool, true, false, ◌&&◌, if◌then◌else◌, IsTrue, [], ◌∷◌, Option, Some, None, is_some, refl, sym, ap, ◌∙◌, subst, arith, true≢false}
 use Rattle.std.proofs.lemmas.Option.{same_Some}
+use Rattle.std.proofs.lemmas.Bool.{and_from, or_left, or_right}
 use Rattle.std.specs.FinMap as map
 use Rattle.std.specs.Ordering.{eq_by_cmp}
+use Rattle.std.specs.Cmp.{first_so, second_so}
 use Rattle.ak_address.specs.Unique.{UniqueModel, unique_cmp}
 use Rattle.ak_address.specs.Uniques.{UniqueSet, has, with_one, those, union}
 use Rattle.ak_address.specs.Table.{value_with}
 use Rattle.ak_address.proofs.TableLaws.{key_itself, same_key, same_or_apart, get-insert_here, get-insert_elsewhere}
 use Rattle.ak_address.proofs.UniquesLaws.{has-with_one, has-those, has-union}
+use Rattle.ak_address.proofs.BoolLemmas.{none_there, or_either}
 use Rattle.ak_clock.specs.declared.version.TheConstants.{BOUND}
 use Rattle.ak_clock.specs.Version.{count}
 use Rattle.ak_member.specs.declared.effect.Effect.TheVariants.{Joined}
@@ -16,20 +19,8 @@ use Rattle.ak_member.specs.declared.standing.Standing.TheVariants.{Member, Burie
 use Rattle.ak_member.specs.declared.status.Status.TheVariants.{Joining}
 use Rattle.ak_member.specs.Standing.{Standings, merged_standing, member_of, is_member}
 use Rattle.ak_gossip.specs.Gossip.{GossipState, most_uniques, IsStanding, IsGossip, MayUpdate, seen_by, same}
-use Rattle.ak_gossip.proofs.InvariantLemmas.{or_case, and_first, and_second, standing_with}
+use Rattle.ak_gossip.proofs.InvariantLemmas.{standing_with}
 use Rattle.ak_gossip.proofs.SeenLemmas.{len-insert-most}
-
-or_first : (a b : Bool) → a ≡ true → (a || b) ≡ true
-or_first true b h = refl
-or_first false b h = absurd (true≢false (sym h))
-
-or_second : (a b : Bool) → b ≡ true → (a || b) ≡ true
-or_second true b h = refl
-or_second false b h = h
-
-both_true : (a b : Bool) → a ≡ true → b ≡ true → (a && b) ≡ true
-both_true true b p q = q
-both_true false b p q = p
 
 module _ (me : UniqueModel) (own incoming : GossipState) (who : UniqueModel) where
   abbrev there : UniqueSet
@@ -39,33 +30,33 @@ module _ (me : UniqueModel) (own incoming : GossipState) (who : UniqueModel) whe
   Seen = IsTrue (has own.seen who) ⊎ (IsTrue (has incoming.seen who) × IsTrue (is_member own.view.standings who)) ⊎ ((who ≡ me) × IsTrue (is_member own.view.standings me))
 
   from_same : IsTrue (has (union own.seen there) who) → Seen
-  from_same h = elim (or_case (has own.seen who) (has there who) (sym (has-union own.seen there who) ∙ h)) [
+  from_same h = elim (or_either (has own.seen who) (has there who) (sym (has-union own.seen there who) ∙ h)) [
     | inl here ↦ inl here
     | inr other ↦
         let is : (has incoming.seen who && is_member own.view.standings who) ≡ true = sym (has-those incoming.seen (is_member own.view.standings) who) ∙ other in
-        inr (inl (and_first (has incoming.seen who) (is_member own.view.standings who) is, and_second (has incoming.seen who) (is_member own.view.standings who) is))
+        inr (inl (first_so (has incoming.seen who) (is_member own.view.standings who) is, second_so (has incoming.seen who) (is_member own.view.standings who) is))
   ]
 
   to_same : IsTrue (has own.seen who) ⊎ (IsTrue (has incoming.seen who) × IsTrue (is_member own.view.standings who)) → IsTrue (has (union own.seen there) who)
-  to_same (inl here) = has-union own.seen there who ∙ or_first (has own.seen who) (has there who) here
+  to_same (inl here) = has-union own.seen there who ∙ or_left (has own.seen who) (has there who) here
   to_same (inr other) =
       has-union own.seen there who
-      ∙ or_second (has own.seen who) (has there who) (has-those incoming.seen (is_member own.view.standings) who ∙ both_true (has incoming.seen who) (is_member own.view.standings who) other.0 other.1)
+      ∙ or_right (has own.seen who) (has there who) (has-those incoming.seen (is_member own.view.standings) who ∙ and_from (has incoming.seen who) (is_member own.view.standings who) other.0 other.1)
 
   seen_from : (b : Bool) → is_member own.view.standings me ≡ b → IsTrue (has (if b then record (same own incoming) { seen = with_one (union own.seen there) me } else same own incoming).seen who) → Seen
-  seen_from true is h = elim (or_case (eq_by_cmp unique_cmp who me) (has (union own.seen there) who) (sym (has-with_one (union own.seen there) me who) ∙ h)) [
+  seen_from true is h = elim (or_either (eq_by_cmp unique_cmp who me) (has (union own.seen there) who) (sym (has-with_one (union own.seen there) me who) ∙ h)) [
     | inl tied ↦ inr (inr (same_key who me tied, is))
     | inr before ↦ from_same before
   ]
   seen_from false is h = from_same h
 
   with_before : (b : Bool) → IsTrue (has (union own.seen there) who) → IsTrue (has (if b then record (same own incoming) { seen = with_one (union own.seen there) me } else same own incoming).seen who)
-  with_before true h = has-with_one (union own.seen there) me who ∙ or_second (eq_by_cmp unique_cmp who me) (has (union own.seen there) who) h
+  with_before true h = has-with_one (union own.seen there) me who ∙ or_right (eq_by_cmp unique_cmp who me) (has (union own.seen there) who) h
   with_before false h = h
 
   with_me : (b : Bool) → is_member own.view.standings me ≡ b → who ≡ me → IsTrue (is_member own.view.standings me) → IsTrue (has (if b then record (same own incoming) { seen = with_one (union own.seen there) me } else same own incoming).seen who)
   with_me true is self member =
-      has-with_one (union own.seen there) me who ∙ or_first (eq_by_cmp unique_cmp who me) (has (union own.seen there) who) (ap (λ k. eq_by_cmp unique_cmp k me) self ∙ key_itself me)
+      has-with_one (union own.seen there) me who ∙ or_left (eq_by_cmp unique_cmp who me) (has (union own.seen there) who) (ap (λ k. eq_by_cmp unique_cmp k me) self ∙ key_itself me)
   with_me false is self member = absurd (true≢false (sym member ∙ is))
 
   seen_to : Seen → IsTrue (has (seen_by me (same own incoming)).seen who)
@@ -84,9 +75,6 @@ member_with (Some (Member status n)) (Member other m) member is = refl
 member_with (Some (Member status n)) (Buried confirmed) member is = member
 member_with (Some (Buried confirmed)) x member (inl wrong) = absurd (true≢false (sym wrong))
 member_with (Some (Buried confirmed)) x member (inr none) = absurd (true≢false (ap is_some none))
-
-none_there : {X : Type 0} (x : X) → None ≡ Some x → ⊥
-none_there x is = true≢false (sym (ap is_some is))
 
 module _ (author who : UniqueModel) (g : GossipState) where
   -- what is known then of the process that joins, and of all

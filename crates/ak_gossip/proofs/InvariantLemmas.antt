@@ -1,15 +1,17 @@
 -- What holds of every gossip holds after each call: of nothing known, of a merge, of an entry more, and of those that
 -- have seen it.
-use Rattle.std.proofs.Common.{◌≡◌, ◌⊎◌, inl, inr, ℕ, zero, suc, ◌+◌, ◌≤◌, max, Bool, true, false, ◌||◌, ◌&&◌, if◌then◌else◌, cond, IsTrue, List, [], ◌∷◌, Option, Some, None, is_some, refl, sym, ap, ◌∙◌, subst, arith, true≢false}
+use Rattle.std.proofs.Common.{◌≡◌, ◌⊎◌, inl, inr, ℕ, zero, suc, ◌+◌, ◌≤◌, max, Bool, true, false, if◌then◌else◌, cond, IsTrue, List, [], ◌∷◌, Option, Some, None, is_some, refl, sym, ap, ◌∙◌, subst, arith, true≢false}
 use Rattle.std.proofs.lemmas.Bool.Decides.{nat_tests}
 use Rattle.std.proofs.lemmas.Option.{same_Some}
 use Rattle.std.specs.FinMap as map
 use Rattle.std.specs.Ordering.{eq_by_cmp}
+use Rattle.std.specs.Cmp.{second_so}
 use Rattle.ak_address.specs.Unique.{UniqueModel, unique_cmp}
 use Rattle.ak_address.specs.Uniques.{UniqueSet, no_one, has, with_one, those, union}
 use Rattle.ak_address.specs.Table.{merged_at, value_with}
 use Rattle.ak_address.proofs.TableLaws.{same_key, same_or_apart, get-empty, get-insert, get-insert_here, get-insert_elsewhere, get-merged_tables}
 use Rattle.ak_address.proofs.UniquesLaws.{has-no_one, has-with_one, has-those, has-union}
+use Rattle.ak_address.proofs.BoolLemmas.{none_there, or_either}
 use Rattle.ak_clock.specs.declared.version.TheConstants.{BOUND}
 use Rattle.ak_clock.specs.Version.{Counts, count, bumped}
 use Rattle.ak_clock.proofs.VersionLaws.{count-empty, count-merged, empty_is_version, merged_is_version, bumped_is_version, merged_covers_first, merged_covers_second, bumped_covers, count-bumped_author, count-bumped_others}
@@ -51,7 +53,7 @@ older-most n m = grind (arith, nat_tests)
 older-none : (n m : ℕ) → n ≡ 0 → m ≡ 0 → older_number n m ≡ 0
 older-none n m p q = grind (arith, nat_tests)
 
-older-first : (n m : ℕ) → 1 ≤ n → 1 ≤ older_number n m
+pub older-first : (n m : ℕ) → 1 ≤ n → 1 ≤ older_number n m
 older-first n m p = grind (arith, nat_tests)
 
 older-second : (n m : ℕ) → 1 ≤ m → 1 ≤ older_number n m
@@ -165,9 +167,6 @@ parts_kept v w s t r q seen others a b c d h =
     subst IsGossip (λ i. record { version = sym a i; view = record { standings = sym b i; rows = sym c i }; seen = sym d i }) h
 
 -- ---- nothing known
-none_there : {X : Type 0} (x : X) → None ≡ Some x → ⊥
-none_there x is = true≢false (sym (ap is_some is))
-
 pub nothing_kept : IsGossip nothing_known
 nothing_kept = record {
   version = empty_is_version;
@@ -190,20 +189,8 @@ seen_kept g seen p members = record {
   few = p.few;
 }
 
-pub or_case : (a b : Bool) → (a || b) ≡ true → (a ≡ true) ⊎ (b ≡ true)
-or_case true b h = inl refl
-or_case false b h = inr h
-
-pub and_first : (a b : Bool) → (a && b) ≡ true → a ≡ true
-and_first true b h = refl
-and_first false b h = h
-
-pub and_second : (a b : Bool) → (a && b) ≡ true → b ≡ true
-and_second true b h = h
-and_second false b h = absurd (true≢false (sym h))
-
 with_me : (me : UniqueModel) (g : GossipState) → IsGossip g → is_member g.view.standings me ≡ true → (who : UniqueModel) → IsTrue (has (with_one g.seen me) who) → IsTrue (is_member g.view.standings who)
-with_me me g p is who h = elim (or_case (eq_by_cmp unique_cmp who me) (has g.seen who) (sym (has-with_one g.seen me who) ∙ h)) [
+with_me me g p is who h = elim (or_either (eq_by_cmp unique_cmp who me) (has g.seen who) (sym (has-with_one g.seen me who) ∙ h)) [
   | inl tied ↦ ap (is_member g.view.standings) (same_key who me tied) ∙ is
   | inr there ↦ p.seen who there
 ]
@@ -223,9 +210,9 @@ seen_by_kept me g p = by_member (is_member g.view.standings me) (noted_kept me g
     by_member false h = h
 
 pub same_kept : (own incoming : GossipState) → IsGossip own → IsGossip (same own incoming)
-same_kept own incoming p = seen_kept own (union own.seen others) p (λ who h. elim (or_case (has own.seen who) (has others who) (sym (has-union own.seen others who) ∙ h)) [
+same_kept own incoming p = seen_kept own (union own.seen others) p (λ who h. elim (or_either (has own.seen who) (has others who) (sym (has-union own.seen others who) ∙ h)) [
   | inl here ↦ p.seen who here
-  | inr there ↦ and_second (has incoming.seen who) (is_member own.view.standings who) (sym (has-those incoming.seen (is_member own.view.standings) who) ∙ there)
+  | inr there ↦ second_so (has incoming.seen who) (is_member own.view.standings who) (sym (has-those incoming.seen (is_member own.view.standings) who) ∙ there)
 ])
   where
     others : UniqueSet
@@ -276,7 +263,7 @@ updated_kept author effects g p may = record {
   ];
   standings = may.standings;
   rows = λ observer row is. by_observed (observed effects) refl observer row is;
-  seen = λ who h. elim (or_case (eq_by_cmp unique_cmp who author) (has no_one who) (sym (has-with_one no_one author who) ∙ h)) [
+  seen = λ who h. elim (or_either (eq_by_cmp unique_cmp who author) (has no_one who) (sym (has-with_one no_one author who) ∙ h)) [
     | inl tied ↦ ap (is_member (after_effects effects g.view.standings)) (same_key who author tied) ∙ may.stays
     | inr there ↦ absurd (true≢false (sym there ∙ has-no_one who))
   ];

@@ -7,16 +7,14 @@ use Rattle.ak_address.specs.Unique.{UniqueModel, unique_cmp}
 use Rattle.ak_address.specs.Uniques.{UniqueSet, no_one, has, with_one}
 use Rattle.ak_address.proofs.TableLaws.{same_key}
 use Rattle.ak_address.proofs.UniquesLaws.{has-no_one, has-with_one}
+use Rattle.ak_address.proofs.BoolLemmas.{or_either}
 use Rattle.ak_clock.specs.declared.version.TheConstants.{BOUND}
 use Rattle.ak_clock.specs.Version.{count}
 use Rattle.ak_member.specs.declared.effect.Effect.{Effect}
 use Rattle.ak_member.specs.declared.effect.Effect.TheVariants.{Observed}
 use Rattle.ak_member.specs.Standing.{is_member}
 use Rattle.ak_gossip.specs.Gossip.{GossipState, is_known, IsGossip, MayUpdate}
-use Rattle.ak_gossip.proofs.InvariantLemmas.{or_case, member_known}
-
-none_there : {X : Type 0} (x : X) → None ≡ Some x → ⊥
-none_there x is = true≢false (sym (ap is_some is))
+use Rattle.ak_gossip.proofs.InvariantLemmas.{member_known}
 
 -- what a call found is there
 pub found_there : {A B : Type 0} (f : A → B) (r : Option A) (o : Option B) → option_map f r ≡ o → is_some r ≡ true → is_some o ≡ true
@@ -35,7 +33,7 @@ found_may author who subjects effects g is one p room stays found = subst (λ e.
 })
   where
     alone : (subject : UniqueModel) → IsTrue (has (with_one no_one who) subject) → IsTrue (is_known g.view.standings subject)
-    alone subject h = elim (or_case (eq_by_cmp unique_cmp subject who) (has no_one subject) (sym (has-with_one no_one who subject) ∙ h)) [
+    alone subject h = elim (or_either (eq_by_cmp unique_cmp subject who) (has no_one subject) (sym (has-with_one no_one who subject) ∙ h)) [
       | inl tied ↦ ap (is_known g.view.standings) (same_key subject who tied) ∙ member_known (map.get g.view.standings who) found
       | inr there ↦ absurd (true≢false (sym there ∙ has-no_one subject))
     ]

@@ -13,6 +13,7 @@ use Rattle.ak_address.specs.Uniques.{no_one, has}
 use Rattle.ak_address.proofs.OrderLemmas.{unique_total}
 use Rattle.ak_address.proofs.Pairs.{find_at, both}
 use Rattle.ak_address.proofs.TableLaws.{same_table, same_or_apart, other_key, pairs_of, true_is}
+use Rattle.ak_address.proofs.BoolLemmas.{none_there}
 use Rattle.ak_clock.specs.declared.version.TheConstants.{BOUND}
 use Rattle.ak_clock.specs.Version.{Counts, IsVersion}
 use Rattle.ak_clock.proofs.VersionLaws.{empty_is_version, reaching_is_version}
@@ -25,7 +26,7 @@ use Rattle.ak_gossip.specs.declared.part.Part.{Part}
 use Rattle.ak_gossip.specs.Gossip.{GossipState, is_known, IsStanding, IsRow, IsGossip}
 use Rattle.ak_gossip.specs.Parts.{state_of, number_of, row_number_of, indices_of, subjects_of, part_of, parts_of, IsState, IsPart, AreParts}
 use Rattle.ak_gossip.specs.PartsWalk.{standing_of, with_counts, with_standings, with_seen, with_indices, with_part_rows}
-use Rattle.ak_gossip.proofs.PartsOrder.{Ascend, ascend_rest, not_there, test_of}
+use Rattle.ak_gossip.proofs.PartsOrder.{Ascend, ascend_rest, test_of}
 use Rattle.ak_gossip.proofs.PartsIndices.{indices_back, comes_in, in_indices}
 use Rattle.ak_gossip.proofs.PartsSteps.{below_is_other, count_of_part, count_of_other, standing_of_part, standing_of_other, few_standings, seen_of_part, seen_of_other, row_of_part, row_of_other}
 
@@ -58,7 +59,7 @@ none_more x parts q apart none zero part is = subst (λ (p : Part). q ≢ p.uniq
 none_more x parts q apart none (suc i) part is = none i part is
 
 pub among_or_none : (parts : List Part) (q : UniqueModel) → Among parts q ⊎ IsNone parts q
-among_or_none [] q = inr (λ i part is. absurd (not_there part is))
+among_or_none [] q = inr (λ i part is. absurd (none_there part is))
 among_or_none (x ∷ parts) q = elim (same_or_apart q x.unique) [
   | inl same ↦ inl (record { index = 0; part = x; there = refl; is = same })
   | inr apart ↦ elim (among_or_none parts q) [
@@ -84,7 +85,7 @@ counts_are_version (part ∷ parts) v p each =
 
 -- a row that a part has
 row_cases : (b : Bool) (row other : Row) → (if b then None else Some row) ≡ Some other → (b ≡ false) × (row ≡ other)
-row_cases true row other is = absurd (not_there other is)
+row_cases true row other is = absurd (none_there other is)
 row_cases false row other is = (refl, same_Some row other is)
 
 not_zero : (n : ℕ) → nat_eq n 0 ≡ false → 1 ≤ n
@@ -137,11 +138,11 @@ module _ (parts : List Part) (valid : AreParts parts) where
       | inl a ↦ subst IsStanding
           (same_Some (state_at a.index a.part a.there).standing standing (sym (standing_at a.index a.part a.there) ∙ subst (λ k. map.get g.view.standings k ≡ Some standing) a.is is))
           (state_at a.index a.part a.there).may_be
-      | inr none ↦ absurd (not_there standing (sym (standing_of_other parts who none) ∙ is))
+      | inr none ↦ absurd (none_there standing (sym (standing_of_other parts who none) ∙ is))
     ];
     rows = λ observer row is. elim (among_or_none parts observer) [
       | inl a ↦ subst (λ k. IsRow g k row) (sym a.is) (row_at a.index a.part row a.there (subst (λ k. map.get g.view.rows k ≡ Some row) a.is is))
-      | inr none ↦ absurd (not_there row (sym (row_of_other parts parts observer none) ∙ is))
+      | inr none ↦ absurd (none_there row (sym (row_of_other parts parts observer none) ∙ is))
     ];
     seen = λ who h. elim (among_or_none parts who) [
       | inl a ↦ subst (λ k. IsTrue (is_member g.view.standings k)) (sym a.is)
@@ -240,7 +241,7 @@ module _ (parts : List Part) (valid : AreParts parts) where
   part_named i who at = named (slice_get parts i) refl (sym (slice_get-map (λ (part : Part). part.unique) parts i) ∙ at)
     where
       named : (o : Option Part) → slice_get parts i ≡ o → option_map (λ (part : Part). part.unique) o ≡ Some who → (part : Part) × (slice_get parts i ≡ Some part) × (part.unique ≡ who)
-      named None is at = absurd (not_there who at)
+      named None is at = absurd (none_there who at)
       named (Some part) is at = (part, is, same_Some part.unique who at)
 
   subjects_back : (i : ℕ) (part : Part) → slice_get parts i ≡ Some part → indices_of (with_indices parts no_one part.subjects) 0 everybody ≡ part.subjects

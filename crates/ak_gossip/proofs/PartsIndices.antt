@@ -6,11 +6,11 @@ use Rattle.ak_address.specs.Unique.{UniqueModel, unique_cmp}
 use Rattle.ak_address.specs.Uniques.{UniqueSet, no_one, has}
 use Rattle.ak_address.proofs.TableLaws.{key_itself, same_key}
 use Rattle.ak_address.proofs.UniquesLaws.{has-no_one, has-with_one}
+use Rattle.ak_address.proofs.BoolLemmas.{none_there, or_either}
 use Rattle.ak_gossip.specs.declared.part.Part.{Part}
 use Rattle.ak_gossip.specs.Parts.{indices_of}
 use Rattle.ak_gossip.specs.PartsWalk.{ascend_from, with_process, with_indices}
-use Rattle.ak_gossip.proofs.InvariantLemmas.{or_case}
-use Rattle.ak_gossip.proofs.PartsOrder.{IsHead, head_of, from_head, at_least, not_there}
+use Rattle.ak_gossip.proofs.PartsOrder.{IsHead, head_of, from_head, at_least}
 
 -- ---- the indices of a set ascend
 more_indices : (set : UniqueSet) (first end : ℕ) (who : UniqueModel) (es : List UniqueModel) (b : Bool) → first < end → ascend_from (first + 1) end (indices_of set (first + 1) es) ≡ true → ascend_from first end (if b then first ∷ indices_of set (first + 1) es else indices_of set (first + 1) es) ≡ true
@@ -63,7 +63,7 @@ rest_after p q indices other (suc k, is) = (k, is)
 by_case : (set : UniqueSet) (first end : ℕ) (who : UniqueModel) (es : List UniqueModel) (b : Bool)
     → ((indices : List ℕ) → ascend_from (first + 1) end indices ≡ true → AreIndices set (first + 1) es indices → indices_of set (first + 1) es ≡ indices)
     → has set who ≡ b → (indices : List ℕ) → ascend_from first end indices ≡ true → AreIndices set first (who ∷ es) indices → indices_of set first (who ∷ es) ≡ indices
-by_case set first end who es true rest is [] h are = absurd (not_there first (are.each 0 first who (omega arith) refl is).1)
+by_case set first end who es true rest is [] h are = absurd (none_there first (are.each 0 first who (omega arith) refl is).1)
 by_case set first end who es true rest is (p ∷ indices) h are =
     let head : IsHead first end p indices = head_of first end p indices h in
     let same : p ≡ first = first_is first end p indices h (are.each 0 first who (omega arith) refl is) in
@@ -112,7 +112,7 @@ module _ (parts : List Part) where
   stays_in set (p ∷ indices) q h = stays_in (with_process set (slice_get parts p)) indices q (with_more set (slice_get parts p) q h)
 
   pub comes_in : (set : UniqueSet) (indices : List ℕ) (k index : ℕ) (part : Part) → slice_get indices k ≡ Some index → slice_get parts index ≡ Some part → has (with_indices parts set indices) part.unique ≡ true
-  comes_in set [] k index part at there = absurd (not_there index at)
+  comes_in set [] k index part at there = absurd (none_there index at)
   comes_in set (p ∷ indices) zero index part at there =
       let here : slice_get parts p ≡ Some part = ap (slice_get parts) (same_Some p index at) ∙ there in
       stays_in (with_process set (slice_get parts p)) indices part.unique
@@ -121,7 +121,7 @@ module _ (parts : List Part) where
 
   from_one : (set : UniqueSet) (o : Option Part) (q : UniqueModel) → has (with_process set o) q ≡ true → (has set q ≡ true) ⊎ ((part : Part) × (o ≡ Some part) × (q ≡ part.unique))
   from_one set None q h = inl h
-  from_one set (Some part) q h = elim (or_case (eq_by_cmp unique_cmp q part.unique) (has set q) (sym (has-with_one set part.unique q) ∙ h)) [
+  from_one set (Some part) q h = elim (or_either (eq_by_cmp unique_cmp q part.unique) (has set q) (sym (has-with_one set part.unique q) ∙ h)) [
     | inl tied ↦ inr (part, refl, same_key q part.unique tied)
     | inr before ↦ inl before
   ]

@@ -9,6 +9,7 @@ use Rattle.ak_address.specs.Unique.{UniqueModel, unique_cmp}
 use Rattle.ak_address.specs.Uniques.{UniqueSet, has}
 use Rattle.ak_address.proofs.TableLaws.{same_table, get_at, index_of_get, keys_rise}
 use Rattle.ak_address.proofs.UniquesLaws.{same_uniques}
+use Rattle.ak_address.proofs.BoolLemmas.{none_there}
 use Rattle.ak_clock.specs.Version.{count}
 use Rattle.ak_clock.proofs.VersionLaws.{same_version}
 use Rattle.ak_member.specs.declared.standing.Standing.{Standing}
@@ -18,7 +19,7 @@ use Rattle.ak_gossip.specs.declared.part.Part.{Part}
 use Rattle.ak_gossip.specs.Gossip.{GossipState, is_known, IsRow, IsGossip}
 use Rattle.ak_gossip.specs.Parts.{state_of, number_of, row_number_of, indices_of, subjects_of, part_of, parts_of, IsPart, AreParts}
 use Rattle.ak_gossip.specs.PartsWalk.{standing_of, ascend_from}
-use Rattle.ak_gossip.proofs.PartsOrder.{all_ascend, at_least, all_below, not_there}
+use Rattle.ak_gossip.proofs.PartsOrder.{all_ascend, at_least, all_below}
 use Rattle.ak_gossip.proofs.PartsIndices.{indices_ascend}
 use Rattle.ak_gossip.proofs.PartsBack.{standing_back}
 use Rattle.ak_gossip.proofs.PartsLemmas.{length-keys}
@@ -26,7 +27,7 @@ use Rattle.ak_gossip.proofs.PartsLemmas.{length-keys}
 -- ---- valid parts
 -- what stands at an index of a list that was mapped
 mapped_by : {X Y : Type 0} (f : X → Y) (xs : List X) (i : ℕ) (o : Option X) (y : Y) → slice_get xs i ≡ o → option_map f o ≡ Some y → (x : X) × (slice_get xs i ≡ Some x) × (f x ≡ y)
-mapped_by f xs i None y at is = absurd (not_there y is)
+mapped_by f xs i None y at is = absurd (none_there y is)
 mapped_by f xs i (Some x) y at is = (x, at, same_Some (f x) y is)
 
 mapped_at : {X Y : Type 0} (f : X → Y) (xs : List X) (i : ℕ) (y : Y) → slice_get (list.map f xs) i ≡ Some y → (x : X) × (slice_get xs i ≡ Some x) × (f x ≡ y)
@@ -118,7 +119,7 @@ at_first s t first who es false true is are same = absurd (not_after s first es 
 at_first s t first who es false false is are same = (is ∙ sym are, same)
 
 same_indices : (s t : UniqueSet) (first : ℕ) (es : List UniqueModel) → indices_of s first es ≡ indices_of t first es → (i : ℕ) (who : UniqueModel) → slice_get es i ≡ Some who → has s who ≡ has t who
-same_indices s t first [] same i who at = absurd (not_there who at)
+same_indices s t first [] same i who at = absurd (none_there who at)
 same_indices s t first (x ∷ es) same zero who at =
     subst (λ k. has s k ≡ has t k) (same_Some x who at) (at_first s t first x es (has s x) (has t x) refl refl same).0
 same_indices s t first (x ∷ es) same (suc i) who at =

@@ -1,25 +1,18 @@
 -- What the tests of parts mean: indices that ascend below an end, and processes that ascend.
-use Rattle.std.proofs.Common.{◌≡◌, ◌↔◌, ◌⊎◌, inl, inr, ℕ, zero, suc, ◌+◌, ◌<◌, ◌≤◌, Bool, true, false, ◌&&◌, List, [], ◌∷◌, length, slice_get, Option, Some, None, is_some, refl, sym, ap, ◌∙◌, subst, arith, true≢false, leb-true, ltb-true, le-leb}
-use Rattle.std.proofs.lemmas.Bool.{lt-ltb}
+use Rattle.std.proofs.Common.{◌≡◌, ◌↔◌, ◌⊎◌, inl, inr, ℕ, zero, suc, ◌+◌, ◌<◌, ◌≤◌, Bool, true, List, [], ◌∷◌, length, slice_get, Option, Some, None, refl, sym, ap, ◌∙◌, subst, arith, leb-true, ltb-true, le-leb}
+use Rattle.std.proofs.lemmas.Bool.{lt-ltb, and_from}
 use Rattle.std.proofs.lemmas.Option.{same_Some}
-use Rattle.std.specs.declared.cmp.Ordering.{Ordering}
-use Rattle.std.specs.declared.cmp.Ordering.TheVariants.{Less, Equal, Greater}
+use Rattle.std.specs.declared.cmp.Ordering.TheVariants.{Less}
 use Rattle.std.specs.Ordering.{is_lt}
+use Rattle.std.specs.Cmp.{first_so, second_so}
 use Rattle.ak_address.specs.Unique.{UniqueModel, unique_cmp}
-use Rattle.ak_address.proofs.OrderLemmas.{unique_total}
+use Rattle.ak_address.proofs.OrderLemmas.{unique_total, less_of}
+use Rattle.ak_address.proofs.BoolLemmas.{none_there}
 use Rattle.ak_gossip.specs.declared.part.Part.{Part}
 use Rattle.ak_gossip.specs.Parts.{IsAscending, IsPart, AreParts, IsState}
 use Rattle.ak_clock.specs.declared.version.TheConstants.{BOUND}
 use Rattle.ak_gossip.specs.Gossip.{most_uniques}
 use Rattle.ak_gossip.specs.PartsWalk.{ascend_from, is_above, ascend_after}
-use Rattle.ak_gossip.proofs.InvariantLemmas.{and_first, and_second}
-
-pub not_there : {X : Type 0} (x : X) → None ≡ Some x → ⊥
-not_there x is = true≢false (sym (ap is_some is))
-
-pub both_true : (a b : Bool) → a ≡ true → b ≡ true → (a && b) ≡ true
-both_true true b p q = q
-both_true false b p q = p
 
 -- ---- indices
 -- the first index, and those that are left
@@ -30,16 +23,16 @@ pub record IsHead (least end index : ℕ) (rest : List ℕ) : Type 0 where
 
 pub head_of : (least end index : ℕ) (rest : List ℕ) → ascend_from least end (index ∷ rest) ≡ true → IsHead least end index rest
 head_of least end index rest h = record {
-  above = leb-true least index (and_first _ _ h);
-  below = ltb-true index end (and_first _ _ (and_second _ _ h));
-  after = and_second _ _ (and_second _ _ h);
+  above = leb-true least index (first_so _ _ h);
+  below = ltb-true index end (first_so _ _ (second_so _ _ h));
+  after = second_so _ _ (second_so _ _ h);
 }
 
 pub from_head : (least end index : ℕ) (rest : List ℕ) → IsHead least end index rest → ascend_from least end (index ∷ rest) ≡ true
-from_head least end index rest h = both_true _ _ (le-leb least index h.above) (both_true _ _ (lt-ltb index end h.below) h.after)
+from_head least end index rest h = and_from _ _ (le-leb least index h.above) (and_from _ _ (lt-ltb index end h.below) h.after)
 
 pub at_least : (least end : ℕ) (indices : List ℕ) → ascend_from least end indices ≡ true → (i p : ℕ) → slice_get indices i ≡ Some p → least ≤ p
-at_least least end [] h i p is = absurd (not_there p is)
+at_least least end [] h i p is = absurd (none_there p is)
 at_least least end (x ∷ indices) h zero p is =
     let head : IsHead least end x indices = head_of least end x indices h in
     let same : x ≡ p = same_Some x p is in
@@ -50,7 +43,7 @@ at_least least end (x ∷ indices) h (suc i) p is =
     omega (arith, head.above)
 
 pub all_below : (least end : ℕ) (indices : List ℕ) → ascend_from least end indices ≡ true → (i p : ℕ) → slice_get indices i ≡ Some p → p < end
-all_below least end [] h i p is = absurd (not_there p is)
+all_below least end [] h i p is = absurd (none_there p is)
 all_below least end (x ∷ indices) h zero p is =
     let head : IsHead least end x indices = head_of least end x indices h in
     let same : x ≡ p = same_Some x p is in
@@ -58,7 +51,7 @@ all_below least end (x ∷ indices) h zero p is =
 all_below least end (x ∷ indices) h (suc i) p is = all_below (x + 1) end indices (head_of least end x indices h).after i p is
 
 pub all_ascend : (least end : ℕ) (indices : List ℕ) → ascend_from least end indices ≡ true → IsAscending indices
-all_ascend least end [] h i j p q lt is js = absurd (not_there p is)
+all_ascend least end [] h i j p q lt is js = absurd (none_there p is)
 all_ascend least end (x ∷ indices) h i zero p q lt is js = absurd (omega arith)
 all_ascend least end (x ∷ indices) h zero (suc j) p q lt is js =
     let same : x ≡ p = same_Some x p is in
@@ -75,31 +68,26 @@ test_of least end (x ∷ indices) above below ascending = from_head least end x 
 })
 
 -- ---- processes
-pub less_of : (o : Ordering) → is_lt o ≡ true → o ≡ Less
-less_of Less h = refl
-less_of Equal h = absurd (true≢false (sym h))
-less_of Greater h = absurd (true≢false (sym h))
-
 pub above_next : (last : Option UniqueModel) (k q : UniqueModel) → is_above last k ≡ true → unique_cmp k q ≡ Less → is_above last q ≡ true
 above_next None k q h less = refl
 above_next (Some last) k q h less = ap is_lt (unique_total.trans last k q (less_of _ h) less)
 
 pub all_above : (last : Option UniqueModel) (parts : List Part) → ascend_after last parts ≡ true → (i : ℕ) (part : Part) → slice_get parts i ≡ Some part → is_above last part.unique ≡ true
-all_above last [] h i part is = absurd (not_there part is)
-all_above last (x ∷ parts) h zero part is = subst (λ (p : Part). is_above last p.unique ≡ true) (same_Some x part is) (and_first _ _ h)
+all_above last [] h i part is = absurd (none_there part is)
+all_above last (x ∷ parts) h zero part is = subst (λ (p : Part). is_above last p.unique ≡ true) (same_Some x part is) (first_so _ _ h)
 all_above last (x ∷ parts) h (suc i) part is =
-    above_next last x.unique part.unique (and_first _ _ h) (less_of _ (all_above (Some x.unique) parts (and_second _ _ h) i part is))
+    above_next last x.unique part.unique (first_so _ _ h) (less_of _ (all_above (Some x.unique) parts (second_so _ _ h) i part is))
 
 -- the processes of parts ascend
 abbrev pub Ascend : List Part → Type 0
 Ascend parts = (i j : ℕ) (one other : Part) → i < j → slice_get parts i ≡ Some one → slice_get parts j ≡ Some other → unique_cmp one.unique other.unique ≡ Less
 
 pub uniques_ascend_from : (last : Option UniqueModel) (parts : List Part) → ascend_after last parts ≡ true → Ascend parts
-uniques_ascend_from last [] h i j one other lt is js = absurd (not_there one is)
+uniques_ascend_from last [] h i j one other lt is js = absurd (none_there one is)
 uniques_ascend_from last (x ∷ parts) h i zero one other lt is js = absurd (omega arith)
 uniques_ascend_from last (x ∷ parts) h zero (suc j) one other lt is js =
-    subst (λ (p : Part). unique_cmp p.unique other.unique ≡ Less) (same_Some x one is) (less_of _ (all_above (Some x.unique) parts (and_second _ _ h) j other js))
-uniques_ascend_from last (x ∷ parts) h (suc i) (suc j) one other lt is js = uniques_ascend_from (Some x.unique) parts (and_second _ _ h) i j one other (omega arith) is js
+    subst (λ (p : Part). unique_cmp p.unique other.unique ≡ Less) (same_Some x one is) (less_of _ (all_above (Some x.unique) parts (second_so _ _ h) j other js))
+uniques_ascend_from last (x ∷ parts) h (suc i) (suc j) one other lt is js = uniques_ascend_from (Some x.unique) parts (second_so _ _ h) i j one other (omega arith) is js
 
 pub ascend_rest : (x : Part) (parts : List Part) → Ascend (x ∷ parts) → Ascend parts
 ascend_rest x parts a i j one other lt is js = a (suc i) (suc j) one other (omega arith) is js
@@ -107,7 +95,7 @@ ascend_rest x parts a i j one other lt is js = a (suc i) (suc j) one other (omeg
 pub uniques_test : (last : Option UniqueModel) (parts : List Part) → ((i : ℕ) (part : Part) → slice_get parts i ≡ Some part → is_above last part.unique ≡ true) → Ascend parts → ascend_after last parts ≡ true
 uniques_test last [] above a = refl
 uniques_test last (x ∷ parts) above a =
-    both_true _ _ (above 0 x refl)
+    and_from _ _ (above 0 x refl)
     (uniques_test (Some x.unique) parts (λ i part is. ap is_lt (a 0 (suc i) x part (omega arith) refl is)) (ascend_rest x parts a))
 
 -- ---- the contracts

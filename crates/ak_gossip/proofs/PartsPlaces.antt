@@ -13,6 +13,7 @@ use Rattle.ak_address.proofs.OrderLemmas.{unique_total, unique_exact}
 use Rattle.ak_address.proofs.Pairs.{Stands, known, index_here, above_before}
 use Rattle.ak_address.proofs.TableLaws.{keys_rise, get_at}
 use Rattle.ak_address.proofs.UniquesLaws.{has_at, index_of_has}
+use Rattle.ak_address.proofs.BoolLemmas.{none_there}
 use Rattle.ak_member.specs.declared.standing.Standing.{Standing}
 use Rattle.ak_member.specs.declared.standing.Standing.TheVariants.{Buried}
 use Rattle.ak_member.specs.Standing.{Standings}
@@ -20,12 +21,12 @@ use Rattle.ak_member.proofs.MemberLemmas.{drop_from}
 use Rattle.ak_gossip.specs.Parts.{indices_of}
 use Rattle.ak_gossip.specs.PartsWalk.{ascend_from, index_among, indices_among}
 use Rattle.ak_gossip.proofs.PartsIndices.{Has, indices_back}
-use Rattle.ak_gossip.proofs.PartsOrder.{from_head, not_there}
+use Rattle.ak_gossip.proofs.PartsOrder.{from_head}
 
 -- ---- the keys of a table
 module _ {X : Type 0} (m : table.FinMap unique_cmp X) where
   pair_named : (o : Option (UniqueModel × X)) (who : UniqueModel) → option_map (λ pair. pair.0) o ≡ Some who → (pair : UniqueModel × X) × ((o ≡ Some pair) × (pair.0 ≡ who))
-  pair_named None who is = absurd (not_there who is)
+  pair_named None who is = absurd (none_there who is)
   pair_named (Some pair) who is = (pair, (refl, same_Some pair.0 who is))
 
   -- the pair of the key at an index
@@ -61,7 +62,7 @@ less_or (suc i) (suc j) = elim (less_or i j) [
   | inr (inr same) ↦ inr (inr (ap suc same))
 ]
 
-not_less_itself : (p : UniqueModel) → unique_cmp p p ≡ Less → ⊥
+pub not_less_itself : (p : UniqueModel) → unique_cmp p p ≡ Less → ⊥
 not_less_itself p less = true≢false (ap is_lt (sym less ∙ tied_itself unique_total p))
 
 not_less_back : (p q : UniqueModel) → unique_cmp p q ≡ Less → unique_cmp q p ≡ Less → ⊥
@@ -70,7 +71,7 @@ not_less_back p q less back = true≢false (ap is_lt (sym less ∙ unique_total.
 module _ (everybody : Standings) where
   -- ---- one process
   standing_at : (who : UniqueModel) (i : ℕ) (r : Result ℕ ℕ) → r ≡ index unique_cmp who (table.entries everybody) → result_ok r ≡ Some i → slice_get (table.keys everybody) i ≡ Some who
-  standing_at who i (Err n) is found = absurd (not_there i found)
+  standing_at who i (Err n) is found = absurd (none_there i found)
   standing_at who i (Ok n) is found =
       let es = table.entries everybody in
       let pair : UniqueModel × Standing = (who, Buried true) in
@@ -105,11 +106,11 @@ module _ (everybody : Standings) where
   more (Some p) rest i h = (suc h.0, h.1)
 
   here : (o : Option ℕ) (rest : List ℕ) (i : ℕ) → o ≡ Some i → Has (option_to_list o ++ rest) i
-  here None rest i is = absurd (not_there i is)
+  here None rest i is = absurd (none_there i is)
   here (Some p) rest i is = (0, is)
 
   comes_in : (them : List UniqueModel) (k : ℕ) (who : UniqueModel) (i : ℕ) → slice_get them k ≡ Some who → index_among everybody who ≡ Some i → Has (indices_among everybody them) i
-  comes_in [] k who i at is = absurd (not_there who at)
+  comes_in [] k who i at is = absurd (none_there who at)
   comes_in (w ∷ them) zero who i at is =
       here (index_among everybody w) (indices_among everybody them) i (subst (λ (u : UniqueModel). index_among everybody u ≡ Some i) (sym (same_Some w who at)) is)
   comes_in (w ∷ them) (suc k) who i at is = more (index_among everybody w) (indices_among everybody them) i (comes_in them k who i at is)
@@ -130,7 +131,7 @@ module _ (everybody : Standings) where
   came_by w them i (Some p) is rest (suc k, at) = came_later w them i (rest (k, at))
 
   comes_from : (them : List UniqueModel) (i : ℕ) → Has (indices_among everybody them) i → Came them i
-  comes_from [] i (k, at) = absurd (not_there i at)
+  comes_from [] i (k, at) = absurd (none_there i at)
   comes_from (w ∷ them) i h = came_by w them i (index_among everybody w) refl (comes_from them i) h
 
   ascend_by : (w : UniqueModel) (rest : List ℕ) (least : ℕ) (o : Option ℕ) → index_among everybody w ≡ o → ((i : ℕ) → index_among everybody w ≡ Some i → least ≤ i)

@@ -11,6 +11,7 @@ use Rattle.ak_address.specs.Table.{value_with}
 use Rattle.ak_address.proofs.OrderLemmas.{unique_total}
 use Rattle.ak_address.proofs.TableLaws.{key_itself, other_key, get-empty, get-insert_here, get-insert_elsewhere}
 use Rattle.ak_address.proofs.UniquesLaws.{has-no_one, has-with_one}
+use Rattle.ak_address.proofs.BoolLemmas.{none_there}
 use Rattle.ak_clock.specs.Version.{Counts, count, reaching}
 use Rattle.ak_clock.proofs.VersionLaws.{count-empty, count-reaching_there, count-reaching_others}
 use Rattle.ak_member.specs.declared.standing.Standing.{Standing}
@@ -20,7 +21,7 @@ use Rattle.ak_member.proofs.ViewLaws.{get-known_here, get-known_elsewhere}
 use Rattle.ak_reach.specs.Reach.{with_row}
 use Rattle.ak_gossip.specs.declared.part.Part.{Part}
 use Rattle.ak_gossip.specs.PartsWalk.{standing_of, with_counts, with_known, with_standings, with_seen, with_indices, with_part_row, with_part_rows}
-use Rattle.ak_gossip.proofs.PartsOrder.{Ascend, ascend_rest, not_there}
+use Rattle.ak_gossip.proofs.PartsOrder.{Ascend, ascend_rest}
 use Rattle.ak_gossip.proofs.SeenLemmas.{len-insert-most}
 
 -- what is below is another
@@ -44,7 +45,7 @@ module _ {S V : Type 0} (step : S → Part → S) (at : S → UniqueModel → V)
     pub made : at whole part.unique ≡ at (step before part) part.unique
 
   pub steps_here : (s : S) (parts : List Part) → Ascend parts → (i : ℕ) (part : Part) → slice_get parts i ≡ Some part → Stepped s (all_steps s parts) part
-  steps_here s [] a i part is = absurd (not_there part is)
+  steps_here s [] a i part is = absurd (none_there part is)
   steps_here s (x ∷ parts) a zero part is =
       subst (Stepped s (all_steps s (x ∷ parts))) (same_Some x part is) (record {
         before = s;

@@ -1,7 +1,7 @@
 -- What is added to those that have seen a gossip, and how many processes two views know together.
 use Rattle.std.proofs.Common.{◌≡◌, ℕ, zero, suc, ◌+◌, ◌<◌, ◌≤◌, Bool, true, false, ◌||◌, ◌&&◌, if◌then◌else◌, List, [], ◌∷◌, length, take, Some, None, is_some, slice_get, cond, refl, sym, ap, ◌∙◌, subst, arith, true≢false}
 use Rattle.std.proofs.lemmas.Option.{get_or_from_slice_get, slice_get_within}
-use Rattle.std.proofs.lemmas.List.{length-map, take_all}
+use Rattle.std.proofs.lemmas.List.{take_all}
 use Rattle.std.proofs.lemmas.List.Folds.{list_any_more, list_any_at}
 use Rattle.std.proofs.lemmas.Bool.{le-ltb}
 use Rattle.std.specs.List.{list_any}
@@ -12,7 +12,7 @@ use Rattle.ak_address.specs.Uniques.{UniqueSet, has, with_one, those, union, in_
 use Rattle.ak_address.specs.Table.{with_pairs, merged_tables}
 use Rattle.ak_address.proofs.OrderLemmas.{unique_total}
 use Rattle.ak_address.proofs.TableLaws.{key_itself, same_key}
-use Rattle.ak_address.proofs.UniquesLaws.{has-with_one, has-those, has-union, same_uniques, with_present, has_at, index_of_has}
+use Rattle.ak_address.proofs.UniquesLaws.{has-with_one, has-those, has-union, same_uniques, with_present, has_at, index_of_has, length-in_order}
 use Rattle.ak_member.specs.Standing.{Standings, is_member}
 use Rattle.ak_clock.specs.Version.{Counts, count, IsBelow}
 use Rattle.ak_gossip.specs.GossipContracts.{excess_of, foreign_of}
@@ -138,10 +138,6 @@ pub not_none : {X : Type 0} (xs : List X) (i : ℕ) → i < length xs → slice_
 not_none [] i lt none = omega arith
 not_none (x ∷ xs) zero lt none = true≢false (ap is_some none)
 not_none (x ∷ xs) (suc i) lt none = not_none xs i (omega arith) none
-
--- a set has as many processes as indices
-pub length-in_order : (s : UniqueSet) → length (in_order s) ≡ how_many s
-length-in_order s = length-map (map.entries s) (λ row. row.0) ∙ sym (map.len-entries s)
 
 pub take_indices : (s : UniqueSet) (n : ℕ) → how_many s ≤ n → take n (in_order s) ≡ in_order s
 take_indices s n le = take_all n (in_order s) (omega (arith, length-in_order s))

@@ -20,6 +20,7 @@ use Rattle.ak_member.proofs.ViewLaws.{get-known_here, get-known_elsewhere}
 use Rattle.ak_history.specs.declared.entry.Entry.{Entry}
 use Rattle.ak_history.specs.History.{is_covered, view}
 use Rattle.ak_history.specs.Shown.{Did, IsGreatest, IsLeast, Stands}
+use Rattle.ak_history.proofs.Covering.{did_later}
 use Rattle.ak_address.proofs.Elements.{contains_rest, contains_nothing, first_or_rest, contains_first}
 
 -- ---- what stands after some effects, said of the effects that were done
@@ -389,9 +390,6 @@ stands_after_all before (e ∷ effects) s who h =
     whole x (inr there) = inr (contains_rest e x effects there)
 
 -- ---- a history
-done_before : (e : Entry) (history : List Entry) (v : Counts) (x : Effect) → Did history v x → Did (e ∷ history) v x
-done_before e history v x d = record { entry = d.entry; in_history = contains_rest e d.entry history d.in_history; covered = d.covered; does = d.does }
-
 done_now : (e : Entry) (history : List Entry) (v : Counts) (x : Effect) → is_covered v e ≡ true → Contains e.effects x → Did (e ∷ history) v x
 done_now e history v x covered there = record { entry = e; in_history = contains_first e history; covered = covered; does = there }
 
@@ -413,11 +411,11 @@ by_cover true e history v who covered before =
     split x d = elim (done_when e history v x d) [ inl before ↦ inl before | inr now ↦ inr now.1 ]
 
     whole : (x : Effect) → DoneWith (Did history v) e.effects x → Did (e ∷ history) v x
-    whole x (inl d) = done_before e history v x d
+    whole x (inl d) = did_later e history v x d
     whole x (inr there) = done_now e history v x covered there
 by_cover false e history v who uncovered before =
     stands_alike (Did history v) (Did (e ∷ history) v) who _
-    (record { joined = (back (Joined who), done_before e history v (Joined who)); rose = λ st n. (back (Rise who st n), done_before e history v (Rise who st n)); removed = λ c. (back (Removed who c), done_before e history v (Removed who c)) })
+    (record { joined = (back (Joined who), did_later e history v (Joined who)); rose = λ st n. (back (Rise who st n), did_later e history v (Rise who st n)); removed = λ c. (back (Removed who c), did_later e history v (Removed who c)) })
     before
   where
     back : (x : Effect) → Did (e ∷ history) v x → Did history v x

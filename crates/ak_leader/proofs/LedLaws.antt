@@ -213,7 +213,7 @@ module _ (v : View) (confirmed : UniqueSet) where
   owes_rise who member room = owed_rise who member.0 (greatest_number (members_of v.standings)) (members_of v.standings) (have_members v.standings who (Joining, member.0) member.1) room
 
 -- ---- the founding
-joins : (status : Status) → is_joining status ≡ true → status ≡ Joining
+pub joins : (status : Status) → is_joining status ≡ true → status ≡ Joining
 joins Joining is = refl
 joins Up is = absurd (true≢false (sym is))
 joins Leaving is = absurd (true≢false (sym is))

@@ -10,6 +10,7 @@ use Rattle.ak_line.specs.Numbers.{HasCome, numbers, AreAllowed, cluster_after}
 use Rattle.ak_line.specs.Example.{me, alone, moves, other, both, first_ballot, second_ballot, granted, granted_next, reported, own_table, rise, hand_off, hand_over, farewell, passing}
 use Rattle.ak_line.proofs.Names.{name_tells}
 use Rattle.ak_address.proofs.Elements.{contains_first, contains_nothing, first_or_rest}
+use Rattle.ak_address.proofs.BoolLemmas.{none_there}
 
 only_me : (z : Name) (v : ℕ) → HasCome (if is_name z me then Some 1 else None) v → Contains (me ∷ []) z
 only_me z v = by_name (name_tells z me)
@@ -25,16 +26,13 @@ not_at_first z = by_test (is_name z me)
     by_test true come = omega (arith, come)
     by_test false come = come
 
-no_ballot : (b : BallotModel) → None ≡ Some b → ⊥
-no_ballot b is = true≢false (sym (ap is_some is))
-
 pub is_allowed : AreAllowed alone moves
 is_allowed = (
   (refl, λ i. (not_at_first me, λ a act. absurd (true≢false (sym (ap is_some act))))),
   (
     (refl, omega arith, omega arith, λ gone. gone.1),
     (
-      (refl, refl, (omega arith, omega arith, λ gone. gone.1), refl, (λ c is. absurd (no_ballot c is)), λ c is. absurd (no_ballot c is)),
+      (refl, refl, (omega arith, omega arith, λ gone. gone.1), refl, (λ c is. absurd (none_there c is)), λ c is. absurd (none_there c is)),
       (
         (refl, refl, (omega arith, omega arith, λ gone. gone.1), omega arith, λ z aged. inl (only_me z 1 aged)),
         (
@@ -133,11 +131,11 @@ rise_allowed = (
       (
         (refl, omega arith, omega arith, λ gone. gone.1),
         (
-          (refl, refl, (omega arith, omega arith, λ gone. omega (arith, gone.1)), refl, (λ c is. absurd (no_ballot c is)), λ c is. absurd (no_ballot c is)),
+          (refl, refl, (omega arith, omega arith, λ gone. omega (arith, gone.1)), refl, (λ c is. absurd (none_there c is)), λ c is. absurd (none_there c is)),
           (
             (refl, refl),
             (
-              (refl, (0, omega arith, refl), (λ c is. absurd (no_ballot c is)), λ c is. absurd (no_ballot c is)),
+              (refl, (0, omega arith, refl), (λ c is. absurd (none_there c is)), λ c is. absurd (none_there c is)),
               (
                 (refl, refl, refl),
                 (

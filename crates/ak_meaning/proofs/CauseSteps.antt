@@ -2,11 +2,14 @@
 use Rattle.std.proofs.Common.{◌≡◌, ℕ, ◌+◌, Bool, true, false, not, ◌&&◌, inl, inr, if◌then◌else◌, nat_le, List, [], ◌∷◌, Option, Some, None, is_some, Result, Ok, Err, Contains, refl, sym, ap, ◌∙◌, subst, true≢false}
 use Rattle.std.proofs.lemmas.Bool.{leb-true}
 use Rattle.std.specs.FinMap as map
+use Rattle.std.specs.Cmp.{first_so, second_so}
+use Rattle.ak_world.proofs.RaisedBySteps.{up_is}
 use Rattle.ak_address.specs.Distinct.{distinct}
 use Rattle.ak_address.specs.Unique.{UniqueModel}
 use Rattle.ak_address.proofs.Elements.{first_or_rest, contains_nothing, index_of}
 use Rattle.ak_address.proofs.OrderLemmas.{tied_is}
 use Rattle.ak_address.proofs.TableLaws.{same_key}
+use Rattle.ak_address.proofs.BoolLemmas.{not_false}
 use Rattle.ak_converge.specs.Convergence.{is_converged}
 use Rattle.ak_downing.specs.Downing.{decide, is_against}
 use Rattle.ak_downing.proofs.DownedLaws.{downed_has}
@@ -14,7 +17,6 @@ use Rattle.ak_gossip.specs.declared.gossip.GossipFault.{GossipFault}
 use Rattle.ak_gossip.specs.declared.gossip.GossipFault.TheVariants as fault
 use Rattle.ak_gossip.specs.declared.gossip.Received.{Received}
 use Rattle.ak_gossip.specs.Gossip.{GossipState, is_known, receive}
-use Rattle.ak_gossip.proofs.InvariantLemmas.{and_first, and_second}
 use Rattle.ak_leader.specs.Leader.{leader, leaders_effects, founding_effects}
 use Rattle.ak_leader.specs.Led.{LedTo, IsMemberWith}
 use Rattle.ak_leader.specs.Led.LedTo.{rises, exits, confirms, removes}
@@ -57,10 +59,6 @@ says_told c effects x there inside = by_number c.number refl there
     by_number None is there = absurd (contains_nothing effects there)
     by_number (Some number) is there = (number, is, elim (first_or_rest c.effects effects [] there) [ inl same ↦ subst (λ l. Contains l x) same inside | inr none ↦ absurd (contains_nothing effects none) ])
 
-was : (b : Bool) → not b ≡ false → b ≡ true
-was true is = refl
-was false is = absurd (true≢false is)
-
 -- ---- each effect that is told is of a kind
 module _ (P : Effect → Type 0) where
   abbrev All : Outcome → Type 0
@@ -92,13 +90,6 @@ is_it : (me : UniqueModel) (o : Option UniqueModel) → is_process me o ≡ true
 is_it me None is = absurd (true≢false (sym is))
 is_it me (Some who) is = ap Some (same_key who me is)
 
-up_is : (status : Status) → is_up status ≡ true → status ≡ Up
-up_is Joining is = absurd (true≢false (sym is))
-up_is Up is = refl
-up_is Leaving is = absurd (true≢false (sym is))
-up_is Exiting is = absurd (true≢false (sym is))
-up_is Down is = absurd (true≢false (sym is))
-
 module _ (n : State) (ev : NodeEvent) where
   abbrev m : MembershipState
   m = n.membership
@@ -112,7 +103,7 @@ module _ (n : State) (ev : NodeEvent) where
       allowed_if Why m (not (is_member m)) _ _ (λ is. all_unchanged Why m) (λ member.
       allowed_if Why m (not (standing.is_member m.gossip.view.standings who)) _ _ (λ is. all_unchanged Why m) (λ there.
       allowed_if Why m (not (is_member_with is_up m.gossip.view.standings who)) _ _ (λ is. all_unchanged Why m) (λ up.
-      all_update Why m (Rise who Leaving 0 ∷ []) (all_one Why (Rise who Leaving 0) (cause.IsCause.leaves who asked (with_up (was _ up)))))))
+      all_update Why m (Rise who Leaving 0 ∷ []) (all_one Why (Rise who Leaving 0) (cause.IsCause.leaves who asked (with_up (not_false _ up)))))))
     where
       with_up : is_member_with is_up m.gossip.view.standings who ≡ true → IsMemberWith (members_at n) who Up
       with_up is = let h = status_of is_up (member_of (map.get m.gossip.view.standings who)) is in (h.0.1, h.1 ∙ ap (λ status. Some (status, h.0.1)) (up_is h.0.0 h.2))
@@ -122,7 +113,7 @@ module _ (n : State) (ev : NodeEvent) where
       allowed_if Why m (not (is_member m)) _ _ (λ is. all_unchanged Why m) (λ member.
       allowed_if Why m (not (standing.is_member m.gossip.view.standings who)) _ _ (λ is. all_unchanged Why m) (λ there.
       allowed_if Why m (is_member_with is_down m.gossip.view.standings who) _ _ (λ is. all_unchanged Why m) (λ up.
-      all_update Why m (Rise who Down 0 ∷ []) (all_one Why (Rise who Down 0) (cause.IsCause.downs_asked who asked (was _ there))))))
+      all_update Why m (Rise who Down 0 ∷ []) (all_one Why (Rise who Down 0) (cause.IsCause.downs_asked who asked (not_false _ there))))))
 
   joining : (from : UniqueModel) → cause.AsksToJoin ev from → All Why (allowed (on_join from m) m)
   joining from asked =
@@ -132,7 +123,7 @@ module _ (n : State) (ev : NodeEvent) where
       allowed_if Why m (is_known m.gossip.view.standings from) _ _ (λ is. all_unchanged Why m) (λ unknown.
       allowed_if Why m (has_member_beside from m.gossip.view.standings) _ _ (λ is. all_any Why m (replaced from m.gossip.view.standings) (beside unknown)) (λ free.
       allowed_if Why m (nat_le most_at_join (map.len m.gossip.view.standings)) _ _ (λ is. all_unchanged Why m) (λ room.
-      all_if Why (may_count m) _ _ (λ is x says. all_one Why (Joined from) (cause.IsCause.admits from asked (was _ member) unknown) x says.2) (λ is. all_unchanged Why m)))))))
+      all_if Why (may_count m) _ _ (λ is x says. all_one Why (Joined from) (cause.IsCause.admits from asked (not_false _ member) unknown) x says.2) (λ is. all_unchanged Why m)))))))
     where
       beside : is_known m.gossip.view.standings from ≡ false → (x : Effect) → Contains (replaced from m.gossip.view.standings) x → Why x
       beside unknown x there =
@@ -147,7 +138,7 @@ module _ (n : State) (ev : NodeEvent) where
         by_cause d.0 d.1 d.2 x d.3
       where
         leads_it : LeadsSettled n
-        leads_it = (and_first (has_settled m) _ is, is_it m.me (leader m.gossip.view) (and_second (has_settled m) _ is))
+        leads_it = (first_so (has_settled m) _ is, is_it m.me (leader m.gossip.view) (second_so (has_settled m) _ is))
 
         as_status : (who : UniqueModel) (status other : Status) → status ≡ other → IsMemberWith (members_at n) who status → IsMemberWith (members_at n) who other
         as_status who status other is member = (member.0, member.1 ∙ ap (λ s. Some (s, member.0)) is)
@@ -166,17 +157,17 @@ module _ (n : State) (ev : NodeEvent) where
         let j = is_member_with is_joining s m.me in
         let agree = is_converged m.gossip.view m.gossip.seen in
         let enough = nat_le (settling_size m.settings.strategy) (distinct (joining_addresses s)) in
-        let three = and_first (m.founder && j && agree) enough is in
-        let both = and_first (m.founder && j) agree three in
+        let three = first_so (m.founder && j && agree) enough is in
+        let both = first_so (m.founder && j) agree three in
         let at = index_of (founding_effects s) x there in
         let d = founds_at s at.0 x at.1 in
         subst Why (sym d.2)
         (cause.IsCause.founds d.0 (at.0 + 1) ticks
         (record {
-          founder = and_first m.founder j both;
-          joining = joining_member s m.me (and_second m.founder j both);
-          agreed = and_second (m.founder && j) agree three;
-          enough = leb-true (settling_size m.settings.strategy) (distinct (joining_addresses s)) (and_second (m.founder && j && agree) enough is);
+          founder = first_so m.founder j both;
+          joining = joining_member s m.me (second_so m.founder j both);
+          agreed = second_so (m.founder && j) agree three;
+          enough = leb-true (settling_size m.settings.strategy) (distinct (joining_addresses s)) (second_so (m.founder && j && agree) enough is);
         })
         d.1)
 

@@ -3,12 +3,12 @@ use Rattle.std.proofs.Common.{◌≡◌, zero, suc, ◌+◌, Bool, true, false, 
 use Rattle.std.specs.List.{list_any}
 use Rattle.std.specs.Ordering.{is_eq}
 use Rattle.std.specs.declared.cmp.Ordering.TheVariants.{Less}
-use Rattle.std.specs.Cmp.{tied_itself}
+use Rattle.ak_gossip.proofs.PartsPlaces.{not_less_itself}
 use Rattle.ak_address.specs.Distinct.{distinct}
 use Rattle.ak_address.specs.Unique.{AddressModel, UniqueModel, address_cmp, unique_cmp}
 use Rattle.ak_address.proofs.DistinctLaws.{IsBelow, AreRising}
 use Rattle.ak_address.proofs.Elements.{contains_first, contains_rest, first_or_rest, contains_nothing, contains_at, any_there, any_found}
-use Rattle.ak_address.proofs.OrderLemmas.{unique_total, tied_is, tied_self}
+use Rattle.ak_address.proofs.OrderLemmas.{tied_is, tied_self}
 use Rattle.ak_meaning.specs.Counting.{HasEachOnce}
 
 -- ---- each once
@@ -29,15 +29,9 @@ below_none u (q ∷ us) below who there = elim (first_or_rest q who us there) [
   | inr later ↦ below_none u us below.1 who later
 ]
 
-pub less_itself : (u : UniqueModel) → unique_cmp u u ≡ Less → ⊥
-less_itself u less = true≢false (sym (tied_itself' u) ∙ ap is_eq less)
-  where
-    tied_itself' : (u : UniqueModel) → is_eq (unique_cmp u u) ≡ true
-    tied_itself' u = ap is_eq (tied_itself unique_total u)
-
 pub rising_once : (us : List UniqueModel) → AreRising us → HasEachOnce us
 rising_once [] rising = once_none
-rising_once (u ∷ us) rising = once_more u us (λ there. less_itself u (below_none u us rising.0 u there)) (rising_once us rising.1)
+rising_once (u ∷ us) rising = once_more u us (λ there. not_less_itself u (below_none u us rising.0 u there)) (rising_once us rising.1)
 
 -- ---- addresses
 -- the last of each

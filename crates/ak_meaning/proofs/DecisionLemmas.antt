@@ -1,11 +1,11 @@
 -- What a decision presupposes: somebody counts, and somebody else is lost.
 use Rattle.std.proofs.Common.{◌≡◌, ◌≢◌, ℕ, Bool, true, not, ◌&&◌, ◌==◌, IsTrue, sym, ap, ◌∙◌, true≢false}
 use Rattle.std.specs.Ordering.{is_eq}
+use Rattle.std.specs.Cmp.{first_so, second_so}
 use Rattle.ak_address.specs.Unique.{UniqueModel, unique_cmp}
 use Rattle.ak_address.specs.Uniques.{has}
 use Rattle.ak_address.proofs.Elements.{contains_at}
 use Rattle.ak_address.proofs.TableLaws.{key_itself}
-use Rattle.ak_gossip.proofs.InvariantLemmas.{and_first, and_second}
 use Rattle.ak_member.specs.declared.status.Status.{Status}
 use Rattle.ak_member.specs.declared.status.Status.TheVariants.{Down}
 use Rattle.ak_member.specs.Age.{counts}
@@ -46,18 +46,18 @@ module _ (n : State) where
       let who = at.1.0 in
       let status = at.1.1.0 in
       let other = not (is_eq (unique_cmp who m.me)) in
-      let both = and_first (other && has lost who) (not (is_down status)) at.3 in
+      let both = first_so (other && has lost who) (not (is_down status)) at.3 in
       record {
         who = who;
-        other = other_one who m.me (and_first other (has lost who) both);
+        other = other_one who m.me (first_so other (has lost who) both);
         status = status;
         member = (at.1.1.1, members_have s at.1 (contains_at (members_of s) at.0 at.1 at.2));
-        not_down = not_down status (and_second (other && has lost who) (not (is_down status)) at.3);
-        unreachable = (unreachable_means m.gossip.view who).0 (and_second other (has lost who) both);
+        not_down = not_down status (second_so (other && has lost who) (not (is_down status)) at.3);
+        unreachable = (unreachable_means m.gossip.view who).0 (second_so other (has lost who) both);
       }
 
   pub decision_presupposes : IsTrue (decides m) → SomebodyCounts n × SomebodyIsLost n
   decision_presupposes is =
       let full = stood m == m.settings.stable in
       let some = some_counts m.gossip.view.standings in
-      (somebody_counts (and_second full some (and_first (full && some) (has_lost m) is)), somebody_lost (and_second (full && some) (has_lost m) is))
+      (somebody_counts (second_so full some (first_so (full && some) (has_lost m) is)), somebody_lost (second_so (full && some) (has_lost m) is))

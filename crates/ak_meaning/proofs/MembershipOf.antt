@@ -21,7 +21,7 @@ use Rattle.ak_node.specs.declared.node.NodeEvent.TheVariants as event
 use Rattle.ak_node.specs.declared.node.State.{State}
 use Rattle.ak_node.specs.Node as node
 use Rattle.ak_node.specs.Node.{known, me_of, is_member, is_gone, nothing, and_then, does, does_for, unless_refused, update_by, leave, down, asks_at, asks_as, status_of, ends_phase, exits, gossips_to, shards_do, rest, may_leave, leaves, goes_on, ends, beats, ticked, on_message, is_asked, answers_ask, takes_grant, has_handed_over, answered, needed_others, answer, rule, if_so, closes, told_active, becomes_active, activates, forgets, concludes, settled_of, margin_of, is_dead, running_step, step}
-use Rattle.ak_node.proofs.ChangeLemmas.{each_made}
+use Rattle.ak_node.proofs.ChangeLemmas.{each_made, no_more}
 use Rattle.ak_node.proofs.StepChanges.{goes_quiet, of_tells, own_tells, step_is}
 use Rattle.ak_promise.specs.declared.promise.Answer.{Answer}
 use Rattle.ak_promise.specs.declared.promise.Answer.TheVariants as given
@@ -95,10 +95,6 @@ does_if false m x y = y
 update_told : (number : Option ℕ) (effects : List Effect) → updates_of (update_by number effects) ≡ told (record { number = number; effects = effects; reply = reply.Nothing })
 update_told None effects = refl
 update_told (Some number) effects = refl
-
-no_more : {X : Type 0} (xs : List X) → xs ++ [] ≡ xs
-no_more [] = refl
-no_more (x ∷ xs) = ap (λ l. x ∷ l) (no_more xs)
 
 answer_none : (r : Reply) (to : UniqueModel) (n : State) → updates_of (answer r to n) ≡ []
 answer_none reply.Nothing to n = refl

@@ -16,6 +16,7 @@ use Rattle.ak_sharding.specs.Coordinates as coordinates
 use Rattle.ak_sharding.specs.Hosts as hosts
 use Rattle.ak_sharding.specs.Packets as packets
 use Rattle.ak_sharding.specs.Sharding.{delivery}
+use Rattle.ak_sharding.proofs.NewEntities.{none_active}
 use Rattle.ak_wire.specs.declared.action.Action.{Action}
 use Rattle.ak_wire.specs.declared.action.Action.TheVariants.{Entity, Deliver}
 use Rattle.ak_wire.specs.declared.envelope.Message as wire
@@ -53,9 +54,6 @@ module _ {X : Type 0} where
       turned : (b : Bool) (o : Option X) → cond b None o ≡ cond (not b) o None
       turned true o = refl
       turned false o = refl
-
-pub none_active : (entity : List ℕ) → finmap.get (finmap.empty {X = ActiveEntity} {R = entity_cmp}) entity ≡ None
-none_active entity = finmap.get-empty entity_cmp entity
 
 pub ruleset shared = (listed, remove_listed, none_active)
 

@@ -5,6 +5,7 @@ use Rattle.std.specs.FinMap as finmap
 use Rattle.std.specs.List.{filter}
 use Rattle.std.specs.Ordering.{is_eq}
 use Rattle.std.specs.declared.cmp.Ordering.TheVariants.{Less}
+use Rattle.ak_gossip.proofs.PartsPlaces.{not_less_itself}
 use Rattle.ak_address.specs.Distinct.{distinct}
 use Rattle.ak_address.specs.Unique.{UniqueModel, unique_cmp}
 use Rattle.ak_address.specs.Uniques.{has}
@@ -35,11 +36,7 @@ use Rattle.ak_downing.specs.Downing.{is_beside, counted_beside, counted_apart, a
 use Rattle.ak_downing.proofs.DownedLaws.{downs_members}
 use Rattle.ak_meaning.specs.Counting.{AreMany}
 use Rattle.ak_meaning.specs.Resolver.{DoesCount, IsWith, CountsWith, CountsApart, HasCounted, HasReached, DecidesByQuorum, FirstIsWith, DecidesByMajority, AreDivided, DownsRightly}
-use Rattle.ak_meaning.proofs.CountingLemmas.{below_none, less_itself, rising_once, last_ones, last_many, last_in, in_last, last_once}
-
-was : (b : Bool) → not b ≡ false → b ≡ true
-was true is = refl
-was false is = absurd (true≢false is)
+use Rattle.ak_meaning.proofs.CountingLemmas.{below_none, rising_once, last_ones, last_many, last_in, in_last, last_once}
 
 -- ---- who counts
 counts_means : (status : Status) → counts status ≡ true → (status ≡ Up) ⊎ (status ≡ Leaving)
@@ -271,9 +268,6 @@ record ByMajority (beside others : ℕ) (IsFirst : Type 0) (d : Decision) : Type
   goes_on : (d ≡ decision.DownUnreachable) ↔ ((others < beside) ⊎ ((beside ≡ others) × IsFirst))
   gives_up : (d ≡ decision.DownReachable) ↔ (¬ (d ≡ decision.DownUnreachable))
 
-first_side : Bool → Decision
-first_side b = if b then decision.DownUnreachable else decision.DownReachable
-
 by_majority : (beside others : ℕ) (IsFirst : Type 0) (t : Bool) → (t ≡ true) ↔ IsFirst → ByMajority beside others IsFirst (majority_choice beside others (if t then decision.DownUnreachable else decision.DownReachable))
 by_majority beside others IsFirst t first = by_case (nat_lt others beside) (nat_lt beside others) t refl refl refl
   where
@@ -339,7 +333,7 @@ module _ (v : View) (me : UniqueModel) where
           ]
 
       both_less : (one other : UniqueModel) → unique_cmp one other ≡ Less → unique_cmp other one ≡ Less → ⊥
-      both_less one other less more = less_itself one (unique_total.trans one other one less more)
+      both_less one other less more = not_less_itself one (unique_total.trans one other one less more)
 
       it_is : (f : FirstIsWith v me) → f.who ≡ pair.0
       it_is f = elim (f.first pair.0 pair_counts) [

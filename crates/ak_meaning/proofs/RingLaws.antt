@@ -6,6 +6,7 @@ use Rattle.std.specs.List.{filter}
 use Rattle.std.specs.Ordering.{is_lt, ordering_reverse}
 use Rattle.std.specs.declared.cmp.Ordering.{Ordering}
 use Rattle.std.specs.declared.cmp.Ordering.TheVariants.{Less, Equal, Greater}
+use Rattle.ak_gossip.proofs.PartsPlaces.{not_less_itself}
 use Rattle.ak_address.specs.Unique.{UniqueModel, unique_cmp}
 use Rattle.ak_address.specs.Uniques.{has}
 use Rattle.ak_address.proofs.CountersLaws.{has-set_of, contained, is_among}
@@ -21,7 +22,7 @@ use Rattle.ak_member.proofs.MembersLaws.{members_have, have_members}
 use Rattle.ak_detector.specs.Detector.{most_watched, others_around, watch_ring}
 use Rattle.ak_meaning.specs.Counting.{HasEachOnce}
 use Rattle.ak_meaning.specs.Ring.{ComesBefore, IsOther, IsRing}
-use Rattle.ak_meaning.proofs.CountingLemmas.{once_none, once_more, below_none, less_itself}
+use Rattle.ak_meaning.proofs.CountingLemmas.{once_none, once_more, below_none}
 
 -- ---- lists in an order
 -- each comes before all that are later in the list
@@ -86,7 +87,7 @@ abbrev Below : UniqueModel → UniqueModel → Type 0
 Below a b = unique_cmp a b ≡ Less
 
 below_one_way : (a b : UniqueModel) → Below a b → Below b a → ⊥
-below_one_way a b one other = less_itself a (unique_total.trans a b a one other)
+below_one_way a b one other = not_less_itself a (unique_total.trans a b a one other)
 
 rising_ordered : (us : List UniqueModel) → AreRising us → Ordered Below us
 unfolding Ordered
@@ -153,8 +154,8 @@ module _ (me : UniqueModel) (s : Standings) where
 
   around_other : (who : UniqueModel) → Contains (others_around me s) who → IsOther me s who
   around_other who there = elim (contains_either (filter after names) (filter before names) who there) [
-    | inl one ↦ let h = in_filter after names who one in (named_member who h.0, λ same. less_itself me (subst (Below me) same (lt_less me who h.1)))
-    | inr one ↦ let h = in_filter before names who one in (named_member who h.0, λ same. less_itself me (subst (λ u. Below u me) same (lt_less who me h.1)))
+    | inl one ↦ let h = in_filter after names who one in (named_member who h.0, λ same. not_less_itself me (subst (Below me) same (lt_less me who h.1)))
+    | inr one ↦ let h = in_filter before names who one in (named_member who h.0, λ same. not_less_itself me (subst (λ u. Below u me) same (lt_less who me h.1)))
   ]
 
   other_around : (who : UniqueModel) → IsOther me s who → Contains (others_around me s) who

@@ -2,9 +2,9 @@
 use Rattle.std.proofs.Common.{◌≡◌, ℕ, zero, suc, ◌+◌, ◌<◌, ◌≤◌, ◌==◌, nat_le, Bool, true, false, ◌&&◌, ◌⊎◌, inl, inr, if◌then◌else◌, List, [], ◌∷◌, length, take, Option, Some, None, is_some, Result, Ok, Err, slice_get, Contains, IsTrue, refl, sym, ap, ◌∙◌, subst, arith, true≢false}
 use Rattle.std.proofs.lemmas.Bool.{eqb-true, leb-true, leb-false}
 use Rattle.std.proofs.lemmas.Option.{same_Some}
+use Rattle.std.specs.Cmp.{first_so}
 use Rattle.ak_address.specs.Unique.{UniqueModel}
 use Rattle.ak_address.proofs.Elements.{first_or_rest, contains_nothing}
-use Rattle.ak_gossip.proofs.InvariantLemmas.{and_first}
 use Rattle.ak_member.specs.declared.effect.Effect.{Effect}
 use Rattle.ak_member.specs.declared.effect.Effect.TheVariants.{Rise}
 use Rattle.ak_member.specs.declared.status.Status.TheVariants.{Down}
@@ -201,7 +201,7 @@ decided_it n ev word is other x effect_is why = elim why as (λ y h. y ≡ Rise 
 stood_before : (n : State) → IsTrue (decides n.membership) → n.membership.settings.stable ≤ n.membership.stable + 1
 stood_before n is =
     let m = n.membership in
-    let full : stood m ≡ m.settings.stable = eqb-true (stood m) m.settings.stable (and_first (stood m == m.settings.stable) (some_counts m.gossip.view.standings) (and_first (stood m == m.settings.stable && some_counts m.gossip.view.standings) (has_lost m) is)) in
+    let full : stood m ≡ m.settings.stable = eqb-true (stood m) m.settings.stable (first_so (stood m == m.settings.stable) (some_counts m.gossip.view.standings) (first_so (stood m == m.settings.stable && some_counts m.gossip.view.standings) (has_lost m) is)) in
     omega arith
 
 pub decision_stood : (settings : SettingsModel) (events : List Event) (index time : ℕ) → DownsAt settings events index time → StoodStill settings events index time

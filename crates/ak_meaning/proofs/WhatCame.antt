@@ -4,9 +4,9 @@
 use Rattle.std.proofs.Common.{◌≡◌, ℕ, leb, Bool, true, false, not, if◌then◌else◌, List, [], ◌∷◌, ◌++◌, length, take, zero, suc, Option, Some, None, Result, Ok, Err, slice_get, IsTrue, refl, ap, ◌∙◌, true≢false}
 use Rattle.std.proofs.lemmas.Option.{same_Some}
 use Rattle.std.specs.List.{list_any}
+use Rattle.std.specs.Cmp.{first_so, second_so}
 use Rattle.ak_address.specs.Unique.{UniqueModel}
 use Rattle.ak_address.proofs.TableLaws.{same_key}
-use Rattle.ak_gossip.proofs.InvariantLemmas.{and_first, and_second}
 use Rattle.ak_node.specs.declared.node.NodeEvent.{NodeEvent}
 use Rattle.ak_node.specs.declared.node.NodeEvent.TheVariants as event
 use Rattle.ak_node.specs.declared.node.State.{State}
@@ -53,7 +53,7 @@ module _ (settings : SettingsModel) (w : WorldState) (e : Event) where
   acted ev u None founded found is = tt
 
   given : (p : Envelope) (index : ℕ) (o : Option State) → slice_get w.nodes index ≡ o → ((n : State) → o ≡ Some n → is_reached p n ≡ true) → ((me : UniqueModel) → is_for me p ≡ true → Gives w e me (event.Packet p)) → IsAnswer settings w e (gives (event.Packet p) index o w)
-  given p index (Some n) at reached is = steps (event.Packet p) index n w.founded at (and_first n.runs (is_for (me_of n) p) (reached n refl)) (is (me_of n) (and_second n.runs (is_for (me_of n) p) (reached n refl)))
+  given p index (Some n) at reached is = steps (event.Packet p) index n w.founded at (first_so n.runs (is_for (me_of n) p) (reached n refl)) (is (me_of n) (second_so n.runs (is_for (me_of n) p) (reached n refl)))
   given p index None at reached is = tt
 
   arrived : (p : Envelope) (o : Option ℕ) → receiver_of p w ≡ o → ((me : UniqueModel) → is_for me p ≡ true → Gives w e me (event.Packet p)) → IsAnswer settings w e (arrives p o w)

@@ -1,7 +1,7 @@
 -- The places of the slots that count, the oldest first: what a search tells, and what becomes of them where a slot comes or changes.
 use Rattle.std.proofs.Common.{◌≡◌, ◌≢◌, ℕ, zero, suc, ◌+◌, ◌<◌, ◌≤◌, Bool, true, false, cond, not, ◌&&◌, ◌||◌, eqb, nat_eq, IsTrue, List, [], ◌∷◌, ◌++◌, length, insert, remove, get_or, slice_get, Option, Some, None, is_some, unwrap_or, option_map, Contains, Ok, Err, refl, sym, ap, ◌∙◌, subst, arith, true≢false}
 use Rattle.std.proofs.lemmas.Option.{none-some, same_Some, slice_get-map, slice_get-get_or}
-use Rattle.std.proofs.lemmas.Bool.{ne_eqb, eq-eqb}
+use Rattle.std.proofs.lemmas.Bool.{ne_eqb, eq-eqb, or_left, or_right}
 use Rattle.std.proofs.lemmas.Bool.Decides.{Decides-eqb}
 use Rattle.std.proofs.lemmas.List.{length-map, length-append, get_or_append_left}
 use Rattle.std.proofs.lemmas.Map.Keys.{IsDistinct-from_apart}
@@ -10,7 +10,7 @@ use Rattle.std.proofs.lemmas.Map.Lookups.{exact_pairs, exact_unsigned}
 use Rattle.std.proofs.lemmas.Cmp.{on_total, then_total, nat_cmp_total}
 use Rattle.std.specs.declared.cmp.Ordering.TheVariants.{Less, Equal, Greater}
 use Rattle.std.specs.Ordering.{is_eq, eq_by_cmp, nat_cmp}
-use Rattle.std.specs.Cmp.{IsTotalOrder, tied_itself}
+use Rattle.std.specs.Cmp.{IsTotalOrder, tied_itself, first_so}
 use Rattle.std.specs.List.{AllByRecursion, IsDistinct}
 use Rattle.std.specs.Map.{keys_of}
 use Rattle.std.specs.FinMap as map
@@ -54,10 +54,6 @@ same_number p q h = (Decides-eqb p q).0 h
 itself : (p : ℕ) → nat_eq p p ≡ true
 itself p = eq-eqb p p refl
 
-and_first : (a b : Bool) → (a && b) ≡ true → a ≡ true
-and_first true b h = refl
-and_first false b h = h
-
 and_second : (a b : Bool) → (a && not b) ≡ true → b ≡ false
 and_second true true h = absurd (true≢false (sym h))
 and_second true false h = refl
@@ -65,14 +61,6 @@ and_second false b h = absurd (true≢false (sym h))
 
 and_both : (a b : Bool) → a ≡ true → b ≡ false → (a && not b) ≡ true
 and_both a b h g = λ i. h i && not (g i)
-
-or_first : (a b : Bool) → a ≡ true → (a || b) ≡ true
-or_first true b h = refl
-or_first false b h = absurd (true≢false (sym h))
-
-or_second : (a b : Bool) → b ≡ true → (a || b) ≡ true
-or_second true b h = refl
-or_second false b h = h
 
 or_either : (a b : Bool) → (a || b) ≡ true → b ≡ false → a ≡ true
 or_either true b h g = refl
@@ -118,7 +106,7 @@ module _ (wanted : ℕ → Bool) (key : ℕ → AgeKey) (places : List ℕ) (l :
       λ q. ap (map.find age_cmp q) left ∙ find-where_key age_cmp others q (λ x tied. ap others (sym (age_exact q x tied))) es in
       record {
         sorted = subst (λ fs. IsTrue (map.is_sorted age_cmp fs)) (sym left) (true_is _ (is_sorted-where_key age_cmp others es (is_true _ l.sorted)));
-        all = λ place h. find_left (key place) ∙ all_left place (and_first _ _ h) (and_second _ _ h) (eq_by_cmp age_cmp (key slot) (key place)) refl;
+        all = λ place h. find_left (key place) ∙ all_left place (first_so _ _ h) (and_second _ _ h) (eq_by_cmp age_cmp (key slot) (key place)) refl;
         only = λ q place found. only_left q place (eq_by_cmp age_cmp (key slot) q) refl (sym (find_left q) ∙ found);
       }
     where
@@ -160,8 +148,8 @@ module _ (wanted : ℕ → Bool) (key : ℕ → AgeKey) (places : List ℕ) (l :
 
       only_more : (q : AgeKey) (place : ℕ) (b : Bool) → eq_by_cmp age_cmp q (key slot) ≡ b → cond b (Some slot) (map.find age_cmp q (keyed key places)) ≡ Some place → ((wanted place || nat_eq place slot) ≡ true) × (key place ≡ q)
       only_more q place true same found =
-          let one = same_Some slot place found in (or_second (wanted place) (nat_eq place slot) (eq-eqb place slot (sym one)), ap key (sym one) ∙ sym (same_age q (key slot) same))
-      only_more q place false same found = let o = l.only q place found in (or_first (wanted place) (nat_eq place slot) o.0, o.1)
+          let one = same_Some slot place found in (or_right (wanted place) (nat_eq place slot) (eq-eqb place slot (sym one)), ap key (sym one) ∙ sym (same_age q (key slot) same))
+      only_more q place false same found = let o = l.only q place found in (or_left (wanted place) (nat_eq place slot) o.0, o.1)
 
   -- each is listed once, so there are no more than there are slots
   lists_distinct : IsDistinct eqb places
@@ -296,10 +284,10 @@ but_for_last slots slot places l =
         let below = within_of_age slots place here in
         absurd (true≢false (sym (and_both (has_age (slots ++ slot ∷ []) place) (nat_eq place (length slots)) (earlier place below ∙ here) (ne_eqb place (length slots) (λ same. omega (arith, same, below)))) ∙ there))
     by place false here true there =
-        let within = within_of_age (slots ++ slot ∷ []) place (and_first _ _ there) in
+        let within = within_of_age (slots ++ slot ∷ []) place (first_so _ _ there) in
         let other : place ≢ length slots = λ same. true≢false (sym (eq-eqb place (length slots) same) ∙ and_second _ _ there) in
         let below : place < length slots = less_still place (omega (arith, within, length-append slots (slot ∷ []))) other in
-        absurd (true≢false (sym (and_first _ _ there) ∙ earlier place below ∙ here))
+        absurd (true≢false (sym (first_so _ _ there) ∙ earlier place below ∙ here))
 
 -- the slot that was out is in, where it counts
 pub all_again : (slots : List Slot) (slot : ℕ) (places : List ℕ) → has_age slots slot ≡ true → Lists (λ place. has_age_but slot slots place || nat_eq place slot) (key_at slots) places → AreByAge slots places
@@ -312,7 +300,7 @@ all_again slots slot places counted l = lists_same _ (has_age slots) (key_at slo
     or_and false false h = refl
 
     by : (place : ℕ) (t : Bool) → nat_eq place slot ≡ t → (has_age_but slot slots place || nat_eq place slot) ≡ has_age slots place
-    by place true one = or_second (has_age_but slot slots place) (nat_eq place slot) one ∙ sym (ap (has_age slots) (same_number place slot one) ∙ counted)
+    by place true one = or_right (has_age_but slot slots place) (nat_eq place slot) one ∙ sym (ap (has_age slots) (same_number place slot one) ∙ counted)
     by place false other = or_and (has_age slots place) (nat_eq place slot) other
 
 -- and one that does not count is not missed
@@ -352,7 +340,7 @@ counts_all slots places l = lists_all (has_age slots) (key_at slots) places l
 
 pub counts_all_but : (slots : List Slot) (slot : ℕ) (places : List ℕ) → Lists (has_age_but slot slots) (key_at slots) places → AllByRecursion (λ place. has_age slots place ≡ true) places
 counts_all_but slots slot places l =
-    all_of (λ place. has_age_but slot slots place ≡ true) (λ place. has_age slots place ≡ true) places (λ place h. and_first _ _ h) (lists_all (has_age_but slot slots) (key_at slots) places l)
+    all_of (λ place. has_age_but slot slots place ≡ true) (λ place. has_age slots place ≡ true) places (λ place h. first_so _ _ h) (lists_all (has_age_but slot slots) (key_at slots) places l)
 
 not_but : (slots : List Slot) (slot : ℕ) → has_age_but slot slots slot ≡ false
 not_but slots slot = by (has_age slots slot) (nat_eq slot slot) (itself slot)
@@ -366,13 +354,13 @@ module _ (slots : List Slot) (slot : ℕ) (places : List ℕ) (l : Lists (has_ag
   -- a slot that is out has room
   pub room_for : has_age slots slot ≡ true → length places + 1 ≤ length slots
   room_for counted =
-      lists_shorter (has_age_but slot slots) (key_at slots) places l (length slots) slot (λ place h. within_of_age slots place (and_first _ _ h)) (within_of_age slots slot counted) (not_but slots slot)
+      lists_shorter (has_age_but slot slots) (key_at slots) places l (length slots) slot (λ place h. within_of_age slots place (first_so _ _ h)) (within_of_age slots slot counted) (not_but slots slot)
 
   -- and no other stands where it goes
   pub no_other_there : IsDistinct same_unique (keys_of slots) → has_age slots slot ≡ true → (n : ℕ) → Ok n ≡ index age_cmp (key_at slots slot) (keyed (key_at slots) places) → ⊥
   no_other_there apart counted n stands =
       let h = listed_here (has_age_but slot slots) (key_at slots) places l (key_at slots slot) n stands in
-      let same = same_place slots h.0 slot apart (within_of_age slots h.0 (and_first _ _ h.2)) (within_of_age slots slot counted) (ap (λ (k : AgeKey). k.1) h.3) in
+      let same = same_place slots h.0 slot apart (within_of_age slots h.0 (first_so _ _ h.2)) (within_of_age slots slot counted) (ap (λ (k : AgeKey). k.1) h.3) in
       other_number h.0 slot (and_second _ _ h.2) same
 
   pub entered : (n : ℕ) → has_age slots slot ≡ true → Err n ≡ index age_cmp (key_at slots slot) (keyed (key_at slots) places) → AreByAge slots (insert places n slot)

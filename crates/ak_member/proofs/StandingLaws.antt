@@ -2,6 +2,7 @@
 use Rattle.std.proofs.Common.{◌≡◌, ℕ, zero, suc, max, Bool, true, false, cond, ltb, ◌||◌, refl, sym, ap, ◌∙◌, arith}
 use Rattle.std.proofs.lemmas.Bool.{ltb-true, ltb-false, lt-ltb, le-ltb}
 use Rattle.std.proofs.lemmas.Bool.Decides.{nat_tests}
+use Rattle.ak_address.proofs.BoolLemmas.{or_turned}
 use Rattle.ak_member.specs.declared.status.Status.{Status}
 use Rattle.ak_member.specs.declared.status.Status.TheVariants.{Joining, Up, Leaving, Exiting, Down}
 use Rattle.ak_member.specs.declared.standing.Standing.{Standing}
@@ -64,12 +65,6 @@ number_idempotent : (n : ℕ) → older_number n n ≡ n
 number_idempotent n = grind (arith, nat_tests)
 
 -- ---- standings
-or_commutative : (a b : Bool) → (a || b) ≡ (b || a)
-or_commutative true true = refl
-or_commutative true false = refl
-or_commutative false true = refl
-or_commutative false false = refl
-
 or_associative : (a b c : Bool) → ((a || b) || c) ≡ (a || (b || c))
 or_associative true b c = refl
 or_associative false b c = refl
@@ -82,7 +77,7 @@ pub standing_commutative : (x y : Standing) → merged_standing x y ≡ merged_s
 standing_commutative (Member status number) (Member other other_number) = λ i. Member (status_commutative status other i) (number_commutative number other_number i)
 standing_commutative (Member status number) (Buried confirmed) = refl
 standing_commutative (Buried confirmed) (Member status number) = refl
-standing_commutative (Buried confirmed) (Buried other) = ap Buried (or_commutative confirmed other)
+standing_commutative (Buried confirmed) (Buried other) = ap Buried (or_turned confirmed other)
 
 pub standing_associative : (x y z : Standing) → merged_standing (merged_standing x y) z ≡ merged_standing x (merged_standing y z)
 standing_associative (Member a l) (Member b m) (Member c n) = λ i. Member (status_associative a b c i) (number_associative l m n i)

@@ -1,22 +1,22 @@
 -- Why the effects of a founding, of a leader and of a replacement may be written.
 use Rattle.std.proofs.Common.{◌≡◌, ℕ, Bool, true, ◌&&◌, inl, inr, [], ◌∷◌, Option, Some, None, is_some, Contains, IsTrue, refl, sym, ap, ◌∙◌, subst, true≢false, nat_le}
 use Rattle.std.specs.FinMap as map
+use Rattle.std.specs.Cmp.{first_so, second_so}
 use Rattle.ak_address.specs.Distinct.{distinct}
 use Rattle.ak_address.specs.Unique.{UniqueModel}
 use Rattle.ak_address.proofs.Elements.{first_or_rest, contains_nothing, index_of}
 use Rattle.ak_member.specs.declared.effect.Effect.{Effect}
 use Rattle.ak_member.specs.declared.status.Status.{Status}
-use Rattle.ak_member.specs.declared.status.Status.TheVariants.{Joining, Up, Leaving, Exiting, Down}
+use Rattle.ak_member.specs.declared.status.Status.TheVariants.{Joining, Down}
 use Rattle.ak_member.specs.Standing.{Standings, member_of, members_of, has_status, is_joining, is_member_with}
 use Rattle.ak_member.specs.Standing as standing
 use Rattle.ak_member.proofs.MembersLaws.{members_have}
-use Rattle.ak_gossip.proofs.InvariantLemmas.{and_first, and_second}
 use Rattle.ak_settings.specs.Settings.{settling_size}
 use Rattle.ak_converge.specs.Convergence.{is_converged}
 use Rattle.ak_leader.specs.Leader.{leaders_effects, greatest_number, founding_effects}
 use Rattle.ak_leader.specs.Led.{IsMemberWith, LedTo}
 use Rattle.ak_leader.specs.Led.LedTo.{rises, exits, confirms, removes}
-use Rattle.ak_leader.proofs.LedLaws.{each_led, founds_at, founds_each}
+use Rattle.ak_leader.proofs.LedLaws.{each_led, founds_at, founds_each, joins}
 use Rattle.ak_downing.specs.Downing.{all_downed}
 use Rattle.ak_downing.proofs.DownedLaws.{downed_has}
 use Rattle.ak_membership.specs.declared.state.MembershipState.{MembershipState}
@@ -35,13 +35,6 @@ member_is s who m at = ap is_some at
 pub passes_with : (test : Status → Bool) (s : Standings) (who : UniqueModel) (status : Status) → test status ≡ true → IsMemberWith s who status → IsTrue (is_member_with test s who)
 passes_with test s who status is member = ap (has_status test) member.1 ∙ is
 
-joins : (status : Status) → is_joining status ≡ true → status ≡ Joining
-joins Joining is = refl
-joins Up is = absurd (true≢false (sym is))
-joins Leaving is = absurd (true≢false (sym is))
-joins Exiting is = absurd (true≢false (sym is))
-joins Down is = absurd (true≢false (sym is))
-
 -- a member that is Joining, by the test
 pub joining_member : (s : Standings) (who : UniqueModel) → IsTrue (is_member_with is_joining s who) → IsMemberWith s who Joining
 joining_member s who is =
@@ -56,13 +49,13 @@ module _ (given : Given) (m : MembershipState) where
       let j = is_member_with is_joining s m.me in
       let agree = is_converged m.gossip.view m.gossip.seen in
       let enough = nat_le (settling_size m.settings.strategy) (distinct (joining_addresses s)) in
-      let both = and_first (m.founder && j) agree (and_first (m.founder && j && agree) enough is) in
-      let joining = and_second m.founder j both in
+      let both = first_so (m.founder && j) agree (first_so (m.founder && j && agree) enough is) in
+      let joining = second_so m.founder j both in
       let mine = founds_each s m.me (joining_member s m.me joining) in
       let at = index_of (founding_effects s) x there in
       let d = founds_at s at.0 x at.1 in
       subst (IsCause given m (founding_effects s)) (sym d.2)
-      (member_is s d.0 (Joining, d.1.0) d.1.1, (passes_with is_joining s d.0 Joining refl d.1, inl (and_first m.founder j both, joining, mine)))
+      (member_is s d.0 (Joining, d.1.0) d.1.1, (passes_with is_joining s d.0 Joining refl d.1, inl (first_so m.founder j both, joining, mine)))
 
   -- the leader acts in a settled view
   pub leading_causes : IsTrue (has_settled m) → (x : Effect) → Contains (leaders_effects m.gossip.view m.confirmed) x → IsCause given m (leaders_effects m.gossip.view m.confirmed) x

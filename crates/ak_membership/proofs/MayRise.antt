@@ -7,6 +7,7 @@ use Rattle.ak_address.specs.Unique.{UniqueModel}
 use Rattle.ak_address.specs.Uniques.{UniqueSet, has}
 use Rattle.ak_address.proofs.OrderLemmas.{unique_total}
 use Rattle.ak_address.proofs.TableLaws.{same_or_apart}
+use Rattle.ak_address.proofs.BoolLemmas.{none_there}
 use Rattle.ak_clock.specs.declared.version.TheConstants.{BOUND}
 use Rattle.ak_clock.specs.Version.{count}
 use Rattle.ak_member.specs.declared.effect.Effect.{Effect}
@@ -20,7 +21,7 @@ use Rattle.ak_member.specs.Standing.{Standings, member_of, as_member, is_member,
 use Rattle.ak_member.specs.View.{after_effect, after_effects, observed}
 use Rattle.ak_member.proofs.ViewLaws.{get-known_here, get-known_elsewhere}
 use Rattle.ak_gossip.specs.Gossip.{GossipState, is_known, most_uniques, IsNumber, IsStanding, IsGossip, MayUpdate}
-use Rattle.ak_gossip.proofs.InvariantLemmas.{standing_merged, known_after_effects}
+use Rattle.ak_gossip.proofs.InvariantLemmas.{standing_merged, known_after_effects, older-first}
 
 -- a process that is a member has a number
 abbrev pub HasNumber : Standings → UniqueModel → Type 0
@@ -42,9 +43,6 @@ IsFit s author (Removed who confirmed) = IsTrue (is_known s who) × (author ≢ 
 IsFit s author (Observed subjects) = ⊥
 
 -- ---- one effect
-none_some : {X : Type 0} (x : X) → None ≡ Some x → ⊥
-none_some x is = true≢false (sym (ap is_some is))
-
 number_bounded : (status : Status) (number : ℕ) → IsNumber status number → number ≤ BOUND
 number_bounded Joining number is = omega arith
 number_bounded Up number is = is.1
@@ -128,12 +126,9 @@ is_as_member : Standing → Bool
 is_as_member (Member status number) = true
 is_as_member (Buried confirmed) = false
 
-older_least : (a b : ℕ) → 1 ≤ a → 1 ≤ older_number a b
-older_least a b le = grind (arith, nat_tests)
-
 rise_joins : (status : Status) (number : ℕ) (x : Standing) (st : Status) (k : ℕ) → ((a : Status) (b : ℕ) → x ≡ Member a b → 1 ≤ b) → merged_standing x (Member status number) ≡ Member st k → 1 ≤ k
 unfolding number_in is_as_member
-rise_joins status number (Member a b) st k has_number is = let least = older_least b number (has_number a b refl) in let same : older_number b number ≡ k = ap number_in is in omega arith
+rise_joins status number (Member a b) st k has_number is = let least = older-first b number (has_number a b refl) in let same : older_number b number ≡ k = ap number_in is in omega arith
 rise_joins status number (Buried confirmed) st k has_number is = absurd (true≢false (sym (ap is_as_member is)))
 
 bury_joins : (confirmed : Bool) (x : Standing) (st : Status) (k : ℕ) → ((a : Status) (b : ℕ) → x ≡ Member a b → 1 ≤ b) → merged_standing x (Buried confirmed) ≡ Member st k → 1 ≤ k
@@ -202,7 +197,7 @@ fit_may author effects g p room member all =
     record {
       below_bound = room;
       stays = h.member;
-      subjects = λ subjects who observes in_them. absurd (none_some subjects (sym (none_observed author g.view.standings effects all) ∙ observes));
+      subjects = λ subjects who observes in_them. absurd (none_there subjects (sym (none_observed author g.view.standings effects all) ∙ observes));
       standings = h.standings;
       few = h.few;
     }

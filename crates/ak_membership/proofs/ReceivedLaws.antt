@@ -1,12 +1,13 @@
 -- What accepting a gossip leaves of what is known.
 use Rattle.std.proofs.Common.{◌≡◌, Bool, false, ◌||◌, Ok, Err, sym, ap, ◌∙◌}
+use Rattle.ak_address.proofs.BoolLemmas.{or_false}
 use Rattle.ak_gossip.specs.declared.gossip.Received.{Received}
 use Rattle.ak_gossip.specs.declared.gossip.GossipFault.{GossipFault}
 use Rattle.ak_gossip.specs.declared.gossip.GossipFault.TheVariants as faults
 use Rattle.ak_gossip.specs.Gossip.{GossipState}
 use Rattle.ak_gossip.specs.GossipContracts as gossip
 use Rattle.ak_sight.specs.Sight.{has_moved, is_news}
-use Rattle.ak_sight.proofs.SightLaws.{or_false, stays_still, no_news}
+use Rattle.ak_sight.proofs.SightLaws.{stays_still, no_news}
 use Rattle.ak_membership.specs.declared.state.MembershipState.{MembershipState}
 use Rattle.ak_membership.specs.MembershipContracts.{Receives}
 use Rattle.ak_membership.specs.Membership.{knowing}

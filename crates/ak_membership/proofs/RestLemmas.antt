@@ -19,6 +19,7 @@ use Rattle.ak_member.specs.declared.standing.Standing.TheVariants.{Member, Burie
 use Rattle.ak_member.specs.declared.status.Status.TheVariants.{Leaving, Down}
 use Rattle.ak_member.proofs.MergeLemmas.{knows_nobody}
 use Rattle.ak_address.proofs.Pairs.{not_None}
+use Rattle.ak_address.proofs.BoolLemmas.{not_true}
 use Rattle.ak_gossip.specs.Gossip.{is_known}
 use Rattle.ak_member.specs.Standing as standing
 use Rattle.ak_member.specs.Standing.{is_up, is_down}
@@ -64,10 +65,6 @@ rests_counted m rest = record {
 pub none_there : {X : Type 0} (o : Option X) → is_some o ≡ false → o ≡ None
 none_there None is = refl
 none_there (Some x) is = absurd (true≢false is)
-
-not_true : (b : Bool) → not b ≡ true → b ≡ false
-not_true true is = sym is
-not_true false is = refl
 
 -- ---- a tick that makes no update leaves what is known
 update_none : (effects : List Effect) (m : MembershipState) → (update effects m).1.number ≡ None → (update effects m).0 ≡ m

@@ -3,7 +3,9 @@ use Rattle.std.proofs.Common.{◌≡◌, ℕ, ◌+◌, Bool, true, false, not, i
 use Rattle.std.proofs.lemmas.Option.{same_Some}
 use Rattle.std.proofs.lemmas.Bool.{ltb-false}
 use Rattle.std.specs.FinMap as map
+use Rattle.std.specs.Cmp.{first_so}
 use Rattle.ak_address.specs.Unique.{UniqueModel}
+use Rattle.ak_address.proofs.BoolLemmas.{not_false}
 use Rattle.ak_clock.specs.Version.{count, relation}
 use Rattle.ak_member.specs.declared.effect.Effect.{Effect}
 use Rattle.ak_member.specs.declared.effect.Effect.TheVariants.{Joined, Rise, Observed}
@@ -12,7 +14,7 @@ use Rattle.ak_member.specs.Standing as standing
 use Rattle.ak_member.specs.Standing.{is_down, is_up, is_member_with}
 use Rattle.ak_gossip.specs.declared.gossip.GossipFault.TheVariants as fault
 use Rattle.ak_gossip.specs.Gossip.{GossipState, is_known, accepted, marked_seen, most_uniques}
-use Rattle.ak_gossip.proofs.InvariantLemmas.{and_first, member_known}
+use Rattle.ak_gossip.proofs.InvariantLemmas.{member_known}
 use Rattle.ak_settings.specs.Settings.{is_listed}
 use Rattle.ak_reach.specs.Unreachable.{unreachable_members}
 use Rattle.ak_downing.specs.Downing.{decide, is_against}
@@ -26,10 +28,6 @@ use Rattle.ak_membership.specs.Membership.{Outcome, unchanged, replying, may_cou
 use Rattle.ak_membership.specs.Tick.{observes, silent, decides, decided, founds, leads, has_settled, updates, counted, tick}
 use Rattle.ak_membership.specs.Knowledge.{Given, Keeps, Updates, Accepts, learnt, IsLawful, Learns}
 use Rattle.ak_membership.proofs.Causes.{founding_causes, leading_causes, downing_causes, one_cause}
-
-was : (b : Bool) → not b ≡ false → b ≡ true
-was true is = refl
-was false is = absurd (true≢false is)
 
 module _ (given : Given) (m : MembershipState) where
   learns_if : (b : Bool) {o p : Outcome} → (b ≡ true → Learns given m o) → (b ≡ false → Learns given m p) → Learns given m (if b then o else p)
@@ -136,14 +134,14 @@ module _ (given : Given) (m : MembershipState) where
       answers_if (not (is_member m)) _ _ (λ is. tt) (λ member.
       answers_if (not (standing.is_member m.gossip.view.standings who)) _ _ (λ is. tt) (λ there.
       answers_if (not (is_member_with is_up m.gossip.view.standings who)) _ _ (λ is. tt) (λ up.
-      updating m (Rise who Leaving 0 ∷ []) itself (inl (member_is_known (was _ member)), one_cause given m (Rise who Leaving 0) (was _ there, was _ up)))))
+      updating m (Rise who Leaving 0 ∷ []) itself (inl (member_is_known (not_false _ member)), one_cause given m (Rise who Leaving 0) (not_false _ there, not_false _ up)))))
 
   pub down_learns : (who : UniqueModel) → IfOk (down who m) (λ o. Learns given m o)
   down_learns who =
       answers_if (not (is_member m)) _ _ (λ is. tt) (λ member.
       answers_if (not (standing.is_member m.gossip.view.standings who)) _ _ (λ is. tt) (λ there.
       answers_if (is_member_with is_down m.gossip.view.standings who) _ _ (λ is. still) (λ up.
-      updating m (Rise who Down 0 ∷ []) itself (inl (member_is_known (was _ member)), one_cause given m (Rise who Down 0) (was _ there, tt)))))
+      updating m (Rise who Down 0 ∷ []) itself (inl (member_is_known (not_false _ member)), one_cause given m (Rise who Down 0) (not_false _ there, tt)))))
 
   -- ---- a tick
   updates_learns : is_member m ≡ true → Learns given m (updates m)
@@ -152,7 +150,7 @@ module _ (given : Given) (m : MembershipState) where
       learns_if (observes m) (λ is. updating m (Observed (silent m) ∷ []) itself (inl known, one_cause given m (Observed (silent m)) refl)) (λ no.
       learns_if (decides m) (λ is. updating m (decided m) itself (inl known, downing_causes given m (is_against (decide m.settings.strategy m.gossip.view m.me) (unreachable_members m.gossip.view) m.me))) (λ no.
       learns_if (founds m) (λ is. updating m (founding_effects m.gossip.view.standings) itself (inl known, founding_causes given m is)) (λ no.
-      learns_if (leads m) (λ is. updating_any m (leaders_effects m.gossip.view m.confirmed) itself (inl known, leading_causes given m (and_first (has_settled m) _ is))) (λ no. still))))
+      learns_if (leads m) (λ is. updating_any m (leaders_effects m.gossip.view m.confirmed) itself (inl known, leading_causes given m (first_so (has_settled m) _ is))) (λ no. still))))
 
   -- what an update leaves for the tick to count
   pub record Leaves (o : Outcome) : Type 0 where
@@ -206,10 +204,10 @@ module _ (given : Given) (m : MembershipState) where
       answers_if (standing.is_member m.gossip.view.standings from) _ _ (λ is. replies Welcome (unchanged m) still) (λ other.
       answers_if (is_known m.gossip.view.standings from) _ _ (λ is. still) (λ unknown.
       answers_if (has_member_beside from m.gossip.view.standings) _ _
-      (λ is. updating_any m (replaced from m.gossip.view.standings) itself (inl (member_is_known (was _ member)), downing_causes given m (is_beside from))) (λ free.
+      (λ is. updating_any m (replaced from m.gossip.view.standings) itself (inl (member_is_known (not_false _ member)), downing_causes given m (is_beside from))) (λ free.
       answers_if (nat_le most_at_join (map.len m.gossip.view.standings)) _ _ (λ is. tt) (λ room.
       learns_if (may_count m)
-      (λ is. replies Welcome (made (Joined from ∷ []) m) (making m (Joined from ∷ []) itself (inl (member_is_known (was _ member)), one_cause given m (Joined from) (inr (was _ member, asked)))))
+      (λ is. replies Welcome (made (Joined from ∷ []) m) (making m (Joined from ∷ []) itself (inl (member_is_known (not_false _ member)), one_cause given m (Joined from) (inr (not_false _ member, asked)))))
       (λ is. still)))))))
 
   -- ---- a gossip

@@ -4,7 +4,9 @@ use Rattle.std.proofs.lemmas.Option.{same_Some}
 use Rattle.std.specs.FinMap as finmap
 use Rattle.std.specs.List.{AllByRecursion}
 use Rattle.std.specs.Ordering.{eq_by_cmp}
+use Rattle.std.specs.Cmp.{first_so}
 use Rattle.ak_sharding.specs.Ranges.{AreUniques}
+use Rattle.ak_sharding.proofs.TableRanges.{nobody_in}
 use Rattle.ak_address.specs.Unique.{UniqueModel, IsUnique, unique_cmp}
 use Rattle.ak_address.specs.Uniques.{UniqueSet, no_one, with_one, has, in_order}
 use Rattle.ak_address.proofs.Elements.{index_of}
@@ -17,7 +19,6 @@ use Rattle.ak_field.specs.Lists.{IsShort}
 use Rattle.ak_field.specs.Ranges.{IsNumber}
 use Rattle.ak_field.proofs.ValidLists.{is_short_when}
 use Rattle.ak_gossip.specs.Gossip.{GossipState, IsGossip, is_known}
-use Rattle.ak_gossip.proofs.InvariantLemmas.{and_first}
 use Rattle.ak_member.specs.declared.status.Status.{Status}
 use Rattle.ak_member.specs.declared.standing.Standing.{Standing}
 use Rattle.ak_promise.specs.declared.promise.Answer.{Answer}
@@ -101,9 +102,6 @@ known_fits g is names = (
     by_value q (Some n) at there = subst (λ k. 1 ≤ k) (sym (ap (λ o. unwrap_or o 0) at)) (stored_count g.version q n is.version at).0
 
 -- ---- sets
-none_in : AreUniques no_one
-none_in who is = absurd (true≢false (sym is ∙ has-no_one who))
-
 one_in : (s : UniqueSet) (one : UniqueModel) → IsUnique one → AreUniques s → AreUniques (with_one s one)
 one_in s one is all who there = by_test (eq_by_cmp unique_cmp who one) refl (sym (has-with_one s one who) ∙ there)
   where
@@ -120,8 +118,8 @@ module _ (s : SingletonModel) (k : KeepsBallots s) where
       no_live c none = absurd (true≢false (sym (ap is_some none)))
 
       by_last : (o : Option BallotModel) → s.promise.last ≡ o → KeepsBallots (record { promise = freed_after o v s.promise; phase = ph; live = None; granted = no_one; floor = floor })
-      by_last None at = record { last = k.last; live = no_live; floor = k.floor; granted = none_in }
-      by_last (Some b) at = record { last = k.last; live = no_live; floor = counted_merged s.promise.floor v k.floor counted; granted = none_in }
+      by_last None at = record { last = k.last; live = no_live; floor = k.floor; granted = nobody_in }
+      by_last (Some b) at = record { last = k.last; live = no_live; floor = counted_merged s.promise.floor v k.floor counted; granted = nobody_in }
 
   pub released_kept : (b : BallotModel) (v : Counts) → IsCounted v → KeepsBallots (record s { promise = released_by s.promise b v })
   released_kept b v counted = by_test (is_last s.promise b)
@@ -164,7 +162,7 @@ module _ (s : SingletonModel) (k : KeepsBallots s) where
       by_rule rules.Rests at = k
       by_rule rules.Opens at =
           let own = own_is me is (opens_below me v status margin s at) in
-          record { last = λ c same. subst IsBallot (same_Some (own_ballot me s.promise) c same) own; live = λ c same. subst IsBallot (same_Some (own_ballot me s.promise) c same) own; floor = k.floor; granted = one_in no_one me is none_in }
+          record { last = λ c same. subst IsBallot (same_Some (own_ballot me s.promise) c same) own; live = λ c same. subst IsBallot (same_Some (own_ballot me s.promise) c same) own; floor = k.floor; granted = one_in no_one me is nobody_in }
       by_rule rules.HandsOver at = k
       by_rule rules.Closes at = freed_kept (version_of v) counted phase.Younger finmap.empty
       by_rule rules.Asks at = k
@@ -176,7 +174,7 @@ module _ (s : SingletonModel) (k : KeepsBallots s) where
       by_test true at =
           let below = ((outdone_is b last s).0 at).3 in
           let next : IsBallot (record { term = last.term + 1; unique = b.unique }) = record { unique = is.unique; term = omega arith; term_fits = omega arith } in
-          record { last = λ c same. subst IsBallot (same_Some (record { term = last.term + 1; unique = b.unique }) c same) next; live = λ c same. subst IsBallot (same_Some (record { term = last.term + 1; unique = b.unique }) c same) next; floor = k.floor; granted = one_in no_one b.unique is.unique none_in }
+          record { last = λ c same. subst IsBallot (same_Some (record { term = last.term + 1; unique = b.unique }) c same) next; live = λ c same. subst IsBallot (same_Some (record { term = last.term + 1; unique = b.unique }) c same) next; floor = k.floor; granted = one_in no_one b.unique is.unique nobody_in }
       by_test false at = k
 
   pub ended_kept : (v : SettledView) → IsCounted (version_of v) → KeepsBallots (ended v s)
@@ -205,7 +203,7 @@ pub needed_process : (n : State) → KeepsSettled n → (others : UniqueSet) (u 
 needed_process n k others u there =
     let at = index_of (in_order (needed_but (margin_of n) (settled_of n) others)) u there in
     let both = sym (has-those (needed (margin_of n) (settled_of n)) (λ who. not (has others who)) u) ∙ has_at (needed_but (margin_of n) (settled_of n) others) at.0 u at.1 in
-    k.processes u (by_value (finmap.get (standings_of (settled_of n)) u) refl (and_first (has (needed (margin_of n) (settled_of n)) u) (not (has others u)) both))
+    k.processes u (by_value (finmap.get (standings_of (settled_of n)) u) refl (first_so (has (needed (margin_of n) (settled_of n)) u) (not (has others u)) both))
   where
     by_value : (o : Option Standing) → finmap.get (standings_of (settled_of n)) u ≡ o → has (needed (margin_of n) (settled_of n)) u ≡ true → is_known (standings_of (settled_of n)) u ≡ true
     by_value None at needs = absurd (true≢false (sym needs ∙ (settled.unknown (margin_of n) (settled_of n) u at).0))

@@ -1,5 +1,5 @@
 -- A step that is concluded once is concluded: nothing is due a second time.
-use Rattle.std.proofs.Common.{◌≡◌, ℕ, ◌≤◌, zero, suc, nat_le, ◌+◌, take, ◌||◌, is_some, Bool, true, false, not, ◌&&◌, List, map, replicate, Option, Some, None, Result, Ok, Err, IfOk, ◌++◌, [], ◌∷◌, refl, sym, ap, ◌∙◌, subst, arith, true≢false, if◌then◌else◌}
+use Rattle.std.proofs.Common.{◌≡◌, ℕ, ◌≤◌, nat_le, ◌+◌, take, ◌||◌, is_some, Bool, true, false, not, ◌&&◌, List, map, Option, Some, None, Result, Ok, Err, IfOk, ◌++◌, [], ◌∷◌, refl, sym, ap, ◌∙◌, subst, arith, true≢false, if◌then◌else◌}
 use Rattle.std.proofs.lemmas.Bool.Decides.{nat_tests}
 use Rattle.std.specs.FinMap as finmap
 use Rattle.std.specs.List.{filter}
@@ -8,6 +8,7 @@ use Rattle.ak_member.specs.Standing as standing
 use Rattle.ak_member.specs.Standing.{Standings, member_pairs}
 use Rattle.ak_address.specs.Unique.{AddressModel, UniqueModel, unique_cmp}
 use Rattle.ak_address.proofs.TableLaws.{get-empty, entries-empty}
+use Rattle.ak_address.proofs.BoolLemmas.{not_true}
 use Rattle.ak_address.specs.Distinct.{distinct}
 use Rattle.ak_address.specs.Uniques.{UniqueSet, no_one, set_of}
 use Rattle.ak_clock.specs.Version.{covers, relation_by}
@@ -29,8 +30,8 @@ use Rattle.ak_membership.specs.Tick.{has_settled}
 use Rattle.ak_membership.proofs.RestLemmas.{closed_again}
 use Rattle.ak_region.specs.Region.{after_forget, new_region}
 use Rattle.ak_region.specs.RegionModel.{RegionModel}
-use Rattle.ak_region.specs.Slot.{untold, without_stranger}
 use Rattle.ak_region.proofs.Forgetting.{forgets_once}
+use Rattle.ak_region.proofs.StoredLemmas.{none_strange}
 use Rattle.ak_settings.specs.Settings.{SettingsModel, IsStrategy, settling_size}
 use Rattle.ak_settings.specs.declared.settings.Strategy.{Strategy}
 use Rattle.ak_settings.specs.declared.settings.Strategy.TheVariants.{StaticQuorum, KeepMajority, DownAll}
@@ -46,7 +47,7 @@ use Rattle.ak_node.specs.declared.node.NodeEvent.{NodeEvent}
 use Rattle.ak_node.specs.declared.node.NodeEvent.TheVariants.{Join, Tick}
 use Rattle.ak_node.specs.declared.node.State.{State}
 use Rattle.ak_node.specs.Node as node
-use Rattle.ak_node.specs.Node.{Outcome, me_of, is_member, settled_of, margin_of, around, sharing, and_then, closes, forgets, activates, becomes_active, concludes, due, rule, is_dead, running_step, step, nothing, to_address, asks_at, on_message, unless_refused, does_for}
+use Rattle.ak_node.specs.Node.{Outcome, me_of, is_member, settled_of, margin_of, around, sharing, and_then, closes, forgets, activates, becomes_active, concludes, due, rule, is_dead, running_step, step, nothing, to_address, asks_at}
 use Rattle.ak_node.specs.NodeContracts.{Does, IsConcluded, is_idle, is_asking}
 
 -- ---- a state of which nothing is due
@@ -127,10 +128,6 @@ idle_step (Join target) n runs is member =
 idle_step other n runs is idle = absurd (true≢false (sym idle))
 
 -- ---- a tick of a node that is no member
-not_true : (b : Bool) → not b ≡ true → b ≡ false
-not_true true is = absurd (true≢false (sym is))
-not_true false is = refl
-
 pub asking_step : (e : NodeEvent) (n : State) → n.runs ≡ true → IsConcluded n → is_asking e n ≡ true → step e n ≡ (record n { steps = n.steps + 1 }, (asks_at n.membership.target n).1)
 asking_step (Tick word) n runs is asking =
     let counted : State = record n { steps = n.steps + 1 } in
@@ -197,10 +194,6 @@ nobody_closes me settings some =
     not_noted : Bool
     not_noted = not (is_some (started me settings).settled.view) || closing.is_other (version_of (started me settings).settled.view) finmap.empty
 
-kept_slots : (s : Standings) (many : ℕ) → map (without_stranger s) (replicate many untold) ≡ replicate many untold
-kept_slots s zero = refl
-kept_slots s (suc many) = λ i. untold ∷ kept_slots s many i
-
 pub settles_some : (strategy : Strategy) → IsStrategy strategy → 1 ≤ settling_size strategy
 settles_some (StaticQuorum quorum) within = within.from
 settles_some KeepMajority within = omega arith
@@ -212,4 +205,4 @@ starts_concluded me settings m s h some is_m is_s is_h = subst IsConcluded (λ i
   where
     concluded : IsConcluded (node.started me settings)
     concluded runs = concludes_nothing (node.started me settings) refl (nobody_closes me settings some)
-        (ap (λ slots. record (new_sharding settings) { region = record (new_region settings.shards settings.buffer) { slots = slots } }) (kept_slots finmap.empty settings.shards)) refl
+        (ap (λ slots. record (new_sharding settings) { region = record (new_region settings.shards settings.buffer) { slots = slots } }) (none_strange finmap.empty settings.shards)) refl

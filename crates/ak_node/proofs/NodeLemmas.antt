@@ -2,6 +2,7 @@
 -- while it runs and knows anybody, and what it has noted as settled it knew.
 use Rattle.std.proofs.Common.{◌≡◌, ℕ, ◌+◌, ◌≤◌, Bool, true, false, not, ◌&&◌, inl, inr, if◌then◌else◌, ◌⊎◌, [], ◌∷◌, Option, Some, None, is_some, Result, Ok, Err, IfOk, IsTrue, refl, sym, ap, ◌∙◌, subst, arith, true≢false, length}
 use Rattle.std.specs.FinMap as map
+use Rattle.std.specs.Cmp.{first_so, second_so}
 use Rattle.ak_address.specs.Unique.{AddressModel, UniqueModel}
 use Rattle.ak_address.specs.Uniques.{with_one}
 use Rattle.ak_address.proofs.TableLaws.{get-empty}
@@ -11,7 +12,6 @@ use Rattle.ak_member.specs.declared.status.Status.{Status}
 use Rattle.ak_member.specs.Standing as standing
 use Rattle.ak_member.specs.Standing.{is_exiting, is_member_with}
 use Rattle.ak_gossip.specs.Gossip.{GossipState}
-use Rattle.ak_gossip.proofs.InvariantLemmas.{and_first, and_second}
 use Rattle.ak_detector.proofs.DetectorLaws.{watched_member}
 use Rattle.ak_settings.specs.Settings.{SettingsModel}
 use Rattle.ak_settled.specs.Settled.{version_of, standings_of, after_note, IsCounting}
@@ -186,11 +186,11 @@ closes_notes n = by_case (notes (not n.runs) n.membership) refl
     by_case false is = inl (ap (λ b. if b then after_note (known n).version (known n).view.standings n.membership.settled else n.membership.settled) is)
     by_case true is =
         let noted : (closes n).0.membership.settled ≡ after_note (known n).version (known n).view.standings n.membership.settled = ap (λ b. if b then after_note (known n).version (known n).view.standings n.membership.settled else n.membership.settled) is in
-        let stays = and_first (not (stops (not n.runs) n.membership)) (is_noted n.membership) is in
+        let stays = first_so (not (stops (not n.runs) n.membership)) (is_noted n.membership) is in
         inr (record {
           version = ap (λ (s : SettledModel). version_of s.view) noted;
           standings = ap (λ (s : SettledModel). standings_of s.view) noted;
-          settled = and_first (has_settled n.membership) _ (and_second (not (stops (not n.runs) n.membership)) (is_noted n.membership) is);
+          settled = first_so (has_settled n.membership) _ (second_so (not (stops (not n.runs) n.membership)) (is_noted n.membership) is);
           stays = (ran_before n.runs (is_gone n) stays).1;
           runs = stays;
         })

@@ -390,7 +390,7 @@ due_told a b c x there = elim (contains_either (if_so a action.View ++ if_so b a
     by_stop true here = elim (first_or_rest action.Stopped x [] here) [ inl same ↦ inr (refl, same) | inr none ↦ absurd (contains_nothing x none) ]
     by_stop false here = absurd (contains_nothing x here)
 
-stop_told : (a b c : Bool) → b ≡ true → Contains (if_so a action.View ++ if_so b action.Stopped ++ if_so c action.Settled) action.Stopped
+pub stop_told : (a b c : Bool) → b ≡ true → Contains (if_so a action.View ++ if_so b action.Stopped ++ if_so c action.Settled) action.Stopped
 stop_told a b c is =
     contains_left (if_so a action.View ++ if_so b action.Stopped) (if_so c action.Settled) action.Stopped
     (contains_right (if_so a action.View) (if_so b action.Stopped) action.Stopped (subst (λ t. Contains (if_so t action.Stopped) action.Stopped) (sym is) (contains_first action.Stopped [])))

@@ -5,6 +5,7 @@ use Rattle.std.proofs.lemmas.Bool.{leb-true}
 use Rattle.std.specs.FinMap as finmap
 use Rattle.ak_address.specs.Changed.{keys_of}
 use Rattle.std.specs.Ordering.{is_eq}
+use Rattle.std.specs.Cmp.{second_so}
 use Rattle.ak_address.specs.Unique.{AddressModel, UniqueModel, IsAddress, IsUnique, unique_cmp}
 use Rattle.ak_address.specs.Uniques.{UniqueSet, in_order}
 use Rattle.ak_address.proofs.ChangedLaws.{has-keys_of}
@@ -32,7 +33,6 @@ use Rattle.ak_member.specs.Age.{counted_pairs}
 use Rattle.ak_select.specs.Select.{peer}
 use Rattle.ak_select.proofs.SelectLaws.{peer_reachable}
 use Rattle.ak_clock.specs.Version.{Counts}
-use Rattle.ak_gossip.proofs.InvariantLemmas.{and_second}
 use Rattle.ak_member.specs.declared.status.Status.{Status}
 use Rattle.ak_membership.specs.Knowledge.{nothing_given}
 use Rattle.ak_membership.proofs.MembershipLemmas.{waits_version, waits_standings}
@@ -425,7 +425,7 @@ told_goes n me kb ks kh from (message.Gossip g) who said = unless_refused_goes (
 told_goes n me kb ks kh from message.Heartbeat who said = go_if (is_member n) (n, to_process n from message.HeartbeatReply ∷ []) (nothing n) (λ member. one_goes (record { from = me_of n; to = from.address; uid = from.uid; message = message.HeartbeatReply }) who) (λ none. none_go [] refl)
 told_goes n me kb ks kh from message.HeartbeatReply who said = go_if (is_member n) _ (nothing n) (λ member. none_go [] refl) (λ none. none_go [] refl)
 told_goes n me kb ks kh from message.ExitingConfirmed who said = go_if (is_member n) _ (nothing n) (λ member. none_go [] refl) (λ none. none_go [] refl)
-told_goes n me kb ks kh from (message.Ask b) who said = go_if (is_asked from b n) (answers_ask from b n) (nothing n) (λ is. answered_go n me kb ks kh _ from b who said (and_second (is_member n && is_eq (unique_cmp b.unique from)) (is_grantable n) is)) (λ is. none_go [] refl)
+told_goes n me kb ks kh from (message.Ask b) who said = go_if (is_asked from b n) (answers_ask from b n) (nothing n) (λ is. answered_go n me kb ks kh _ from b who said (second_so (is_member n && is_eq (unique_cmp b.unique from)) (is_grantable n) is)) (λ is. none_go [] refl)
 told_goes n me kb ks kh from (message.Granted b floor reports) who said = go_if (takes_grant from reports n) (nothing (takes from b floor reports n)) (nothing n) (λ is. none_go [] refl) (λ is. none_go [] refl)
 told_goes n me kb ks kh from (message.Busy b held) who said = go_if (is_member n && is_some_ballot n.singleton.live b) (n, told_its_own (Some held) n) (nothing n) (λ is. own_go (Some held) n (λ c at. subst IsBallot (same_Some held c at) said.1)) (λ is. none_go [] refl)
 told_goes n me kb ks kh from (message.Old b last) who said = go_if (is_member n) _ (nothing n) (λ is. none_go [] refl) (λ is. none_go [] refl)

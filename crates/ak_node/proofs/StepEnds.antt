@@ -1,6 +1,7 @@
 -- The walk over a whole step: its rule and its closing make of the node's part what a list of allowed moves makes of it.
 use Rattle.std.proofs.Common.{◌≡◌, ℕ, Bool, true, false, not, ◌&&◌, inl, inr, ◌⊎◌, if◌then◌else◌, List, [], ◌∷◌, ◌++◌, Option, Some, None, Result, Ok, Err, IfOk, IsTrue, Contains, map, nat_le, refl, sym, ap, ◌∙◌, subst, true≢false, ◌+◌}
 use Rattle.std.specs.FinMap as finmap
+use Rattle.std.specs.Cmp.{second_so}
 use Rattle.ak_address.specs.Unique.{AddressModel, UniqueModel}
 use Rattle.ak_address.specs.Changed.{keys_of}
 use Rattle.ak_address.specs.Uniques.{in_order, with_one}
@@ -10,7 +11,6 @@ use Rattle.ak_gossip.specs.Gossip.{GossipState, is_known, receive}
 use Rattle.ak_gossip.specs.declared.gossip.GossipFault.{GossipFault}
 use Rattle.ak_gossip.specs.declared.gossip.GossipFault.TheVariants as gossip_fault
 use Rattle.ak_gossip.specs.declared.gossip.Received.{Received}
-use Rattle.ak_gossip.proofs.InvariantLemmas.{and_second}
 use Rattle.ak_member.specs.declared.effect.Effect.{Effect}
 use Rattle.ak_member.specs.declared.effect.Effect.TheVariants.{Joined, Rise}
 use Rattle.ak_member.specs.declared.status.Status.{Status}
@@ -655,7 +655,7 @@ module _ (on : Counts → Type 0) (aged removed : Counts → UniqueModel → Typ
             let c : State = forgets (closes m).0 in
             let e : DoesHere m a (c, (closes m).1) = record { list = d.list; local = d.local; part = forgets_part (closes m).0 _ d.part; says = d.says; same_me = d.same_me } in
             does_then on aged removed heard stopped m a activates (c, (closes m).1) e
-            (active_does on aged removed heard stopped c _ e.part s (c.runs && may_activate (me_of c) (settled_of c) (margin_of c) c.singleton) (λ both. and_second c.runs _ both))
+            (active_does on aged removed heard stopped c _ e.part s (c.runs && may_activate (me_of c) (settled_of c) (margin_of c) c.singleton) (λ both. second_so c.runs _ both))
 
         by_notes : (b : Bool) → notes (not m.runs) m.membership ≡ b → DoesHere m a (concludes m)
         by_notes true due_is =

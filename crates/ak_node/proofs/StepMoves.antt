@@ -4,6 +4,7 @@ use Rattle.std.proofs.Common.{length, ◌≡◌, ℕ, Bool, true, false, not, �
 use Rattle.std.proofs.lemmas.Option.{same_Some}
 use Rattle.std.specs.FinMap as finmap
 use Rattle.std.specs.Ordering.{is_eq}
+use Rattle.std.specs.Cmp.{first_so, second_so}
 use Rattle.ak_address.specs.Unique.{UniqueModel, unique_cmp}
 use Rattle.ak_address.specs.Changed.{keys_of}
 use Rattle.ak_address.specs.Uniques.{UniqueSet, no_one, has, those, in_order}
@@ -12,7 +13,6 @@ use Rattle.ak_address.proofs.Elements.{contains_nothing, contains_either, contai
 use Rattle.ak_address.proofs.TableLaws.{entries-empty, same_key}
 use Rattle.ak_address.proofs.UniquesLaws.{has-those, has_at, index_of_has}
 use Rattle.ak_clock.specs.Version.{Counts}
-use Rattle.ak_gossip.proofs.InvariantLemmas.{and_first, and_second}
 use Rattle.ak_member.specs.declared.status.Status.{Status}
 use Rattle.ak_member.specs.declared.standing.Standing.{Standing}
 use Rattle.ak_member.specs.Standing.{tombstone_of}
@@ -88,9 +88,6 @@ unsaid_answer reply.Welcome to n = unsaid_each n (to ∷ []) (message.Welcome (k
 unsaid_answer reply.Gossip to n = unsaid_each n (to ∷ []) (message.Gossip (known n)) (λ u. refl)
 
 -- what is said in one list
-says_within : (says xs : List (Said Counts)) (x : Said Counts) → xs ≡ says → Contains xs x → Contains says x
-says_within says xs x is there = subst (λ l. Contains l x) is there
-
 in_order-no_one : in_order no_one ≡ []
 in_order-no_one = ap (map (λ (e : UniqueModel × Unit {0}). e.0)) entries-empty
 
@@ -164,7 +161,7 @@ module _ (margin : ℕ) (settled : SettledView) where
   there_finished q there =
       let at = index_of (finished_in margin settled) q there in
       let all : has (those (keys_of (standings_of settled)) (is_finished margin settled)) q ≡ true = has_at (those (keys_of (standings_of settled)) (is_finished margin settled)) at.0 q at.1 in
-      and_second (has (keys_of (standings_of settled)) q) (is_finished margin settled q) (sym (has-those (keys_of (standings_of settled)) (is_finished margin settled) q) ∙ all)
+      second_so (has (keys_of (standings_of settled)) q) (is_finished margin settled q) (sym (has-those (keys_of (standings_of settled)) (is_finished margin settled) q) ∙ all)
 
 -- whether a phase of the moves asks
 abbrev asks_now : moves.Phase Counts → Bool
@@ -453,7 +450,7 @@ module _ (on : Counts → Type 0) (aged removed : Counts → UniqueModel → Typ
       ask_does from b was_heard = does_if n a (is_asked from b n) (λ is. asked_for (own_of is)) (λ is. unmoved n n a [] part refl (unsaid_none [] refl))
         where
           own_of : is_asked from b n ≡ true → b.unique ≡ from
-          own_of is = same_key b.unique from (and_second (is_member n) (is_eq (unique_cmp b.unique from)) (and_first (is_member n && is_eq (unique_cmp b.unique from)) _ is))
+          own_of is = same_key b.unique from (second_so (is_member n) (is_eq (unique_cmp b.unique from)) (first_so (is_member n && is_eq (unique_cmp b.unique from)) _ is))
 
           asked_for : b.unique ≡ from → Does n a (answers_ask from b n)
           asked_for own =
@@ -471,10 +468,10 @@ module _ (on : Counts → Type 0) (aged removed : Counts → UniqueModel → Typ
           (λ is. unmoved n n a [] part refl (unsaid_none [] refl))
         where
           of_shards : takes_grant from told n ≡ true → coordinates.are_of_shards (length n.sharding.region.slots) told ≡ true
-          of_shards is = and_second (not (is_buried n from)) (coordinates.are_of_shards (length n.sharding.region.slots) told) (and_second (is_member n) _ is)
+          of_shards is = second_so (not (is_buried n from)) (coordinates.are_of_shards (length n.sharding.region.slots) told) (second_so (is_member n) _ is)
 
           stays : takes_grant from told n ≡ true → ¬ (removed (version_of (settled_of n)) from)
-          stays is gone = true≢false (sym (sym (ap not (shown.buried from gone)) ∙ and_first (not (is_buried n from)) (coordinates.are_of_shards (length n.sharding.region.slots) told) (and_second (is_member n) _ is)))
+          stays is gone = true≢false (sym (sym (ap not (shown.buried from gone)) ∙ first_so (not (is_buried n from)) (coordinates.are_of_shards (length n.sharding.region.slots) told) (second_so (is_member n) _ is)))
 
       -- another holds the promise
       pub busy_does : (b held : BallotModel) (from : UniqueModel) → heard from (Said.Names held) → Does n a (on_busy b held n)
@@ -497,9 +494,9 @@ module _ (on : Counts → Type 0) (aged removed : Counts → UniqueModel → Typ
       hand_over_does from b was_heard =
           does_if n a (is_member n && has_handed_over b n)
           (λ is.
-          let done = and_second (is_member n) (has_handed_over b n) is in
+          let done = second_so (is_member n) (has_handed_over b n) is in
           followed_here n a (Said.HandedOver b (version_of (settled_of n)) ∷ []) _ part
-          (hand_over_is_moves on aged removed heard stopped me (margin_of n) (settled_of n) shown.known s a part.like b from was_heard (same_key b.unique me (and_first (is_eq (unique_cmp b.unique me)) (not (is_some_ballot s.live b)) done)) (not_true (is_some_ballot s.live b) (and_second (is_eq (unique_cmp b.unique me)) (not (is_some_ballot s.live b)) done)))
+          (hand_over_is_moves on aged removed heard stopped me (margin_of n) (settled_of n) shown.known s a part.like b from was_heard (same_key b.unique me (first_so (is_eq (unique_cmp b.unique me)) (not (is_some_ballot s.live b)) done)) (not_true (is_some_ballot s.live b) (second_so (is_eq (unique_cmp b.unique me)) (not (is_some_ballot s.live b)) done)))
           (λ p there x x_says. subst (λ k. Contains k x) (each_says n (from ∷ []) (message.HandOverDone b (version_of (settled_of n))) (Said.HandedOver b (version_of (settled_of n)) ∷ []) (λ u. refl) p there) x_says))
           (λ is. unmoved n n a [] part refl (unsaid_none [] refl))
         where

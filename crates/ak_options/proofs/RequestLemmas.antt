@@ -1,22 +1,20 @@
 -- What a node is asked, as a line in which `a:1#1` comes after the first word.
-use Rattle.std.proofs.Common.{◌≡◌, ◌≢◌, ℕ, ◌+◌, ◌<◌, ◌≤◌, Bool, true, false, List, [], ◌∷◌, ◌++◌, length, codes, All, refl, sym, ◌∙◌, ap, subst, inl, inr, arith, length-append, append_assoc, not, ◌==◌, Err, ◌↔◌}
+use Rattle.std.proofs.Common.{◌≡◌, ◌≢◌, ℕ, ◌+◌, ◌<◌, ◌≤◌, false, List, [], ◌∷◌, ◌++◌, length, codes, All, refl, sym, ◌∙◌, ap, subst, inl, inr, arith, length-append, append_assoc, not, Err, ◌↔◌}
 use Rattle.std.specs.Str.{bytes_eq}
-use Rattle.std.specs.List.{list_all}
-use Rattle.std.proofs.lemmas.List.Elements.{All-weaker}
-use Rattle.std.proofs.lemmas.List.Sums.{AllPass-from_list_all}
 use Rattle.ak_options.proofs.Names.{differ}
 use Rattle.ak_address.specs.Unique.{UniqueModel}
 use Rattle.ak_address.specs.Spelling.{SpellsUnique, IsNumber}
-use Rattle.ak_address.proofs.SpellingLemmas.{unique_same, number_same}
-use Rattle.ak_schedule.specs.Line.{words, begins, most_bytes, IsPieceAndRest, IsFirstWord}
+use Rattle.ak_address.proofs.SpellingLemmas.{unique_same}
+use Rattle.ak_schedule.specs.Line.{words, most_bytes, IsPieceAndRest, IsFirstWord}
 use Rattle.ak_schedule.specs.Schedule.{SpellsEvent, SpellsWords}
 use Rattle.ak_schedule.specs.Reading.{Reads}
 use Rattle.ak_schedule.specs.declared.fault.LineFault.{LineFault}
-use Rattle.ak_schedule.proofs.OneWay.{one_event}
+use Rattle.ak_schedule.proofs.OneWay.{one_event, same_number, same_unique}
 use Rattle.ak_schedule.proofs.EventWords.{refused}
 use Rattle.ak_schedule.specs.declared.event.Event.{Event}
 use Rattle.ak_schedule.specs.declared.event.Event.TheVariants.{Start, Found, Join, Tick, Deliver, Leave, Down, Offer, Stop}
 use Rattle.ak_schedule.proofs.LineParts.{IsPlain, next_words, first_word}
+use Rattle.ak_schedule.proofs.Canonical.{plain_bytes}
 use Rattle.ak_options.specs.declared.command.Request as request
 use Rattle.ak_options.specs.Requests.{some_process, event_at, SpellsRequest, IsRequestName, IsLineOf}
 
@@ -109,20 +107,10 @@ named_so text name rest r is spelt =
 pub no_request : (text : List ℕ) (r : request.Request) → words text ≡ [] → SpellsRequest text r → ⊥
 no_request text r none spelt = let e : [] ≡ spelt.first ∷ spelt.others = sym none ∙ spelt.whole in cc
 
-plain : (word : List ℕ) → begins word ≡ true → list_all (λ b. not (b == 32)) word ≡ true → IsPlain word
-plain word begun all = record {
-  begun = begun;
-  letters = All-weaker (λ b. not (b == 32) ≡ true) (λ b. (b == 32) ≡ false) (λ b. other (b == 32)) word (AllPass-from_list_all (λ b. not (b == 32)) word all);
-}
-  where
-    other : (space : Bool) → not space ≡ true → space ≡ false
-    other true h = cc
-    other false h = refl
-
 plain_name : (name : List ℕ) → IsRequestName name → IsPlain name
-plain_name name (inl is) = subst IsPlain (sym is) (plain (codes "leave") refl refl)
-plain_name name (inr (inl is)) = subst IsPlain (sym is) (plain (codes "down") refl refl)
-plain_name name (inr (inr is)) = subst IsPlain (sym is) (plain (codes "offer") refl refl)
+plain_name name (inl is) = subst IsPlain (sym is) (plain_bytes (codes "leave") refl refl)
+plain_name name (inr (inl is)) = subst IsPlain (sym is) (plain_bytes (codes "down") refl refl)
+plain_name name (inr (inr is)) = subst IsPlain (sym is) (plain_bytes (codes "offer") refl refl)
 
 short_name : (name : List ℕ) → IsRequestName name → length name ≤ 5
 short_name name (inl is) = subst (λ (w : List ℕ). length w ≤ 5) (sym is) (omega arith)
@@ -134,7 +122,7 @@ words_with : (first rest : List ℕ) → IsRequestName first → words (first ++
 words_with first rest named =
     let regrouped : first ++ codes " a:1#1 " ++ rest ≡ first ++ 32 ∷ (codes "a:1#1" ++ 32 ∷ rest) = append_assoc first (codes " a:1#1 ") rest in
     ap words regrouped ∙ next_words first (codes "a:1#1" ++ 32 ∷ rest) (plain_name first named)
-    ∙ ap (λ (ws : List (List ℕ)). first ∷ ws) (next_words (codes "a:1#1") rest (plain (codes "a:1#1") refl refl))
+    ∙ ap (λ (ws : List (List ℕ)). first ∷ ws) (next_words (codes "a:1#1") rest (plain_bytes (codes "a:1#1") refl refl))
 
 -- where the text is not too long, its line is not
 has_room : (text first rest : List ℕ) → length text + 6 ≤ most_bytes → IsRequestName first → IsFirstWord text first rest → length (first ++ codes " a:1#1 " ++ rest) ≤ most_bytes
@@ -197,7 +185,7 @@ as_line first rest r letters some =
     let whole : words (first ++ 32 ∷ rest) ≡ first ∷ words rest = first_word first rest letters some in
     let regrouped : first ++ codes " a:1#1 " ++ rest ≡ first ++ 32 ∷ (codes "a:1#1" ++ 32 ∷ rest) = append_assoc first (codes " a:1#1 ") rest in
     let line : words (first ++ codes " a:1#1 " ++ rest) ≡ first ∷ codes "a:1#1" ∷ words rest =
-    ap words regrouped ∙ first_word first (codes "a:1#1" ++ 32 ∷ rest) letters some ∙ ap (λ (ws : List (List ℕ)). first ∷ ws) (next_words (codes "a:1#1") rest (plain (codes "a:1#1") refl refl)) in
+    ap words regrouped ∙ first_word first (codes "a:1#1" ++ 32 ∷ rest) letters some ∙ ap (λ (ws : List (List ℕ)). first ∷ ws) (next_words (codes "a:1#1") rest (plain_bytes (codes "a:1#1") refl refl)) in
     let text_length : length (first ++ 32 ∷ rest) ≡ length first + 1 + length rest = omega (arith, length-append first (32 ∷ rest)) in
     let line_length : length (first ++ codes " a:1#1 " ++ rest) ≡ length first + 7 + length rest = omega (arith, length-append (first ++ codes " a:1#1 ") rest, length-append first (codes " a:1#1 ")) in (
       (λ asks.
@@ -220,12 +208,6 @@ as_line first rest r letters some =
         ap (λ (w : List ℕ). w ∷ codes "a:1#1" ∷ os) first ∙ ap (λ (ws : List (List ℕ)). g ∷ codes "a:1#1" ∷ ws) others
 
 -- a text asks one thing at most
-same_unique : (a b : List ℕ) (u v : UniqueModel) → a ≡ b → SpellsUnique a u → SpellsUnique b v → u ≡ v
-same_unique a b u v same one other = unique_same b u v (subst (λ (w : List ℕ). SpellsUnique w u) same one) other
-
-same_number : (a b : List ℕ) (m n : ℕ) → a ≡ b → IsNumber a m → IsNumber b n → m ≡ n
-same_number a b m n same one other = number_same b m n (subst (λ (w : List ℕ). IsNumber w m) same one) other
-
 same_request : (ws : List (List ℕ)) (r s : request.Request) → SpellsWords ws (event_at some_process r) → SpellsWords ws (event_at some_process s) → r ≡ s
 same_request ws (request.TheVariants.Leave m) (request.TheVariants.Leave n) h g =
     let w : h.1 ≡ g.1 = cc in ap request.TheVariants.Leave (same_unique h.1 g.1 m n w h.4 g.4)

@@ -1,9 +1,8 @@
 -- Sets are the same where their elements are.
-use Rattle.std.proofs.Common.{◌≡◌, List, [], ◌∷◌, length, refl, sym, ap, ◌∙◌}
-use Rattle.std.proofs.lemmas.List.{length-map}
+use Rattle.std.proofs.Common.{◌≡◌, List, [], ◌∷◌, refl, sym, ap, ◌∙◌}
 use Rattle.std.specs.Prelude as list
 use Rattle.std.specs.FinMap as map
-use Rattle.ak_address.specs.Uniques.{UniqueSet, how_many, in_order}
+use Rattle.ak_address.specs.Uniques.{UniqueSet, in_order}
 
 module _ {K : Type 0} where
   marked : List K → List (K × Unit {0})
@@ -13,9 +12,6 @@ module _ {K : Type 0} where
   unfolding marked
   again [] = refl
   again (e ∷ es) = λ i. e ∷ again es i
-
-pub length-in_order : (s : UniqueSet) → length (in_order s) ≡ how_many s
-length-in_order s = length-map (map.entries s) _ ∙ sym (map.len-entries s)
 
 -- two sets that have the same processes in order are the same
 pub same_in_order : (s t : UniqueSet) → in_order s ≡ in_order t → s ≡ t

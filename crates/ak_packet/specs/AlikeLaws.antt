@@ -2,7 +2,7 @@
 use Rattle.std.proofs.Common.{◌≡◌, ℕ, Bool, true, false, ◌&&◌, ◌==◌, IsTrue, Decides, refl, sym, ap, ◌∙◌, true≢false, arith}
 use Rattle.std.proofs.lemmas.Bool.Decides.{nat_tests}
 use Rattle.std.specs.Bool.{one_answer}
-use Rattle.std.specs.Cmp.{IsEquivalence, decided, on_equiv}
+use Rattle.std.specs.Cmp.{IsEquivalence, decided, on_equiv, first_so, second_so}
 use base.Stored.{Gv, gnil, gnum, gcons}
 use Rattle.ak_wire.specs.declared.envelope.Envelope.{Envelope}
 use Rattle.ak_wire.specs.contracts.shared.SharedEnvelope as shared
@@ -14,14 +14,6 @@ equal n k e = grind (arith, nat_tests)
 equal_itself : (n : ℕ) → (n == n) ≡ true
 equal_itself n = grind (arith, nat_tests)
 
-first : (a b : Bool) → (a && b) ≡ true → a ≡ true
-first true b e = refl
-first false b e = absurd (true≢false (sym e))
-
-second : (a b : Bool) → (a && b) ≡ true → b ≡ true
-second true b e = e
-second false b e = absurd (true≢false (sym e))
-
 same_code : (x y : Gv) → is_code x y ≡ true → x ≡ y
 unfolding is_code
 same_code gnil gnil e = refl
@@ -32,7 +24,7 @@ same_code (gnum n) (gnum k) e = ap gnum (equal n k e)
 same_code (gnum n) (gcons c d) e = absurd (true≢false (sym e))
 same_code (gcons a b) gnil e = absurd (true≢false (sym e))
 same_code (gcons a b) (gnum k) e = absurd (true≢false (sym e))
-same_code (gcons a b) (gcons c d) e = λ i. gcons (same_code a c (first (is_code a c) (is_code b d) e) i) (same_code b d (second (is_code a c) (is_code b d) e) i)
+same_code (gcons a b) (gcons c d) e = λ i. gcons (same_code a c (first_so (is_code a c) (is_code b d) e) i) (same_code b d (second_so (is_code a c) (is_code b d) e) i)
 
 code_itself : (x : Gv) → is_code x x ≡ true
 unfolding is_code

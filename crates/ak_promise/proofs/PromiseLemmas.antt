@@ -6,12 +6,10 @@ use Rattle.std.proofs.lemmas.Bool.{or_cases}
 use Rattle.std.proofs.lemmas.Cmp.{tied_itself}
 use Rattle.ak_address.specs.Unique.{UniqueModel, unique_cmp}
 use Rattle.ak_address.proofs.OrderLemmas.{unique_total, unique_exact}
+use Rattle.ak_address.proofs.BoolLemmas.{none_there}
 use Rattle.ak_promise.specs.Ballot.{BallotModel, ballot_cmp}
 use Rattle.ak_promise.specs.Promise.{PromiseModel, Binds, IsNew, IsFree, Answers, Releases, answer_by, answer_after, answer_to, is_some_ballot, is_last}
 use Rattle.ak_promise.proofs.BallotOrder.{ballot_total, ballot_exact}
-
-no_ballot : (c : BallotModel) → None ≡ Some c → ⊥
-no_ballot c is = absurd (cc)
 
 -- ---- one ballot and another
 pub equal_ballots : (b c : BallotModel) → is_eq (ballot_cmp b c) ≡ true → b ≡ c
@@ -84,7 +82,7 @@ pub answers_meant : (p : PromiseModel) (b : BallotModel) (finished : Bool) → A
 answers_meant p b finished = by_last p.last refl
   where
     by_last : (o : Option BallotModel) → p.last ≡ o → Answers (answer_after o p.released b finished) p b finished
-    by_last None none = inr ((λ c at. absurd (no_ballot c (sym none ∙ at))), λ c at. absurd (no_ballot c (sym none ∙ at)))
+    by_last None none = inr ((λ c at. absurd (none_there c (sym none ∙ at))), λ c at. absurd (none_there c (sym none ∙ at)))
     by_last (Some c) at = by_order p c b finished at (ballot_cmp b c) refl
 
 -- ---- the last ballot
@@ -93,7 +91,7 @@ last_is None b is = absurd (true≢false (sym is))
 last_is (Some c) b is = ap Some (equal_ballots c b is)
 
 pub last_is_not : (o : Option BallotModel) (b : BallotModel) → is_some_ballot o b ≡ false → o ≢ Some b
-last_is_not None b is at = no_ballot b at
+last_is_not None b is at = none_there b at
 last_is_not (Some c) b is at = true≢false (sym (ap (λ x. is_eq (ballot_cmp x b)) (same_Some c b at) ∙ ap is_eq (ballot_itself b)) ∙ is)
 
 pub releases_meant : (p : PromiseModel) (b : BallotModel) (r : Bool) → is_last p b ≡ r → Releases r p b

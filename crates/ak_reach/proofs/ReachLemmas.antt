@@ -1,5 +1,5 @@
 -- Which observers report a process, and which processes are reported.
-use Rattle.std.proofs.Common.{◌≡◌, ℕ, zero, suc, ◌+◌, ◌≤◌, Bool, true, false, ◌||◌, ◌&&◌, cond, if◌then◌else◌, nat_lt, IsTrue, ◌↔◌, List, [], ◌∷◌, length, drop, slice_get, Option, Some, None, is_some, refl, sym, ap, ◌∙◌, arith, true≢false}
+use Rattle.std.proofs.Common.{◌≡◌, ℕ, zero, suc, ◌+◌, ◌≤◌, Bool, true, false, ◌||◌, ◌&&◌, cond, if◌then◌else◌, nat_lt, IsTrue, ◌↔◌, List, [], ◌∷◌, drop, slice_get, Option, Some, None, is_some, refl, sym, ap, ◌∙◌, arith, true≢false}
 use Rattle.std.proofs.lemmas.Bool.{leb-true, le-ltb}
 use Rattle.std.proofs.Math.ListN.{drop_of_length-le}
 use Rattle.std.proofs.lemmas.Option.{same_Some}
@@ -11,7 +11,7 @@ use Rattle.ak_address.specs.Unique.{UniqueModel, unique_cmp}
 use Rattle.ak_address.specs.Table.{value_with}
 use Rattle.ak_address.specs.Uniques.{UniqueSet, no_one, has, with_one, those, in_order, how_many}
 use Rattle.ak_address.proofs.TableLaws.{key_itself, same_key, same_table, get-insert}
-use Rattle.ak_address.proofs.UniquesLaws.{has-no_one, has-with_one, has-those, has_at, index_of_has, same_uniques}
+use Rattle.ak_address.proofs.UniquesLaws.{has-no_one, has-with_one, has-those, has_at, index_of_has, same_uniques, length-in_order}
 use Rattle.ak_member.specs.View.{Row, RowTable, later_row}
 use Rattle.ak_reach.specs.Reach.{with_row, is_as_new, row_has, reported, IsReported}
 use Rattle.ak_reach.specs.Walk.{reports, with_reported, with_all_reported}
@@ -76,14 +76,6 @@ pub with_left : (test : UniqueModel → Bool) (xs : List UniqueModel) (i : ℕ) 
 with_left test xs i them =
     with_from test xs i them
     ∙ ap (λ n. with_all_reported test (drop n xs) (with_reported test (slice_get xs i) them)) (next i)
-
--- a set has as many processes as indices
-length-keys : {X : Type 0} (es : List (UniqueModel × X)) → length (list.map (λ row. row.0) es) ≡ length es
-length-keys [] = refl
-length-keys (e ∷ es) = ap suc (length-keys es)
-
-pub length-in_order : (s : UniqueSet) → length (in_order s) ≡ how_many s
-length-in_order s = length-keys (map.entries s) ∙ sym (map.len-entries s)
 
 -- past the last index nobody is left
 pub none_left : (s : UniqueSet) (index : ℕ) → how_many s ≤ index → drop index (in_order s) ≡ []

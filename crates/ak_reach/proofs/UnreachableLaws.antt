@@ -9,6 +9,7 @@ use Rattle.std.specs.Ordering.{eq_by_cmp}
 use Rattle.std.proofs.lemmas.List.Folds.{list_any-append}
 use Rattle.std.specs.List.{list_any}
 use Rattle.std.specs.FinMap as map
+use Rattle.std.specs.Cmp.{both_ways}
 use Rattle.ak_address.specs.Unique.{UniqueModel, unique_cmp}
 use Rattle.ak_address.specs.Uniques.{UniqueSet, has, no_one, those, in_order}
 use Rattle.ak_address.proofs.TableLaws.{get_at, index_of_get, key_itself}
@@ -39,13 +40,8 @@ module _ {X : Type 0} (p : X → Bool) where
   said_nowhere xs i past before = sym (ap (list_any p) (drop_of_length-le xs past)) ∙ before
 
 -- ---- who has it in its row
-same_answers : (a b : Bool) → (a ≡ true → b ≡ true) → (b ≡ true → a ≡ true) → a ≡ b
-same_answers true b there back = sym (there refl)
-same_answers false true there back = back refl
-same_answers false false there back = refl
-
 pub shown_reported : (s : Standings) (rows : RowTable) (who : UniqueModel) → list_any (row_shows s who) (map.entries rows) ≡ reported rows (members_with observes s) who
-shown_reported s rows who = same_answers _ _ there back
+shown_reported s rows who = both_ways _ _ there back
   where
     there : list_any (row_shows s who) (map.entries rows) ≡ true → reported rows (members_with observes s) who ≡ true
     there is =

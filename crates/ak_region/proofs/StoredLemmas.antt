@@ -10,7 +10,7 @@ use Rattle.ak_region.specs.Region.{slot_of, with_slot, after_forget, reports_fro
 use Rattle.ak_region.specs.Stored.{all_slots}
 
 -- ---- of lists that end with such slots
-at_untold : (n i : ℕ) → get_or (replicate n untold) i untold ≡ untold
+pub at_untold : (n i : ℕ) → get_or (replicate n untold) i untold ≡ untold
 at_untold zero i = refl
 at_untold (suc n) zero = refl
 at_untold (suc n) (suc i) = at_untold n i
@@ -54,7 +54,7 @@ reported_padded : (shard : ℕ) (told : List ShardSlot) (n : ℕ) → reports_fr
 reported_padded shard [] n = none_reported shard n
 reported_padded shard (slot ∷ told) n = ap (λ l. Rattle.ak_region.specs.Region.report_of shard slot ++ l) (reported_padded (shard + 1) told n)
 
-none_strange : (s : Standings) (n : ℕ) → map (without_stranger s) (replicate n untold) ≡ replicate n untold
+pub none_strange : (s : Standings) (n : ℕ) → map (without_stranger s) (replicate n untold) ≡ replicate n untold
 none_strange s zero = refl
 none_strange s (suc n) = ap (λ l. untold ∷ l) (none_strange s n)
 

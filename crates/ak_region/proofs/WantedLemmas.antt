@@ -4,6 +4,7 @@ use Rattle.std.specs.List.{filter}
 use Rattle.std.proofs.lemmas.Bool.{eqb-true, eq-eqb}
 use Rattle.std.proofs.lemmas.List.{map-append}
 use Rattle.std.proofs.lemmas.List.Folds.{list_any-append}
+use Rattle.ak_address.proofs.BoolLemmas.{or_false, or_true}
 use Rattle.ak_shard_id.specs.Shard.{shard_of}
 use Rattle.ak_region.specs.Shards.{ShardSlot}
 use Rattle.ak_region.specs.Slot.{untold, receives}
@@ -25,14 +26,6 @@ IsPassed slots passed found = (shard : ℕ) → shard < length slots → get_or 
 -- one shard more is found, where it was not passed over
 abbrev pub found_more : List Bool → List ℕ → ℕ → List ℕ
 found_more passed found shard = if get_or passed shard false then found else found ++ shard ∷ []
-
-or_true : (b : Bool) → (b || true) ≡ true
-or_true true = refl
-or_true false = refl
-
-or_false : (b : Bool) → (b || false) ≡ b
-or_false true = refl
-or_false false = refl
 
 -- has one more
 has_more : (found : List ℕ) (shard n : ℕ) → has_number (found ++ shard ∷ []) n ≡ (has_number found n || (shard == n))

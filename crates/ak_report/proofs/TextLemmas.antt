@@ -4,7 +4,6 @@ use Rattle.std.specs.Prelude.{codes}
 use Rattle.std.specs.FinMap as finmap
 use Rattle.std.proofs.lemmas.List.{take_more, take_all, map_push, length-take-le, length-map, nil_from_length}
 use Rattle.std.proofs.lemmas.Option.{get_or_from_slice_get, slice_get_within}
-use Rattle.ak_address.specs.Uniques.{UniqueSet, in_order, how_many}
 use Rattle.ak_address.specs.Unique.{UniqueModel}
 use Rattle.ak_address.specs.Spelling.{unique_text}
 use Rattle.ak_member.proofs.MemberLemmas.{KeepsPairs, kept_pair, kept_at_end, drop_from}
@@ -137,9 +136,6 @@ pub ended : {X : Type 0} (xs : List X) (index : ℕ) → slice_get xs index ≡ 
 ended [] index none within = omega arith
 ended (x ∷ xs) zero none within = cc
 ended (x ∷ xs) (suc i) none within = ended xs i none (omega arith)
-
-pub members_counted : (s : UniqueSet) → length (in_order s) ≡ how_many s
-members_counted s = length-map (finmap.entries s) (λ pair. pair.0) ∙ sym (finmap.len-entries s)
 
 -- an equal text was printed
 pub printed_as : (start : List ℕ) {now text same : List ℕ} → text ≡ same → now ≡ start ++ text → now ≡ start ++ same

@@ -48,7 +48,7 @@ plain_unique u range = plain_word (unique_text u) (unique_word (unique_text u) u
 plain_address : (a : AddressModel) → IsAddress a → IsPlain (address_text a)
 plain_address a range = plain_word (address_text a) (address_word (address_text a) a (address_text_spells a range))
 
-plain_bytes : (word : List ℕ) → begins word ≡ true → list_all (λ b. not (b == 32)) word ≡ true → IsPlain word
+pub plain_bytes : (word : List ℕ) → begins word ≡ true → list_all (λ b. not (b == 32)) word ≡ true → IsPlain word
 plain_bytes word begun all = record {
   begun = begun;
   letters = All-weaker (λ b. not (b == 32) ≡ true) (λ b. (b == 32) ≡ false) (λ b. other (b == 32)) word (AllPass-from_list_all (λ b. not (b == 32)) word all);

@@ -16,13 +16,13 @@ use Rattle.ak_schedule.specs.Line.{words}
 use Rattle.ak_schedule.specs.Kind.{kind_name}
 use Rattle.ak_schedule.proofs.EventWords.{event_kind, named, same_kind}
 
-same_unique : (a b : List ℕ) (u v : UniqueModel) → a ≡ b → SpellsUnique a u → SpellsUnique b v → u ≡ v
+pub same_unique : (a b : List ℕ) (u v : UniqueModel) → a ≡ b → SpellsUnique a u → SpellsUnique b v → u ≡ v
 same_unique a b u v same one other = unique_same b u v (subst (λ (w : List ℕ). SpellsUnique w u) same one) other
 
 same_address : (a b : List ℕ) (u v : AddressModel) → a ≡ b → SpellsAddress a u → SpellsAddress b v → u ≡ v
 same_address a b u v same one other = address_same b u v (subst (λ (w : List ℕ). SpellsAddress w u) same one) other
 
-same_number : (a b : List ℕ) (m n : ℕ) → a ≡ b → IsNumber a m → IsNumber b n → m ≡ n
+pub same_number : (a b : List ℕ) (m n : ℕ) → a ≡ b → IsNumber a m → IsNumber b n → m ≡ n
 same_number a b m n same one other = number_same b m n (subst (λ (w : List ℕ). IsNumber w m) same one) other
 
 same_event : (ws : List (List ℕ)) (e f : Event) → event_kind e ≡ event_kind f → SpellsWords ws e → SpellsWords ws f → e ≡ f

@@ -7,6 +7,7 @@ use Rattle.ak_address.specs.Unique.{UniqueModel, unique_cmp}
 use Rattle.ak_address.specs.Uniques.{UniqueSet, has}
 use Rattle.ak_address.proofs.Elements.{contains_nothing, in_filter, filter_in, in_map, map_in, contains_at}
 use Rattle.ak_address.proofs.TableLaws.{key_itself, other_key}
+use Rattle.ak_address.proofs.BoolLemmas.{both_true, not_true}
 use Rattle.ak_member.specs.declared.status.Status.{Status}
 use Rattle.ak_member.specs.Standing.{Standings, member_of, members_of}
 use Rattle.ak_member.specs.View.{View}
@@ -20,15 +21,6 @@ abbrev process : UniqueModel × (Status × ℕ) → UniqueModel
 process pair = pair.0
 
 -- ---- tests
-not_true : (b : Bool) → not b ≡ true → b ≡ false
-not_true true h = absurd (true≢false (sym h))
-not_true false h = refl
-
-both_true : (a b : Bool) → (a && b) ≡ true → (a ≡ true) × (b ≡ true)
-both_true true true h = (refl, refl)
-both_true true false h = absurd (true≢false (sym h))
-both_true false b h = absurd (true≢false (sym h))
-
 no_and_no : (a b : Bool) → a ≡ false → b ≡ false → (not a && not b) ≡ true
 no_and_no true b p q = absurd (true≢false p)
 no_and_no false true p q = absurd (true≢false q)

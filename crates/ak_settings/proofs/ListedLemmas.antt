@@ -21,7 +21,7 @@ listed_at_head b a listed rest is =
       | Greater ↦ λ _ h. contains_later b a listed (rest h)
     ] refl is
 
-contains_from : (listed : List AddressModel) (a : AddressModel) → is_listed listed a ≡ true → Contains listed a
+pub contains_from : (listed : List AddressModel) (a : AddressModel) → is_listed listed a ≡ true → Contains listed a
 contains_from [] a is = absurd (true≢false (sym is))
 contains_from (b ∷ listed) a is = listed_at_head b a listed (contains_from listed a) is
 

@@ -101,7 +101,7 @@ module _ (margin : ℕ) (settled : SettledView) (who : UniqueModel) where
   finished_means is = over_means (counter (counters_of settled) who) (tombstone_of (finmap.get (standings_of settled) who)) (sym (finished_at margin settled who) ∙ is)
 
 -- ---- the candidate
-counts_risen : (status : Status) → counts status ≡ true → status ≢ Joining
+pub counts_risen : (status : Status) → counts status ≡ true → status ≢ Joining
 counts_risen status is joining = true≢false (sym is ∙ ap counts joining)
 
 no_tombstone : (o : Option Standing) (m : Status × ℕ) → member_of o ≡ Some m → tombstone_of o ≡ None
@@ -173,7 +173,7 @@ module _ (version : Counts) (s : Standings) (before : SettledView) (who : Unique
   noted_finished margin least counting is = noted_over margin least counting (tombstone_of (finmap.get s who)) refl is
 
 -- ---- a tick
-standings-ticked : (margin : ℕ) (settled : SettledView) → standings_of (ticked margin settled) ≡ standings_of settled
+pub standings-ticked : (margin : ℕ) (settled : SettledView) → standings_of (ticked margin settled) ≡ standings_of settled
 standings-ticked margin None = refl
 standings-ticked margin (Some noted) = refl
 

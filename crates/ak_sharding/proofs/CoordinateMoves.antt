@@ -4,6 +4,7 @@ use Rattle.std.proofs.lemmas.Bool.{ltb-true}
 use Rattle.std.proofs.lemmas.Option.{same_Some}
 use Rattle.ak_address.specs.Unique.{UniqueModel}
 use Rattle.ak_address.proofs.Elements.{contains_left}
+use Rattle.ak_address.proofs.BoolLemmas.{both_true}
 use Rattle.ak_clock.specs.Version.{Counts}
 use Rattle.ak_coordinator.specs.declared.entry.Homing.{Homing}
 use Rattle.ak_coordinator.specs.declared.entry.Homing.TheVariants as homings
@@ -33,7 +34,7 @@ use Rattle.ak_sharding.specs.Coordinates.{is_active, is_active_with, on_table, i
 use Rattle.ak_sharding.specs.Said.{said_by, says_of}
 use Rattle.ak_sharding.specs.Sharing.{LiveIsLast, HaveRisen}
 use Rattle.ak_sharding.proofs.LoadMoves.{loads_are}
-use Rattle.ak_sharding.proofs.PartLemmas.{both_true, IsLikeHere, Turns, IsPart, Does, part_table, nothing_does, if_both}
+use Rattle.ak_sharding.proofs.PartLemmas.{IsLikeHere, Turns, IsPart, Does, part_table, nothing_does, if_both}
 
 module _ (on : Counts → Type 0) (aged removed : Counts → UniqueModel → Type 0) (heard : UniqueModel → Said Counts → Type 0) (stopped : UniqueModel → Type 0) (around : Around)
     (bound : LiveIsLast around.singleton) (risen : HaveRisen aged around.settled) where

@@ -9,6 +9,7 @@ use Rattle.std.specs.FinMap as finmap
 use Rattle.std.specs.Ordering.{is_eq}
 use Rattle.ak_address.proofs.Elements.{contains_first, contains_left, contains_nothing, contains_either, first_or_rest}
 use Rattle.ak_address.proofs.Pairs.{is_equal}
+use Rattle.ak_address.proofs.BoolLemmas.{both_true}
 use Rattle.ak_address.specs.Unique.{UniqueModel}
 use Rattle.ak_entity.specs.Active.{ActiveEntity, entity_cmp}
 use Rattle.ak_entity.specs.Entities.{delivered, without_shard}
@@ -30,7 +31,6 @@ use Rattle.ak_wire.specs.declared.envelope.Message as wire
 use Rattle.ak_sharding.specs.Sharding.{ShardingModel, Around, Outcome, nothing, and_then, and_does, to_process, delivery, delivers, routed, routes, routes_each, flushes}
 use Rattle.ak_sharding.specs.Hosts.{has_shard, is_bound, learns_home, on_home, hosted_by, obeys, on_host_shard, holds, on_begin_hand_off, ends_shard, hands_off, on_hand_off, on_offer, asks_homes_of, asks_homes, forgets}
 use Rattle.ak_sharding.specs.Alive.{IsActive, Hosts, AreHosted, starts_of, alive_then, alive_after, KeepsEntities}
-use Rattle.ak_sharding.proofs.PartLemmas.{both_true}
 
 -- ---- what actions tell, one list after another
 alive_more : (shards : ℕ) (a b : List ℕ → Type 0) → ((e : List ℕ) → a e → b e) → (x : Action) (e : List ℕ) → alive_then shards a x e → alive_then shards b x e

@@ -1,11 +1,12 @@
 -- Loads are of processes that aged and have granted.
-use Rattle.std.proofs.Common.{◌≡◌, inl, inr, Bool, true, false, ◌&&◌, List, [], ◌∷◌, ℕ, Contains, Option, None, Some, IsTrue, refl, sym, ap, ◌∙◌, subst, true≢false}
+use Rattle.std.proofs.Common.{◌≡◌, inl, inr, List, [], ◌∷◌, ℕ, Contains, Option, None, Some, IsTrue, refl, sym, ap, ◌∙◌, subst}
 use Rattle.std.specs.FinMap as finmap
 use Rattle.std.specs.List.{filter}
 use Rattle.ak_address.specs.Unique.{UniqueModel}
 use Rattle.ak_address.specs.Uniques.{UniqueSet, has}
 use Rattle.ak_address.proofs.Elements.{contains_first, contains_rest, contains_nothing, first_or_rest, in_map, in_filter, index_of}
 use Rattle.ak_address.proofs.TableLaws.{get_at}
+use Rattle.ak_address.proofs.BoolLemmas.{both_true}
 use Rattle.ak_allocation.specs.declared.load.Load.{Load}
 use Rattle.ak_clock.specs.Version.{Counts}
 use Rattle.ak_coordinator.specs.Table.{ShardTable}
@@ -33,11 +34,6 @@ member_there (first ∷ pairs) pair there = by_first (as_member first.1) refl (m
       )
       | inr later ↦ let r = rest later in (r.0, contains_rest first (pair.0, r.0) pairs r.1, r.2)
     ]
-
-both_true : (a b : Bool) → (a && b) ≡ true → (a ≡ true) × (b ≡ true)
-both_true true true h = (refl, refl)
-both_true true false h = absurd (true≢false (sym h))
-both_true false b h = absurd (true≢false (sym h))
 
 pub loads_are : (aged : Counts → UniqueModel → Type 0) (settled : SettledView) → HaveRisen aged settled → (table : ShardTable) (granted : UniqueSet) (load : Load) → Contains (loads_of table granted (standings_of settled)) load
     → aged (version_of settled) load.unique × IsTrue (has granted load.unique)

@@ -10,6 +10,7 @@ use Rattle.ak_address.specs.Uniques.{UniqueSet, has, no_one, without_one, in_ord
 use Rattle.ak_address.proofs.Elements.{contains_first, contains_rest, index_of, in_map, in_filter}
 use Rattle.ak_address.proofs.UniquesLaws.{has-no_one, has-with_one, has_at}
 use Rattle.ak_address.proofs.TableLaws.{same_key, get-remove}
+use Rattle.ak_address.proofs.BoolLemmas.{both_true}
 use Rattle.ak_allocation.specs.declared.load.Load.{Load}
 use Rattle.ak_allocation.specs.Allocation.{lightest}
 use Rattle.ak_allocation.proofs.AllocationLaws.{lightest_is}
@@ -39,7 +40,7 @@ use Rattle.ak_sharding.specs.Ranges.{AllOf, IfThere, AreUniques, HomeInRange, En
 use Rattle.ak_sharding.proofs.RangesKept.{all_map, all_at, all_set, set_many, map_many, sent_to, both_well, is_shard}
 
 -- ---- sets
-nobody_in : AreUniques no_one
+pub nobody_in : AreUniques no_one
 nobody_in who is = absurd (true≢false (sym is ∙ has-no_one who))
 
 set_of_in : (whos : List UniqueModel) → ((who : UniqueModel) → Contains whos who → IsUnique who) → AreUniques (set_of whos)
@@ -64,11 +65,6 @@ unfinished_in : (margin : ℕ) (settled : SettledView) (s : UniqueSet) → AreUn
 unfinished_in margin settled s all = set_of_in _ (λ who there. in_order_in s all who (in_filter (is_unfinished margin settled) (in_order s) who there).0)
 
 -- ---- loads
-both_true : (a b : Bool) → (a && b) ≡ true → (a ≡ true) × (b ≡ true)
-both_true true true h = (refl, refl)
-both_true true false h = absurd (true≢false (sym h))
-both_true false b h = absurd (true≢false (sym h))
-
 abbrev LoadsInRange : List Load → Type 0
 LoadsInRange all = (load : Load) → Contains all load → IsUnique load.unique
 
@@ -134,7 +130,7 @@ learnt_all_in asking from (report ∷ reports) table from_is r t =
     learnt_all_in asking from reports (with_entry table report.shard (learnt asking from report (entry_of table report.shard))) from_is r.1
     (put_in table report.shard (learnt asking from report (entry_of table report.shard)) t (learnt_in asking from report (entry_of table report.shard) from_is r.0 (entry_in table t report.shard)))
 
-from_first : (n : ℕ) → n ≤ 1000 → 0 + n ≤ 1000
+pub from_first : (n : ℕ) → n ≤ 1000 → 0 + n ≤ 1000
 from_first n few = omega (arith, few)
 
 -- ---- the rules

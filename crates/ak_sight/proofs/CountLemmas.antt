@@ -13,6 +13,7 @@ use Rattle.ak_member.proofs.MemberLemmas.{KeepsPairs, keeps_mapped, kept_pair, k
 use Rattle.ak_member.proofs.OldestLaws.{counted_among, keeps_counted}
 use Rattle.ak_address.specs.Uniques.{UniqueSet, has, with_one, those}
 use Rattle.ak_address.proofs.UniquesLaws.{has-union, has-with_one}
+use Rattle.ak_address.proofs.BoolLemmas.{or_true}
 use Rattle.ak_clock.specs.Version.{relation}
 use Rattle.ak_clock.specs.declared.version.Relation.{Relation}
 use Rattle.ak_clock.specs.declared.version.Relation.TheVariants as clock
@@ -123,10 +124,6 @@ pub uses_kept : (t : TallyModel) (g : GossipState) (s : Standings) → IsTallyOf
 uses_kept t g s is same = ap (λ (t : TallyModel). t.uses) is ∙ ap (λ s. uses_of (counted_addresses s)) (sym same)
 
 -- ---- what was received
-or_true : (b : Bool) → (b || true) ≡ true
-or_true true = refl
-or_true false = refl
-
 as_received : (me : UniqueModel) (own incoming : GossipState) (r : Relation) → IsAsReceived (marked_seen me (accepted r own incoming)).0 own (marked_seen me (accepted r own incoming)).1
 as_received me own incoming clock.Same = record { view = seen_view me own incoming (same own incoming); seen = seen_more }
   where

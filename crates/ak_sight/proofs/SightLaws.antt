@@ -19,10 +19,6 @@ use Rattle.ak_gossip.specs.Gossip.{GossipState, most_uniques, accepted, marked_s
 use Rattle.ak_sight.specs.Sight.{sight, is_same_reach, is_same_sight, is_otherwise, has_moved, is_news}
 
 -- ---- the same sight
-pub or_false : (b : Bool) → (b || false) ≡ b
-or_false true = refl
-or_false false = refl
-
 reach_itself : (b : Bool) → is_same_reach b b ≡ true
 reach_itself true = refl
 reach_itself false = refl

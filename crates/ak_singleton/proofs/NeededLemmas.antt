@@ -10,6 +10,7 @@ use Rattle.ak_address.proofs.CountersLaws.{among, is_among, contained, among-fil
 use Rattle.ak_address.proofs.Elements.{all_there, all_from}
 use Rattle.ak_address.proofs.TableLaws.{key_itself, entries-empty, get_at}
 use Rattle.ak_address.proofs.UniquesLaws.{has-no_one, has-those, same_uniques}
+use Rattle.ak_address.proofs.BoolLemmas.{not_false, or_true}
 use Rattle.ak_member.specs.Standing.{tombstone_of}
 use Rattle.ak_member.specs.declared.standing.Standing.{Standing}
 use Rattle.ak_member.proofs.MemberLemmas.{KeepsPairs, kept_pair, kept_at_end}
@@ -45,10 +46,6 @@ pub left_is : (margin : ℕ) (settled : SettledView) (others : UniqueSet)
 left_is margin settled others =
     set_of_kept (λ who. not (has others who)) (needed_pairs margin (counters_of settled) (finmap.entries (standings_of settled)))
     ∙ ap (λ s. those s (λ who. not (has others who))) (needed_is margin settled)
-
-or_true : (b : Bool) → (b || true) ≡ true
-or_true true = refl
-or_true false = refl
 
 none_below : (k : ℕ) → k < 0 → ⊥
 none_below k lt = omega (arith, lt)
@@ -86,14 +83,10 @@ needed_pair margin settled i who standing finished needs is fin says =
     go false = refl
 
 -- ---- whether each that is needed is one of the others
-kept_out : (b : Bool) → not b ≡ false → b ≡ true
-kept_out true is = refl
-kept_out false is = sym is
-
 all_when_none : (others s : UniqueSet) → those s (λ who. not (has others who)) ≡ no_one → list_all (has others) (in_order s) ≡ true
 all_when_none others s none = all_from (has others) (in_order s) (λ who there.
     let there_too : has s who ≡ true = finmap.contains_key-keys s who ∙ is_among (in_order s) who there in
-    kept_out (has others who) (
+    not_false (has others who) (
     ap (λ b. b && not (has others who)) (sym there_too)
     ∙ sym (has-those s (λ who. not (has others who)) who)
     ∙ ap (λ t. has t who) none

@@ -1,18 +1,19 @@
 -- Which answers an event has: what an accepted one did, and that an event which may happen is refused for packets alone.
-use Rattle.std.proofs.Common.{◌≡◌, inl, inr, ℕ, zero, suc, ◌-◌, ◌==◌, ◌<◌, ◌≤◌, ◌&&◌, Bool, true, false, not, leb, List, [], ◌∷◌, map, reverse, length, slice_get, Contains, Option, Some, None, is_some, Result, Ok, Err, IsTrue, if◌then◌else◌, refl, sym, ap, ◌∙◌, subst, arith, true≢false}
+use Rattle.std.proofs.Common.{◌≡◌, inl, inr, ℕ, zero, suc, ◌-◌, ◌==◌, ◌<◌, ◌≤◌, Bool, true, false, not, leb, List, [], ◌∷◌, map, reverse, length, slice_get, Contains, Option, Some, None, is_some, Result, Ok, Err, IsTrue, if◌then◌else◌, refl, sym, ap, ◌∙◌, subst, arith, true≢false}
 use Rattle.std.specs.List.{list_any}
 use Rattle.std.specs.Ordering.{is_eq}
 use Rattle.std.specs.declared.cmp.Ordering.{Ordering}
 use Rattle.std.specs.declared.cmp.Ordering.TheVariants.{Less, Equal, Greater}
+use Rattle.std.specs.Cmp.{first_so, second_so}
 use Rattle.std.proofs.lemmas.Cmp.{tied_itself}
 use Rattle.std.proofs.lemmas.List.{reverse-append, length-reverse, length-map}
 use Rattle.std.proofs.lemmas.Option.{same_Some}
-use Rattle.std.proofs.lemmas.Bool.{eqb-true, leb-true, leb-false}
+use Rattle.std.proofs.lemmas.Bool.{eqb-true, leb-true, leb-false, false_from_ne_true, not_from_true}
 use Rattle.ak_address.specs.Unique.{AddressModel, UniqueModel, address_cmp, unique_cmp}
 use Rattle.ak_address.proofs.Elements.{any_there, any_found, map_in, contains_at, index_of, contains_left, contains_right, contains_first, first_or_rest, contains_nothing}
 use Rattle.ak_address.proofs.OrderLemmas.{address_total, address_exact}
 use Rattle.ak_address.proofs.TableLaws.{key_itself}
-use Rattle.ak_gossip.proofs.InvariantLemmas.{and_first}
+use Rattle.ak_address.proofs.BoolLemmas.{not_false}
 use Rattle.ak_settings.specs.Settings.{is_listed}
 use Rattle.ak_schedule.specs.declared.event.Event.{Event}
 use Rattle.ak_schedule.specs.declared.event.Event.TheVariants.{Start, Found, Join, Tick, Deliver, Leave, Down, Offer, Stop}
@@ -36,10 +37,6 @@ unless_ok : (b : Bool) (why : Reason) (r : Result Done Reason) (done : Done) →
 unless_ok true why r done is = absurd (cc)
 unless_ok false why r done is = (refl, is)
 
-was : (b : Bool) → not b ≡ false → b ≡ true
-was true is = refl
-was false is = absurd (true≢false is)
-
 abbrev ok : Done → Result Done Reason
 ok done = Ok done
 
@@ -62,7 +59,7 @@ module _ (w : WorldState) (happened : Event) where
     acted_follows e index (Some n) founded done at given founds is =
         let running = unless_ok (not n.runs) reason.NodeStopped _ done is in
         let room = unless_ok (is_full w) reason.TooManyPackets _ done running.1 in
-        given_follows e index (Some n) founded done at (λ m same. subst (λ (s : State). IsTrue s.runs) (same_Some n m same) (was n.runs running.0)) given founds room.1
+        given_follows e index (Some n) founded done at (λ m same. subst (λ (s : State). IsTrue s.runs) (same_Some n m same) (not_false n.runs running.0)) given founds room.1
     acted_follows e index None founded done at given founds is = absurd (cc)
 
     acts_follows : (e : NodeEvent) (u : UniqueModel) (founded : Bool) (done : Done) → IsGiven happened u → founded ≡ founded_by happened w.founded
@@ -81,7 +78,7 @@ delivered_follows w number (Some p) done is = by_index (receiver_of p w) refl (u
     by_index : (o : Option ℕ) → receiver_of p w ≡ o → arrives p o w ≡ Ok done → Follows (census_of w) (Deliver number) (census_of done.world)
     by_index (Some index) found is =
         given_follows w (Deliver number) (λ us. refl) (λ one never. never) (event.Packet p) index (slice_get w.nodes index) w.founded done refl
-        (λ n at. and_first n.runs (is_for (me_of n) p) (position_passes (is_reached p) w.nodes index n found at)) (λ n at. tt) refl is
+        (λ n at. first_so n.runs (is_for (me_of n) p) (position_passes (is_reached p) w.nodes index n found at)) (λ n at. tt) refl is
     by_index None found is = same_done (record { world = w; node = None; actions = [] }) done (λ d. Follows (census_of w) (Deliver number) (census_of d.world)) is (nothing_follows w number)
 delivered_follows w number None done is = absurd (cc)
 
@@ -104,7 +101,7 @@ happened_follows w (Down u who) done is = acts_follows w (Down u who) (λ us. re
 happened_follows w (Offer u entity payload) done is = acts_follows w (Offer u entity payload) (λ us. refl) (λ one never. never) (event.Offer entity payload) u w.founded done refl refl is
 happened_follows w (Stop u) done is = acts_follows w (Stop u) (λ us. refl) (λ one never. never) event.Stop u w.founded done refl refl is
 
--- where a process could start there was room for packets
+-- where a process could start there not_false room for packets
 pub start_room : (w : WorldState) (u : UniqueModel) (done : Done) → happens fixed (Start u) w ≡ Ok done → length w.packets < 200000
 start_room w u done is =
     let listed = unless_ok (not (is_listed fixed.listed u.address)) reason.Unlisted _ done is in
@@ -146,14 +143,6 @@ unless_full : (b : Bool) (r : Result Done Reason) → IsFullAtMost r → IsFullA
 unless_full true r h = tt
 unless_full false r h = h
 
-or_not : (b : Bool) → (b ≡ true → ⊥) → b ≡ false
-or_not true never = absurd (never refl)
-or_not false never = refl
-
-not_is : (b : Bool) → b ≡ true → not b ≡ false
-not_is true is = refl
-not_is false is = absurd (true≢false (sym is))
-
 element_at : {X : Type 0} (xs : List X) (i : ℕ) → i < length xs → (x : X) × (slice_get xs i ≡ Some x)
 element_at [] i lt = absurd (omega arith)
 element_at (x ∷ xs) zero lt = (x, refl)
@@ -163,10 +152,6 @@ is_equal : (o : Ordering) → is_eq o ≡ true → o ≡ Equal
 is_equal Less is = absurd (true≢false (sym is))
 is_equal Equal is = refl
 is_equal Greater is = absurd (true≢false (sym is))
-
-second : (a b : Bool) → (a && b) ≡ true → b ≡ true
-second true b is = is
-second false b is = absurd (true≢false (sym is))
 
 contains_reversed : {X : Type 0} (xs : List X) (x : X) → Contains xs x → Contains (reverse xs) x
 contains_reversed [] x there = absurd (contains_nothing x there)
@@ -194,7 +179,7 @@ module _ (w : WorldState) (apart : AreApart w) where
       by_node index n at who =
           let same : index ≡ r.index = apart index r.index n r.node at r.at (who ∙ sym r.is_who) in
           let one : n ≡ r.node = same_Some n r.node (sym at ∙ ap (slice_get w.nodes) same ∙ r.at) in
-          unless_not (not n.runs) reason.NodeStopped _ (not_is n.runs (ap (λ (s : State). s.runs) one ∙ r.runs)) (unless_full (is_full w) _ tt)
+          unless_not (not n.runs) reason.NodeStopped _ (not_from_true n.runs (ap (λ (s : State). s.runs) one ∙ r.runs)) (unless_full (is_full w) _ tt)
 
       by_index : (o : Option ℕ) → node_of u w ≡ o → IsFullAtMost (acts e o (record w { founded = founded }))
       by_index (Some index) found =
@@ -222,11 +207,11 @@ module _ (w : WorldState) (apart : AreApart w) where
 
   start_answer : (u : UniqueModel) → MayStart (census_of w) u → IsFullAtMost (happens fixed (Start u) w)
   start_answer u may =
-      unless_not (not (is_listed fixed.listed u.address)) reason.Unlisted _ (not_is _ (listed_there u.address may.listed))
-      (unless_not (list_any (is_process u) w.nodes) reason.UniqueUsed _ (or_not _ unused)
-      (unless_not (is_in_use u.address w) reason.AddressInUse _ (or_not _ in_use)
+      unless_not (not (is_listed fixed.listed u.address)) reason.Unlisted _ (not_from_true _ (listed_there u.address may.listed))
+      (unless_not (list_any (is_process u) w.nodes) reason.UniqueUsed _ (false_from_ne_true _ unused)
+      (unless_not (is_in_use u.address w) reason.AddressInUse _ (false_from_ne_true _ in_use)
       (unless_full (is_full w) _
-      (unless_not (leb most_starts (length w.nodes)) reason.TooManyStarts _ (or_not _ many) tt))))
+      (unless_not (leb most_starts (length w.nodes)) reason.TooManyStarts _ (false_from_ne_true _ many) tt))))
     where
       unused : list_any (is_process u) w.nodes ≡ true → ⊥
       unused is =
@@ -237,9 +222,9 @@ module _ (w : WorldState) (apart : AreApart w) where
       in_use is =
           let found = any_found (runs_at u.address) w.nodes is in
           let at = index_of w.nodes found.0 found.1 in
-          let runs = and_first found.0.runs (is_eq (address_cmp (me_of found.0).address u.address)) found.2 in
+          let runs = first_so found.0.runs (is_eq (address_cmp (me_of found.0).address u.address)) found.2 in
           may.alone (me_of found.0) (there_running w.nodes (me_of found.0) (record { index = at.0; node = found.0; at = at.1; is_who = refl; runs = runs }))
-          (address_exact (me_of found.0).address u.address (is_equal _ (second found.0.runs (is_eq (address_cmp (me_of found.0).address u.address)) found.2)))
+          (address_exact (me_of found.0).address u.address (is_equal _ (second_so found.0.runs (is_eq (address_cmp (me_of found.0).address u.address)) found.2)))
 
       many : leb most_starts (length w.nodes) ≡ true → ⊥
       many is =
@@ -251,7 +236,7 @@ module _ (w : WorldState) (apart : AreApart w) where
   pub event_answer : (e : Event) → MayHappen (census_of w) e → IsFullAtMost (happens fixed e w)
   event_answer (Start u) may = start_answer u may
   event_answer (Found u) may = unless_not w.founded reason.SecondFound _ may.0 (acts_answer event.Found u true (running_there w.nodes u may.1))
-  event_answer (Join u target) may = unless_not (not (is_listed fixed.listed target)) reason.Unlisted _ (not_is _ (listed_there target may.0)) (acts_answer (event.Join target) u w.founded (running_there w.nodes u may.1))
+  event_answer (Join u target) may = unless_not (not (is_listed fixed.listed target)) reason.Unlisted _ (not_from_true _ (listed_there target may.0)) (acts_answer (event.Join target) u w.founded (running_there w.nodes u may.1))
   event_answer (Tick u word) may = acts_answer (event.Tick word) u w.founded (running_there w.nodes u may)
   event_answer (Deliver number) may = deliver_answer number may.0 may.1
   event_answer (Leave u who) may = acts_answer (event.Leave who) u w.founded (running_there w.nodes u may)

@@ -1,6 +1,7 @@
 -- What a generator sees of a world after a step is found from what it saw before and from the node that acted.
 use Rattle.std.proofs.Common.{◌≡◌, ◌≢◌, inl, inr, ℕ, zero, suc, ◌+◌, ◌<◌, ◌==◌, Bool, true, false, not, List, [], ◌∷◌, ◌++◌, length, slice_get, slice_set, Some, is_some, IsTrue, if◌then◌else◌, refl, sym, ap, ◌∙◌, arith, true≢false, length-append}
 use Rattle.std.specs.FinMap as finmap
+use Rattle.std.specs.Cmp.{both_ways}
 use Rattle.std.proofs.lemmas.Option.{slice_get_within}
 use Rattle.std.proofs.lemmas.Bool.{eqb-true, eq-eqb}
 use Rattle.ak_address.specs.Unique.{UniqueModel}
@@ -21,11 +22,6 @@ use Rattle.ak_sweeps.specs.RunContracts.{seen_with, followed}
 use Rattle.ak_sweeps.proofs.Answers.{AreApart}
 use Rattle.ak_sweeps.proofs.Censuses.{running_there, there_running, ran_before, runs_after}
 use Rattle.ak_sweeps.proofs.SightLemmas.{running-push}
-
-same_bool : (a b : Bool) → (a ≡ true → b ≡ true) → (b ≡ true → a ≡ true) → a ≡ b
-same_bool true b there back = sym (there refl)
-same_bool false true there back = back refl
-same_bool false false there back = refl
 
 length-slice_set : (xs : List State) (i : ℕ) (x : State) → length (slice_set xs i x) ≡ length xs
 length-slice_set [] i x = refl
@@ -56,7 +52,7 @@ less_is_other i n lt = by_case (i == n) refl
 module _ (nodes : List State) (index : ℕ) (n x : State) (at : slice_get nodes index ≡ Some n) (runs : IsTrue n.runs) (same : me_of x ≡ me_of n) where
   -- one that goes on
   goes_on : x.runs ≡ true → running nodes ≡ running (slice_set nodes index x)
-  goes_on on = same_uniques (running nodes) (running (slice_set nodes index x)) (λ q. same_bool (has (running nodes) q) (has (running (slice_set nodes index x)) q)
+  goes_on on = same_uniques (running nodes) (running (slice_set nodes index x)) (λ q. both_ways (has (running nodes) q) (has (running (slice_set nodes index x)) q)
       (λ h. elim (runs_after nodes index n x at runs same q (running_there nodes q h)) [
         | inl r ↦ there_running (slice_set nodes index x) q r
         | inr him ↦ there_running (slice_set nodes index x) q (record { index = index; node = x; at = set_here nodes index n x at; is_who = same ∙ sym him; runs = on })
@@ -71,7 +67,7 @@ module _ (nodes : List State) (index : ℕ) (n x : State) (at : slice_get nodes 
         (λ j m there other run who. other (apart j index m n there at who)) (λ run who. true≢false (sym run ∙ stopped)) r.index r.node r.at r.runs (r.is_who ∙ him ∙ same)
 
     stops : without_one (running nodes) (me_of x) ≡ running (slice_set nodes index x)
-    stops = same_uniques (without_one (running nodes) (me_of x)) (running (slice_set nodes index x)) (λ q. same_bool (has (without_one (running nodes) (me_of x)) q) (has (running (slice_set nodes index x)) q)
+    stops = same_uniques (without_one (running nodes) (me_of x)) (running (slice_set nodes index x)) (λ q. both_ways (has (without_one (running nodes) (me_of x)) q) (has (running (slice_set nodes index x)) q)
         (λ h. let b = has-without (running nodes) (me_of x) q h in elim (runs_after nodes index n x at runs same q (running_there nodes q b.1)) [
           | inl r ↦ there_running (slice_set nodes index x) q r
           | inr him ↦ absurd (b.0 (him ∙ sym same))

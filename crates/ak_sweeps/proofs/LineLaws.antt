@@ -2,6 +2,7 @@
 use Rattle.std.proofs.Common.{◌≡◌, ◌↔◌, ℕ, zero, suc, ◌+◌, lit<, Bool, true, false, List, [], ◌∷◌, length, take, slice_get, Option, Some, None, is_some, refl, sym, ap, ◌∙◌, subst, arith, true≢false}
 use Rattle.std.proofs.Math.Seq.{take-length}
 use Rattle.std.proofs.lemmas.Option.{same_Some}
+use Rattle.std.specs.Cmp.{both_ways}
 use Rattle.ak_schedule.specs.declared.event.Event.{Event}
 use Rattle.ak_generate.specs.Fixed.{fixed}
 use Rattle.ak_generate.specs.Generator.{seeded}
@@ -47,11 +48,6 @@ same_line a b seed steps packets history kept double =
     ∙ ap (λ x. record { seed = b.seed; steps = b.steps; packets = b.packets; history = b.history; kept = x; double = a.double }) kept
     ∙ ap (λ x. record { seed = b.seed; steps = b.steps; packets = b.packets; history = b.history; kept = b.kept; double = x }) double
 
-same_bool : (a b : Bool) → (a ≡ true → b ≡ true) → (b ≡ true → a ≡ true) → a ≡ b
-same_bool true b there back = sym (there refl)
-same_bool false true there back = back refl
-same_bool false false there back = refl
-
 both_false : (a b : Bool) → (a ≡ false → b ≡ false) → (b ≡ false → a ≡ false) → a ≡ b
 both_false false b there back = sym (there refl)
 both_false true false there back = back refl
@@ -60,7 +56,7 @@ both_false true true there back = refl
 tells_one : (seed : ℕ) (events : List Event) (a b : Line) → Tells seed events a → Tells seed events b → a ≡ b
 tells_one seed events a b p q =
     same_line a b (p.seed_is ∙ sym q.seed_is) (p.steps ∙ sym q.steps) (p.packets ∙ sym q.packets) (p.history ∙ sym q.history)
-    (same_bool a.kept b.kept (λ e. q.kept.1 (p.kept.0 e)) (λ e. p.kept.1 (q.kept.0 e)))
+    (both_ways a.kept b.kept (λ e. q.kept.1 (p.kept.0 e)) (λ e. p.kept.1 (q.kept.0 e)))
     (both_false a.double b.double (λ e. q.double.1 (p.double.0 e)) (λ e. p.double.1 (q.double.0 e)))
 
 pub one_line : (seed most : ℕ) (a b : Line) → IsLineOf seed most a → IsLineOf seed most b → a ≡ b

@@ -6,7 +6,7 @@ use Rattle.std.specs.Ordering.{is_eq, is_lt, ordering_reverse}
 use Rattle.std.specs.declared.cmp.Ordering.{Ordering}
 use Rattle.std.specs.declared.cmp.Ordering.TheVariants.{Less, Equal, Greater}
 use Rattle.ak_address.specs.Unique.{UniqueModel, unique_cmp}
-use Rattle.ak_address.proofs.OrderLemmas.{unique_total, unique_exact}
+use Rattle.ak_address.proofs.OrderLemmas.{unique_total, unique_exact, less_of}
 use Rattle.ak_address.proofs.TableLaws.{key_itself}
 use Rattle.ak_sharding.specs.Alive.{IsActive}
 use Rattle.ak_wire.specs.declared.action.Action.{Action}
@@ -177,11 +177,6 @@ both_hold false b is = absurd (true≢false (sym is))
 both_test : (a b : Bool) → IsTrue a → b ≡ true → a && b ≡ true
 both_test true b holds is = is
 both_test false b holds is = absurd (true≢false (sym holds))
-
-less_of : (o : Ordering) → is_lt o ≡ true → o ≡ Less
-less_of Less is = refl
-less_of Equal is = absurd (true≢false (sym is))
-less_of Greater is = absurd (true≢false (sym is))
 
 pub passed_itself : (nodes : List State) (entity : List ℕ) (but index : ℕ) (found : Option ℕ) → FirstKeeper (take index nodes) entity but found → index ≡ but → FirstKeeper (take (index + 1) nodes) entity but found
 passed_itself nodes entity but index None none same = none_stays nodes entity but index none (λ k apart. apart same)

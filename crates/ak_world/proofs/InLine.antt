@@ -5,8 +5,7 @@ use Rattle.std.specs.List.{list_any}
 use Rattle.std.specs.Ordering.{is_eq}
 use Rattle.ak_address.specs.Distinct.{distinct}
 use Rattle.ak_address.specs.Unique.{AddressModel, UniqueModel, address_cmp}
-use Rattle.ak_address.proofs.Elements.{any_found, in_map}
-use Rattle.ak_address.proofs.OrderLemmas.{tied_is}
+use Rattle.ak_address.proofs.Elements.{in_map}
 use Rattle.ak_address.proofs.SharedAddress.{shared_address}
 use Rattle.ak_clock.specs.Version.{Counts, Covers}
 use Rattle.ak_clock.proofs.VersionLaws.{covers_along}
@@ -20,6 +19,7 @@ use Rattle.ak_history.specs.Shown.{IsNamed}
 use Rattle.ak_history.proofs.Covering.{size}
 use Rattle.ak_line.proofs.Comparable as line
 use Rattle.ak_settings.specs.Settings.{SettingsModel, settling_size, is_listed}
+use Rattle.ak_settings.proofs.ListedLemmas.{contains_from}
 use Rattle.ak_node.specs.declared.node.State.{State}
 use Rattle.ak_node.specs.Node.{me_of}
 use Rattle.ak_world.specs.Remembered.{Remembered}
@@ -29,9 +29,6 @@ use Rattle.ak_world.proofs.Founding.{either_way, in_history, risen, founding_cov
 use Rattle.ak_world.proofs.Processes.{IsThere}
 use Rattle.ak_world.proofs.RaisedFor.{Raised}
 use Rattle.ak_world.proofs.Rises.{counted_named, named_more}
-
-listed_in : (listed : List AddressModel) (a : AddressModel) → is_listed listed a ≡ true → Contains listed a
-listed_in listed a is = let h = any_found (λ b. is_eq (address_cmp b a)) listed is in subst (Contains listed) (tied_is h.0 a h.2) h.1
 
 -- no more are different than there are
 pub distinct-length : (addresses : List AddressModel) → distinct addresses ≤ length addresses
@@ -86,7 +83,7 @@ module _ (settings : SettingsModel) (r : Remembered) (k : Raised settings r) (fe
   all_listed v a there =
       let c = counted_at v a there in
       let n = counted_there v c.0.0 c.0.1 c.1 in
-      listed_in settings.listed a (ap (is_listed settings.listed) (c.2 ∙ ap (λ (u : UniqueModel). u.address) (sym n.is_who)) ∙ (k.basis.processes.sane n.index n.node n.at).listed)
+      contains_from settings.listed a (ap (is_listed settings.listed) (c.2 ∙ ap (λ (u : UniqueModel). u.address) (sym n.is_who)) ∙ (k.basis.processes.sane n.index n.node n.at).listed)
 
   -- ---- why a counted one counts, in the words of the argument
   rose_as : (w : Counts) → on w → (who : UniqueModel) (number : ℕ) → IsCounted (view r.world.history w).standings who number → (j : ℕ) (m : State) → slice_get r.world.nodes j ≡ Some m → me_of m ≡ who

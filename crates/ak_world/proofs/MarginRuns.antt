@@ -3,10 +3,10 @@
 use Rattle.std.proofs.Common.{length-append, ◌≡◌, append_assoc, append-nil, ◌≢◌, ℕ, zero, suc, ◌+◌, ◌<◌, ◌≤◌, Bool, true, false, ◌&&◌, ◌⊎◌, inl, inr, List, [], ◌∷◌, ◌++◌, length, take, Option, Some, None, is_some, position, Ok, slice_get, slice_set, IsTrue, refl, sym, ap, ◌∙◌, subst, arith, add-one, true≢false, Result, Err}
 use Rattle.std.proofs.lemmas.Option.{same_Some, slice_get_within}
 use Rattle.std.specs.Ordering.{is_eq}
+use Rattle.std.specs.Cmp.{first_so, second_so}
 use Rattle.ak_address.specs.Unique.{UniqueModel, unique_cmp}
 use Rattle.ak_address.proofs.Elements.{contains_nothing, any_there, contains_at}
 use Rattle.ak_address.proofs.TableLaws.{key_itself, same_key}
-use Rattle.ak_gossip.proofs.InvariantLemmas.{and_first, and_second}
 use Rattle.ak_settings.specs.Settings.{SettingsModel}
 use Rattle.ak_schedule.specs.declared.event.Event.{Event}
 use Rattle.ak_wire.specs.declared.action.Action.{Action}
@@ -137,7 +137,7 @@ runs_found nodes who r =
 found_runs : (nodes : List State) (who : UniqueModel) (j : ℕ) (m : State) → position (runs_as who) nodes ≡ Some j → slice_get nodes j ≡ Some m → (me_of m ≡ who) × IsTrue m.runs
 found_runs nodes who j m is at =
     let passes = position_passes (runs_as who) nodes j m is at in
-    (same_key (me_of m) who (and_second m.runs (is_eq (unique_cmp (me_of m) who)) passes), and_first m.runs (is_eq (unique_cmp (me_of m) who)) passes)
+    (same_key (me_of m) who (second_so m.runs (is_eq (unique_cmp (me_of m) who)) passes), first_so m.runs (is_eq (unique_cmp (me_of m) who)) passes)
 
 -- what is found is there
 in_range : (xs : List State) (j : ℕ) → j < length xs → (x : State) × (slice_get xs j ≡ Some x)

@@ -92,7 +92,7 @@ noted_covered e n runs before = by_case (step_notes e n runs)
         (covers_along (known (step e n).0).version (known n).version (version_of n.membership.settled.view) (step_covers e n runs) before)
     by_case (inr now) = covers_equal (known (step e n).0).version (version_of (step e n).0.membership.settled.view) (sym now.version)
 
-or_not : (b : Bool) → (IsTrue b → ⊥) → b ≡ false
+pub or_not : (b : Bool) → (IsTrue b → ⊥) → b ≡ false
 or_not true never = absurd (never refl)
 or_not false never = refl
 

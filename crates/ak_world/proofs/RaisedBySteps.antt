@@ -36,7 +36,7 @@ use Rattle.ak_world.proofs.Naming.{member_named}
 use Rattle.ak_world.proofs.RaisedFor.{IsFoundation, MayDo, NoForesight, Raised, FoundersStay, may_then}
 use Rattle.ak_world.proofs.Rises.{named_back, up_rose}
 
-up_is : (status : Status) → is_up status ≡ true → status ≡ Up
+pub up_is : (status : Status) → is_up status ≡ true → status ≡ Up
 up_is Joining is = absurd (true≢false (sym is))
 up_is Up is = refl
 up_is Leaving is = absurd (true≢false (sym is))

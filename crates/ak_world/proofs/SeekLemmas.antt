@@ -3,10 +3,10 @@ use Rattle.std.proofs.Common.{◌≡◌, ℕ, zero, suc, ◌+◌, ◌<◌, ◌^�
 use Rattle.std.proofs.lemmas.Option.{none-some, same_Some, slice_get-map}
 use Rattle.std.specs.List.{position_or_len}
 use Rattle.std.specs.Option.{option_map}
+use Rattle.std.specs.Cmp.{first_so, second_so}
 use Rattle.ak_address.specs.Unique.{UniqueModel}
 use Rattle.ak_address.proofs.OrderLemmas.{tied_is}
 use Rattle.ak_address.proofs.TableLaws.{same_key}
-use Rattle.ak_gossip.proofs.InvariantLemmas.{and_first, and_second}
 use Rattle.ak_settings.specs.Settings.{SettingsModel}
 use Rattle.ak_schedule.specs.declared.event.Event.{Event}
 use Rattle.ak_wire.specs.declared.envelope.Envelope.{Envelope}
@@ -50,11 +50,11 @@ module _ (w : WorldState) (nodes : List NodeModel) (are : w.nodes ≡ states nod
 
   pub one_receiver : RunAlone w → (e : Envelope) → OneAtMost (λ (n : NodeModel). is_reached e n.state) nodes
   one_receiver alone e i j n m at also is too =
-      alone i j n.state m.state (there i n at) (there j m also) (and_first n.state.runs (is_for (me_of n.state) e) is) (and_first m.state.runs (is_for (me_of m.state) e) too)
+      alone i j n.state m.state (there i n at) (there j m also) (first_so n.state.runs (is_for (me_of n.state) e) is) (first_so m.state.runs (is_for (me_of m.state) e) too)
       (sym (reached_at n.state is) ∙ reached_at m.state too)
     where
       reached_at : (n : State) → is_reached e n ≡ true → e.to ≡ (me_of n).address
-      reached_at n is = tied_is e.to (me_of n).address (and_first _ _ (and_second n.runs (is_for (me_of n) e) is))
+      reached_at n is = tied_is e.to (me_of n).address (first_so _ _ (second_so n.runs (is_for (me_of n) e) is))
 
 -- ---- the world of fewer than 2 ^ 62 events is ready for one more
 pub ready_run : (settings : SettingsModel) (events : List Event) → length events < 2 ^ 62 → IsReady (run settings events)

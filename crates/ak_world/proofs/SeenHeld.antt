@@ -1,16 +1,14 @@
 -- Each process in a seen set held exactly that version.
 use Rattle.std.proofs.Common.{◌≡◌, ◌≢◌, ℕ, ◌+◌, max, Bool, true, false, ◌||◌, if◌then◌else◌, inl, inr, List, [], ◌∷◌, ◌++◌, length, take, Option, Some, None, is_some, option_and_then, Result, Ok, Err, slice_get, slice_set, Contains, IsTrue, refl, sym, ap, ◌∙◌, subst, arith, true≢false, append_assoc}
 use Rattle.std.proofs.lemmas.Option.{same_Some}
-use Rattle.std.specs.Prelude.{unwrap_or}
 use Rattle.std.specs.FinMap as map
 use Rattle.ak_address.specs.Unique.{UniqueModel, unique_cmp}
 use Rattle.ak_address.specs.Uniques.{has, with_one, no_one}
-use Rattle.ak_address.specs.Table.{merged_at}
 use Rattle.ak_address.proofs.TableLaws.{same_table, same_or_apart, same_key, get-empty, get-insert_here, get-insert_elsewhere, get-merged_tables}
 use Rattle.ak_address.proofs.UniquesLaws.{has-no_one, has-with_one}
 use Rattle.std.specs.Ordering.{eq_by_cmp}
 use Rattle.ak_clock.specs.Version.{Counts, count, covers, relation_by, bumped, Covers}
-use Rattle.ak_clock.proofs.VersionLaws.{covers_from_test}
+use Rattle.ak_clock.proofs.VersionLaws.{covers_from_test, no_zero_at, same_at}
 use Rattle.ak_member.specs.Standing.{is_member}
 use Rattle.ak_gossip.specs.Gossip.{GossipState, nothing_known, accepted, marked_seen, same, both, seen_by}
 use Rattle.ak_gossip.proofs.GossipLaws.{same_seen}
@@ -43,19 +41,8 @@ pub record Knew (held : List (UniqueModel × Counts)) (g : GossipState) : Type 0
 longer : (held : List (UniqueModel × Counts)) (x : UniqueModel × Counts) (g : GossipState) → Knew held g → Knew (x ∷ held) g
 longer held x g k = record { each = λ u seen. contains_rest x (u, g.version) held (k.each u seen); no_zero = k.no_zero }
 
-counts_alike : (a b : Option ℕ) → a ≢ Some 0 → b ≢ Some 0 → unwrap_or a 0 ≡ unwrap_or b 0 → a ≡ b
-counts_alike None None p q e = refl
-counts_alike None (Some y) p q e = absurd (q (ap Some (sym e)))
-counts_alike (Some x) None p q e = absurd (p (ap Some e))
-counts_alike (Some x) (Some y) p q e = ap Some e
-
 one_version : (v w : Counts) → ((u : UniqueModel) → map.get v u ≢ Some 0) → ((u : UniqueModel) → map.get w u ≢ Some 0) → Covers v w → Covers w v → v ≡ w
-one_version v w p q over under = same_table v w (λ u. counts_alike (map.get v u) (map.get w u) (p u) (q u) (let a : count w u ≡ count w u = refl in omega (arith, over u, under u)))
-
-merged_no_zero : (a b : Option ℕ) → a ≢ Some 0 → b ≢ Some 0 → merged_at max a b ≢ Some 0
-merged_no_zero None b p q e = q e
-merged_no_zero (Some x) None p q e = p e
-merged_no_zero (Some x) (Some y) p q e = let zero_max : max x y ≡ 0 = ap (λ o. unwrap_or o 0) e in p (ap Some (omega arith))
+one_version v w p q over under = same_table v w (λ u. same_at (map.get v u) (map.get w u) (p u) (q u) (let a : count w u ≡ count w u = refl in omega (arith, over u, under u)))
 
 bumped_no_zero : (v : Counts) (a u : UniqueModel) → ((q : UniqueModel) → map.get v q ≢ Some 0) → map.get (bumped v a) u ≢ Some 0
 bumped_no_zero v a u p e = elim (same_or_apart u a) [
@@ -119,7 +106,7 @@ module _ (held : List (UniqueModel × Counts)) (me : UniqueModel) (own : GossipS
   taking incoming false true p q h now = seen_by_knew incoming h now
   taking incoming false false p q h now = seen_by_knew (both own incoming) (record {
     each = λ u seen. absurd (true≢false (sym seen ∙ has-no_one u));
-    no_zero = λ u e. merged_no_zero (map.get own.version u) (map.get incoming.version u) (k.no_zero u) (h.no_zero u) (sym (get-merged_tables max own.version incoming.version u) ∙ e);
+    no_zero = λ u e. no_zero_at (map.get own.version u) (map.get incoming.version u) (k.no_zero u) (h.no_zero u) (sym (get-merged_tables max own.version incoming.version u) ∙ e);
   }) now
 
   pub learnt_knew : (c : Knowledge) → ((g : GossipState) → c ≡ Accepts g → Knew held g) → Contains held (me, (learnt me c own).version) → Knew held (learnt me c own)

@@ -12,7 +12,7 @@ use Rattle.ak_member.specs.declared.standing.Standing.{Standing}
 use Rattle.ak_member.specs.declared.standing.Standing.TheVariants.{Member, Buried}
 use Rattle.ak_member.specs.declared.status.Status.{Status}
 use Rattle.ak_member.specs.declared.status.Status.TheVariants.{Joining}
-use Rattle.ak_member.specs.Age.{counts, counted_pairs, least_pair, IsOldest}
+use Rattle.ak_member.specs.Age.{counted_pairs, least_pair, IsOldest}
 use Rattle.ak_member.specs.Standing.{Standings, member_of, members_of, tombstone_of, is_up}
 use Rattle.ak_address.proofs.TableLaws.{get-empty}
 use Rattle.ak_member.proofs.OldestLaws.{oldest_is}
@@ -27,7 +27,7 @@ use Rattle.ak_schedule.specs.declared.event.Event.{Event}
 use Rattle.ak_settled.specs.Settled.{is_finished, needed, candidate, ticked}
 use Rattle.ak_settled.specs.SettledView.{SettledView, SettledModel, NotedView}
 use Rattle.ak_settled.proofs.SettledLaws as settled
-use Rattle.ak_settled.proofs.SettledLaws.{finished_means}
+use Rattle.ak_settled.proofs.SettledLaws.{finished_means, counts_risen}
 use Rattle.ak_membership.specs.Knowledge.{WaitsOn}
 use Rattle.ak_node.specs.declared.node.State.{State}
 use Rattle.ak_node.specs.Node.{settled_of}
@@ -53,9 +53,6 @@ raises_above settings events =
     let base = base_of settings r k entry there in
     k.may entry base.0 (Rise who Joining number) base.1 does)
 
-counts_apart : (status : Status) → counts status ≡ true → status ≢ Joining
-counts_apart status is joining = true≢false (sym is ∙ ap counts joining)
-
 -- ---- of a view that shows what a history shows at its version
 module _ (history : List Entry) (above : RaisesAbove history) (noted : NotedView) (shown_is : noted.standings ≡ (view history noted.version).standings) where
   -- the candidate has aged, and was not removed
@@ -64,7 +61,7 @@ module _ (history : List Entry) (above : RaisesAbove history) (noted : NotedView
       let oldest : IsOldest noted.standings (Some who) = subst (IsOldest noted.standings) is (oldest_is noted.standings (least_pair (counted_pairs (members_of noted.standings))) refl) in
       let c = oldest.1 in
       let member : member_of (map.get (view history noted.version).standings who) ≡ Some (c.0, oldest.0) = ap (λ (s : Standings). member_of (map.get s who)) (sym shown_is) ∙ c.1 in
-      (risen_aged history noted.version who c.0 oldest.0 member (counts_apart c.0 c.2), member_not_removed history noted.version who (c.0, oldest.0) member)
+      (risen_aged history noted.version who c.0 oldest.0 member (counts_risen c.0 c.2), member_not_removed history noted.version who (c.0, oldest.0) member)
 
   -- whoever has aged is needed, or finished
   pub needed_or_over : (margin : ℕ) (who : UniqueModel) → IsAged history noted.version who → IsTrue (has (needed margin (Some noted)) who) ⊎ IsTrue (is_finished margin (Some noted) who)

@@ -413,8 +413,3 @@ run-went settings new_settings w v events new_events e s is_run same_settings ev
 pub at-ok : {X Y : Type 0} (r : Result X Y) (P : Type 0) → is_ok r ≡ true → OnOk r P → P
 at-ok (Ok x) P e p = p
 at-ok (Err y) P e p = absurd (true≢false (sym e))
-
--- what is true whatever was answered is true on each answer
-pub on-ok : {X Y P : Type 0} (r : Result X Y) → P → OnOk r P
-on-ok (Ok x) p = p
-on-ok (Err y) p = tt

@@ -2,10 +2,11 @@ use Rattle.std.proofs.Common.{[], length, option_to_list, ◌+◌, ◌++◌, map
 use Rattle.ak_address.specs.Uniques.{in_order}
 use Rattle.std.proofs.lemmas.List.{length-map, nil_from_length}
 use Rattle.ak_address.proofs.Failing.{on_err_not}
+use Rattle.ak_address.proofs.UniquesLaws.{length-in_order}
 use Rattle.ak_member.proofs.MemberLemmas.{kept_at_end}
 use Rattle.ak_member.proofs.Folds.{kept_none, keeps_all}
 use Rattle.ak_coordinator.specs.Tick.{begin_order}
-use Rattle.ak_coordinator.proofs.LoadLemmas.{many_in_order, begins_next}
+use Rattle.ak_coordinator.proofs.LoadLemmas.{begins_next}
 use Rattle.ak_coordinator.proofs.orders.push_begins.Goals as goal
 
 pub waits-preserved : goal.waits-preserved
@@ -22,7 +23,7 @@ returns-clause-ok c =
     let f = begin_order c.args.shard c.args.number in
     let whos = in_order c.args.waits.now in
     sym (append-nil c.waits.orders.items)
-    ∙ ap (λ l. c.waits.orders.items ++ map f l) (sym (kept_at_end (λ xs. xs) keeps_all whos c.waits.index (let many = many_in_order c.args.waits.now in omega arith)))
+    ∙ ap (λ l. c.waits.orders.items ++ map f l) (sym (kept_at_end (λ xs. xs) keeps_all whos c.waits.index (let many = length-in_order c.args.waits.now in omega arith)))
     ∙ c.waits.invariant
 
 -- where it fails, somebody is waited for

@@ -1,7 +1,7 @@
 use Rattle.std.proofs.Common.{refl, inr, ap, ◌∙◌, ◌<◌, arith}
+use Rattle.ak_address.proofs.Failing.{on_err}
 use Rattle.ak_settled.specs.Settled.{standings_of}
 use Rattle.ak_coordinator.specs.Tick.{moving, first_leaver}
-use Rattle.ak_coordinator.proofs.TickLemmas.{on_err}
 use Rattle.ak_coordinator.proofs.RoomLemmas.{begins_ordered}
 use Rattle.ak_coordinator.proofs.tick.begin_one.Goals as goal
 

@@ -1,10 +1,11 @@
 use Rattle.std.proofs.Common.{◌≡◌, set, arith, sym, ap, ◌∙◌}
 use Rattle.std.proofs.lemmas.List.{nil_from_length, set-get_or}
+use Rattle.ak_address.proofs.Failing.{on_err}
 use Rattle.ak_member.specs.Standing.{tombstones_of}
 use Rattle.ak_shard_id.proofs.Walks.{written}
 use Rattle.ak_coordinator.specs.Entry.{unplaced}
 use Rattle.ak_coordinator.specs.Tick.{noticed}
-use Rattle.ak_coordinator.proofs.TickLemmas.{none_noticed, on_err}
+use Rattle.ak_coordinator.proofs.TickLemmas.{none_noticed}
 use Rattle.ak_coordinator.proofs.RoomLemmas.{waited_at}
 use Rattle.ak_coordinator.proofs.tick.notice_each.Goals as goal
 

@@ -3,9 +3,9 @@ use Rattle.std.specs.List.{filter}
 use Rattle.ak_address.specs.Uniques.{no_one, has, set_of, with_one, in_order}
 use Rattle.ak_address.proofs.Failing.{on_err_not}
 use Rattle.ak_address.proofs.CountersLaws.{set_walked}
+use Rattle.ak_address.proofs.UniquesLaws.{length-in_order}
 use Rattle.ak_member.proofs.Folds.{kept_none, set_of_none, fold_next, fold_end, keeps_filtered, keeps_all}
 use Rattle.ak_coordinator.specs.Tick.{is_unfinished}
-use Rattle.ak_coordinator.proofs.LoadLemmas.{many_in_order}
 use Rattle.ak_coordinator.proofs.tick.unfinished.Goals as goal
 
 pub whos-preserved : goal.whos-preserved
@@ -16,7 +16,7 @@ whos-preserved c =
 pub returns-clause-ok : goal.returns-clause-ok
 returns-clause-ok c =
     let p = is_unfinished c.args.margin c.args.settled.now.view in
-    fold_end (filter p) (keeps_filtered (λ xs. xs) keeps_all p) with_one (in_order c.args.whos.now) c.whos.index c.whos.left _ (let many = many_in_order c.args.whos.now in omega arith) c.whos.invariant
+    fold_end (filter p) (keeps_filtered (λ xs. xs) keeps_all p) with_one (in_order c.args.whos.now) c.whos.index c.whos.left _ (let many = length-in_order c.args.whos.now in omega arith) c.whos.invariant
     ∙ set_walked (filter p (in_order c.args.whos.now))
 
 -- where it fails, there is one

@@ -2,11 +2,12 @@ use Rattle.std.proofs.Common.{ap, arith}
 use Rattle.std.specs.FinMap as map
 use Rattle.ak_address.specs.Unique.{unique_cmp}
 use Rattle.ak_address.proofs.Failing.{on_err_not}
+use Rattle.ak_address.proofs.UniquesLaws.{length-in_order}
 use Rattle.std.specs.List.{filter}
 use Rattle.ak_address.specs.Uniques.{no_one, how_many, with_one, in_order}
 use Rattle.ak_member.specs.Standing.{is_member}
 use Rattle.ak_member.proofs.Folds.{fold_next, fold_end}
-use Rattle.ak_detector.proofs.DetectorLemmas.{keeps_those, length-in_order}
+use Rattle.ak_detector.proofs.DetectorLemmas.{keeps_those}
 use Rattle.ak_detector.proofs.detector.add_members.Goals as goal
 
 pub whos-preserved : goal.whos-preserved

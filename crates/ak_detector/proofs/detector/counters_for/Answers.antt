@@ -5,8 +5,9 @@ use Rattle.ak_address.proofs.Failing.{on_err_not}
 use Rattle.ak_address.specs.Uniques.{no_one, how_many, in_order}
 use Rattle.ak_address.specs.Counters.{counter}
 use Rattle.ak_address.proofs.CountersLaws.{each_walked}
+use Rattle.ak_address.proofs.UniquesLaws.{length-in_order}
 use Rattle.ak_member.proofs.Folds.{keeps_all, fold_next, fold_end}
-use Rattle.ak_detector.proofs.DetectorLemmas.{length-in_order, pair_there}
+use Rattle.ak_detector.proofs.DetectorLemmas.{pair_there}
 use Rattle.ak_detector.proofs.detector.counters_for.Goals as goal
 
 pub watched-preserved : goal.watched-preserved

@@ -1,7 +1,8 @@
 use Rattle.std.proofs.Common.{sym, ◌∙◌, subst, arith}
 use Rattle.ak_address.specs.Uniques.{in_order}
+use Rattle.ak_address.proofs.UniquesLaws.{length-in_order}
 use Rattle.ak_member.specs.Standing.{is_member}
-use Rattle.ak_gossip.proofs.SeenLemmas.{HasAdded, added_none, added_more, added_all, not_none, take_indices, length-in_order}
+use Rattle.ak_gossip.proofs.SeenLemmas.{HasAdded, added_none, added_more, added_all, not_none, take_indices}
 use Rattle.ak_gossip.proofs.gossip.add_members.Goals as goal
 use Rattle.ak_gossip.proofs.gossip.add_members.Goals.{in-Some+in_ok-add_member, in_default}
 

@@ -2,8 +2,7 @@ use Rattle.std.proofs.Common.{slice_get, leb-true, inl, inr, sym, ap, ◌∙◌,
 use Rattle.std.proofs.lemmas.Option.{slice_get_within}
 use Rattle.ak_address.specs.Uniques.{in_order}
 use Rattle.ak_address.proofs.Pairs.{before_or}
-use Rattle.ak_address.proofs.UniquesLaws.{has_at, index_of_has}
-use Rattle.ak_gossip.proofs.SeenLemmas.{length-in_order}
+use Rattle.ak_address.proofs.UniquesLaws.{has_at, index_of_has, length-in_order}
 use Rattle.ak_gossip.proofs.gossip.are_among.Goals as goal
 use Rattle.ak_gossip.proofs.gossip.are_among.Goals.{then-is_the_same, else-is_the_same}
 

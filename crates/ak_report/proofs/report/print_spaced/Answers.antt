@@ -1,8 +1,9 @@
 use Rattle.std.proofs.Common.{arith, ◌++◌, ap, sym, ◌∙◌, option_to_list, append-nil}
 use Rattle.std.proofs.lemmas.List.{at_drop_all}
 use Rattle.ak_address.specs.Uniques.{in_order}
+use Rattle.ak_address.proofs.UniquesLaws.{length-in_order}
 use Rattle.ak_report.specs.ActionText.{spaced_text}
-use Rattle.ak_report.proofs.TextLemmas.{spaced_more, ended, members_counted}
+use Rattle.ak_report.proofs.TextLemmas.{spaced_more, ended}
 use Rattle.ak_report.proofs.report.print_spaced.Goals as goal
 use Rattle.ak_report.proofs.report.print_spaced.Goals.{in-Some+in_ok-print_bytes+in_ok-print_into, in_default}
 
@@ -14,11 +15,11 @@ processes-preserved c =
           (spaced_more (in_order c.args.who.now) c.processes.index w.in-Some.one.now _ _ _ _ (ap option_to_list w.in-Some.ensures)
           w.in_ok-print_bytes.ensures.ok w.in_ok-print_into.ensures.ok c.processes.invariant)
       | in_default w ↦
-          let counted = members_counted c.args.who.now in
+          let counted = length-in_order c.args.who.now in
           absurd (ended (in_order c.args.who.now) c.processes.index (sym w.in_default.ensures) (omega arith))
     ]
 
 pub returns : goal.returns
 returns c =
-    let counted = members_counted c.args.who.now in
+    let counted = length-in_order c.args.who.now in
     sym (append-nil c.processes.out.items) ∙ sym (at_drop_all (λ us. c.processes.out.items ++ spaced_text us) (in_order c.args.who.now) c.processes.index (omega arith)) ∙ c.processes.invariant

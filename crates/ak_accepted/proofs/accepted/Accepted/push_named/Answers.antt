@@ -1,8 +1,8 @@
 use Rattle.std.proofs.Common.{List, [], ◌∷◌, ◌++◌, sym, subst, ap, ◌∙◌}
+use Rattle.ak_address.proofs.Failing.{on_err}
 use Rattle.ak_schedule.specs.declared.event.Event.{Event}
 use Rattle.ak_accepted.specs.Accepted.{events_of, AreKept}
 use Rattle.ak_accepted.proofs.AcceptedLemmas.{events_grown, kept_grown, events_pushed, kept_pushed}
-use Rattle.ak_accepted.proofs.AcceptedLemmas.{on-err}
 use Rattle.ak_accepted.proofs.accepted.Accepted.push_named.Goals as goal
 
 pub invariant_of-self : goal.invariant_of-self
@@ -11,7 +11,7 @@ invariant_of-self c =
 
 pub returns-in_err-form-clause-err : goal.returns-in_err-form-clause-err
 returns-in_err-form-clause-err c =
-    on-err c.from_residual.result
+    on_err c.from_residual.result
     (events_grown c.self.inside.parts.list.items c.form_of.new.parts.list.items c.self.inside.forms.items c.in_err-form.ensures.grows c.self.invariant ∙ c.self.view_is)
 
 pub invariant_of-self-in_err-push : goal.invariant_of-self-in_err-push
@@ -23,7 +23,7 @@ invariant_of-self-in_err-push c =
 pub returns-in_err-push-clause-err : goal.returns-in_err-push-clause-err
 returns-in_err-push-clause-err c =
     let parts = c.form_of.new.parts.list.items in
-    on-err c.from_residual-in_err-push.result
+    on_err c.from_residual-in_err-push.result
     (ap (events_of parts) c.in_err-push.ensures.items
     ∙ events_grown c.self.inside.parts.list.items parts c.self.inside.forms.items c.in_ok-form.ensures.grows c.self.invariant
     ∙ c.self.view_is)

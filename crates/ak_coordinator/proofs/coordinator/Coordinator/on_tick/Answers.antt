@@ -1,8 +1,9 @@
 use Rattle.std.proofs.Common.{◌≡◌, ◌≢◌, ◌⊎◌, inl, inr, [], map, subst, ◌∙◌, arith}
 use Rattle.std.proofs.lemmas.Result.{on_err_weaker}
 use Rattle.std.proofs.lemmas.Grind.{common_steps}
+use Rattle.ak_address.proofs.Failing.{on_err}
 use Rattle.ak_coordinator.specs.Tick.{noticed, hurried, after_begin, after_tick, orders_from, AnyWaited, ComparesLoads}
-use Rattle.ak_coordinator.proofs.TickLemmas.{on_err, all_noticed}
+use Rattle.ak_coordinator.proofs.TickLemmas.{all_noticed}
 use Rattle.ak_coordinator.proofs.coordinator.Coordinator.on_tick.Goals as goal
 
 -- after the shards were looked at for finished nodes

@@ -1,9 +1,10 @@
 use Rattle.std.proofs.Common.{Some, ◌++◌, not, is_some, sym, ap, ◌∙◌}
 use Rattle.std.specs.FinMap as map
 use Rattle.std.proofs.lemmas.Map.Steps.{set_value_same}
+use Rattle.ak_address.proofs.Failing.{on_err}
 use Rattle.ak_entity.specs.Entities.{delivered}
 use Rattle.ak_entity.specs.Stored.{pairs_of}
-use Rattle.ak_entity.proofs.StoredLemmas.{stored_get, inserted_into, written, on_err, put_sorted, put_is}
+use Rattle.ak_entity.proofs.StoredLemmas.{stored_get, inserted_into, written, put_sorted, put_is}
 use Rattle.ak_entity.proofs.entities.Entities.deliver.Goals as goal
 
 pub invariant_of-self : goal.invariant_of-self

@@ -2,7 +2,7 @@ use Rattle.std.proofs.Common.{◌&&◌, sym, ap, ◌∙◌, arith}
 use Rattle.std.specs.Prelude.{not}
 use Rattle.ak_address.specs.Changed.{keys_of}
 use Rattle.ak_address.specs.Uniques.{has, in_order, how_many}
-use Rattle.ak_detector.proofs.DetectorLemmas.{length-in_order}
+use Rattle.ak_address.proofs.UniquesLaws.{length-in_order}
 use Rattle.ak_member.proofs.Folds.{keeps_all}
 use Rattle.ak_membership.specs.Tick.{silent, own_subjects}
 use Rattle.ak_membership.proofs.SilenceLemmas.{found_watched}

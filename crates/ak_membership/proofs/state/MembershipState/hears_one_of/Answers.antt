@@ -1,7 +1,7 @@
 use Rattle.std.proofs.Common.{◌&&◌, sym, arith}
 use Rattle.std.specs.Prelude.{not}
 use Rattle.ak_address.specs.Uniques.{has, in_order}
-use Rattle.ak_detector.proofs.DetectorLemmas.{length-in_order}
+use Rattle.ak_address.proofs.UniquesLaws.{length-in_order}
 use Rattle.ak_member.proofs.Folds.{keeps_all}
 use Rattle.ak_member.specs.Standing.{is_member}
 use Rattle.ak_membership.specs.Tick.{silent}

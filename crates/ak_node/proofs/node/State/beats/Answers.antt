@@ -3,7 +3,7 @@ use Rattle.ak_address.specs.Changed.{keys_of}
 use Rattle.ak_address.specs.Counters.{Counters}
 use Rattle.ak_address.specs.Unique.{UniqueModel}
 use Rattle.ak_address.specs.Uniques.{in_order}
-use Rattle.ak_detector.proofs.DetectorLemmas.{length-in_order}
+use Rattle.ak_address.proofs.UniquesLaws.{length-in_order}
 use Rattle.ak_member.proofs.Folds.{keeps_all}
 use Rattle.ak_wire.specs.declared.action.Action.{Action}
 use Rattle.ak_wire.specs.declared.action.Action.TheVariants as action

@@ -1,7 +1,8 @@
 use Rattle.std.proofs.Common.{refl, arith}
 use Rattle.ak_address.specs.Uniques.{in_order}
+use Rattle.ak_address.proofs.UniquesLaws.{length-in_order}
 use Rattle.ak_member.proofs.SameLemmas.{same_elements}
-use Rattle.ak_packet.proofs.SameLemmas.{length-in_order, same_in_order}
+use Rattle.ak_packet.proofs.SameLemmas.{same_in_order}
 use Rattle.ak_packet.proofs.same.UniquesSame.is_same.Goals as goal
 
 pub returns : goal.returns

@@ -1,7 +1,7 @@
 use Rattle.std.proofs.Common.{◌≡◌, List, Some, IsTrue, refl, sym, subst, ap, ◌∙◌, arith, set}
 use Rattle.std.proofs.Math.ListN.{length-set}
 use Rattle.std.proofs.lemmas.Result.{err_from_is_err_and}
-use Rattle.ak_gossip.proofs.InvariantLemmas.{and_second}
+use Rattle.std.specs.Cmp.{second_so}
 use Rattle.ak_wire.specs.declared.envelope.Envelope.{Envelope}
 use Rattle.ak_node.specs.declared.node.NodeEvent.TheVariants.{Packet}
 use Rattle.ak_node.specs.declared.node.State.{State}
@@ -37,7 +37,7 @@ receive_own-requires-clause-own c =
     let reached = found-receiver e _ nodes _ _ _ c.receiver_near.ensures (c.envelope-2.ensures.same ∙ c.in_ok-packet.ensures) c.deref.ensures.value c.in-Some-receiver_near.is in
     let within = receiver-within e nodes c.in-Some-receiver_near.index reached in
     let passes = position_passes (is_reached e) (states nodes) c.in-Some-receiver_near.index m.state reached (state-at nodes c.in-Some-receiver_near.index m within c.index_mut.ensures.value) in
-    subst (λ (f : Envelope). IsTrue (is_for (me_of m.state) f)) (sym (c.envelope-3.ensures.same ∙ c.in_ok-packet.ensures)) (and_second m.state.runs (is_for (me_of m.state) e) passes)
+    subst (λ (f : Envelope). IsTrue (is_for (me_of m.state) f)) (sym (c.envelope-3.ensures.same ∙ c.in_ok-packet.ensures)) (second_so m.state.runs (is_for (me_of m.state) e) passes)
 
 pub keep-requires-clause-index : goal.keep-requires-clause-index
 keep-requires-clause-index c =
