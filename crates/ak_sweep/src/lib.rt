@@ -4,6 +4,7 @@
 mod gate;
 mod job;
 mod line;
+mod taken;
 mod workers;
 
 pub use gate::{Gate, OpenGate};
