@@ -24,17 +24,17 @@ fn line(seed: u64) -> Line
     }
 }
 
-// The job that tells it. It keeps how many seeds its worker had so far, and adds them up as workers end.
+// The job that tells it. It keeps how many seeds its part had so far, and adds up the parts as they end.
 #[derive(Drop)]
 struct Told {
-    workers: AtomicU64,
+    parts: AtomicU64,
     seeds: AtomicU64,
 }
 
 impl Told {
     fn new() -> Told {
         Told {
-            workers: AtomicU64::new(0),
+            parts: AtomicU64::new(0),
             seeds: AtomicU64::new(0),
         }
     }
@@ -55,7 +55,7 @@ impl Job for Told {
     }
 
     fn end(&self, kept: u64) {
-        self.workers.fetch_add(1, Ordering::SeqCst);
+        self.parts.fetch_add(1, Ordering::SeqCst);
         self.seeds.fetch_add(kept, Ordering::SeqCst);
     }
 }
@@ -99,13 +99,13 @@ fn any_number_of_workers_gives_the_lines_of_one(rt: HostRuntime) -> Result<(), F
     Ok(())
 }
 
-// Each worker keeps a value of its own from its first seed to its last, and lets go of it once; and no seed is run twice.
+// Each part keeps a value of its own from its first seed to its last, and lets go of it once.
 #[test]
-fn each_worker_keeps_one_value(rt: HostRuntime) -> Result<(), Fail> {
+fn each_part_keeps_one_value(rt: HostRuntime) -> Result<(), Fail> {
     let told = Told::new();
     let lines = sweep(&rt, rt.alloc(), 0, 20, 3, &told, &OpenGate)?;
     assert!(rt; lines.len() == 20);
-    assert!(rt; told.workers.load(Ordering::SeqCst) == 3);
+    assert!(rt; told.parts.load(Ordering::SeqCst) == 3);
     assert!(rt; told.seeds.load(Ordering::SeqCst) == 20);
     Ok(())
 }

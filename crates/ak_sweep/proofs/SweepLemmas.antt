@@ -1,12 +1,8 @@
--- Lines are added one at a time and one list after another; what workers took is put in order.
-use Rattle.std.proofs.Common.{false, ◌≡◌, ℕ, zero, suc, ◌+◌, ◌-◌, ◌<◌, ◌≤◌, List, [], ◌∷◌, ◌++◌, length, slice_get, Some, is_some, ◌⊎◌, inl, inr, Result, Ok, Err, IfOk, refl, sym, ap, ◌∙◌, subst, arith, true≢false, length-append}
+-- Lines are added one at a time and part after part.
+use Rattle.std.proofs.Common.{◌≡◌, ℕ, zero, suc, ◌+◌, ◌-◌, ◌≤◌, List, [], ◌∷◌, ◌++◌, length, slice_get, Some, is_some, ◌⊎◌, inl, inr, Result, Ok, Err, IfOk, refl, sym, ap, ◌∙◌, subst, arith, true≢false, length-append}
 use Rattle.std.proofs.lemmas.Option.{same_Some}
-use Rattle.std.proofs.lemmas.List.Elements.{Contains-append_cases, Contains-push_cases}
-use Rattle.std.proofs.lemmas.List.Sorted.{IsPermutation-sym, Contains-permutation}
-use Rattle.std.specs.List.Sorted.{IsPermutation}
 use Rattle.ak_sweep.specs.declared.line.Line.{Line}
-use Rattle.ak_sweep.specs.declared.taken.Taken.{Taken}
-use Rattle.ak_sweep.specs.Lines.{lines_from, AreLines, AreTaken, AnswersAs}
+use Rattle.ak_sweep.specs.Lines.{lines_from, AreLines, AnswersAs, start_of}
 
 -- an element of two lists is one of the first, or of the second
 of_either : {X : Type 0} (xs ys : List X) (i : ℕ) (x : X) → slice_get (xs ++ ys) i ≡ Some x → (slice_get xs i ≡ Some x) ⊎ ((j : ℕ) × (i ≡ length xs + j) × (slice_get ys j ≡ Some x))
@@ -48,38 +44,6 @@ module _ (answers : ℕ → Line → Type 0) where
       let at : first + 0 ≡ first = omega arith in let many : n - 0 ≡ count = omega arith in
       subst (λ k. AreLines answers first k lines) many (subst (λ k. AreLines answers k (n - 0) lines) at a)
 
-  -- ---- what workers took
-  pub both_taken : (first count : ℕ) (xs ys : List Taken) → AreTaken answers first count xs → AreTaken answers first count ys → AreTaken answers first count (xs ++ ys)
-  both_taken first count xs ys a b one there = elim (Contains-append_cases xs ys one there) [
-    | inl here ↦ a one here
-    | inr there ↦ b one there
-  ]
-
-  pub more_taken : (first count : ℕ) (xs : List Taken) (next : Taken) → AreTaken answers first count xs → (next.index < count) × answers (first + next.index) next.line
-      → AreTaken answers first count (xs ++ next ∷ [])
-  more_taken first count xs next a may one there = elim (Contains-push_cases xs next one there) [
-    | inl here ↦ a one here
-    | inr same ↦ subst (λ (one : Taken). (one.index < count) × answers (first + one.index) one.line) same may
-  ]
-
-  pub taken_in_order : (first count : ℕ) (taken sorted : List Taken) → IsPermutation taken sorted → AreTaken answers first count taken → AreTaken answers first count sorted
-  taken_in_order first count taken sorted shuffled a one there = a one (Contains-permutation sorted taken one (IsPermutation-sym taken sorted shuffled) there)
-
-  -- the next line in order, where it was taken
-  pub next_taken : (first count n k : ℕ) (lines now : List Line) (one : Taken) → k ≡ n + 1 → now ≡ lines ++ one.line ∷ [] → one.index ≡ n
-      → (one.index < count) × answers (first + one.index) one.line → AreLines answers first n lines → AreLines answers first k now × (k ≤ count)
-  next_taken first count n k lines now one more is at may a = (
-    subst (AreLines answers first k) (sym is) (one_more first n k lines one.line (sym more) a (subst (λ n. answers (first + n) one.line) at may.1)),
-    let within = may.0 in omega (arith, more, at, within),
-  )
-
-  -- with those that were missing all are there
-  pub all_there : (first count n here : ℕ) (lines missing now : List Line) → now ≡ lines ++ missing → here ≡ n → n ≤ count
-      → AreLines answers first n lines → AreLines answers (first + here) (count - here) missing → AreLines answers first count now
-  all_there first count n here lines missing now is same within a b =
-      subst (AreLines answers first count) (sym is)
-      (joined first n (count - n) count lines missing (omega (arith, within)) a (subst (λ n. AreLines answers (first + n) (count - n) missing) same b))
-
   -- the lines of a job with one answer for each seed are these answers
   pub lines_are : (answer : ℕ → Line) (first count : ℕ) (lines : List Line) → AnswersAs answers answer → AreLines answers first count lines → lines ≡ lines_from answer first count
   lines_are answer first zero [] one a = refl
@@ -92,10 +56,12 @@ module _ (answers : ℕ → Line → Type 0) where
         each = λ index l is. subst (λ seed. answers seed l) (omega arith) (a.each (suc index) l is);
       }))
 
--- ---- answers
--- what stands past the end of what was taken
-abbrev pub nothing_taken : Taken
-nothing_taken = record { index = 0; line = record { seed = 0; steps = 0; packets = 0; history = 0; kept = false; double = false } }
+-- ---- parts
+start_rises : (size count part : ℕ) → start_of size count part ≤ start_of size count (part + 1)
+start_rises size count part = omega arith
+
+pub start_and_rest : (size count part : ℕ) → start_of size count part + (start_of size count (part + 1) - start_of size count part) ≡ start_of size count (part + 1)
+start_and_rest size count part = let rises = start_rises size count part in omega arith
 
 pub of_part : {V E : Type 0} (Q : V → Type 0) (r : Result V E) (v : V) → r ≡ Ok v → IfOk r Q → Q v
 of_part Q r v is q = subst (λ r. IfOk r Q) is q

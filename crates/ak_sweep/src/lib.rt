@@ -4,7 +4,6 @@
 mod gate;
 mod job;
 mod line;
-mod taken;
 mod workers;
 
 pub use gate::{Gate, OpenGate};

@@ -1,6 +1,6 @@
 use Rattle.std.proofs.Common.{◌+◌, ◌-◌}
 use Rattle.ak_sweep.specs.Lines.{AreLines}
-use Rattle.ak_sweep.proofs.workers.lines_with.Given as goal
+use Rattle.ak_sweep.proofs.workers.lines_between.Given as goal
 
 -- the lines up to here
 abbrev pub invariant-seeds : goal.invariant-seeds
