@@ -1,5 +1,5 @@
 -- What a call that reads a configuration answers.
-use Rattle.std.specs.Prelude.{◌≡◌, ◌<◌, ◌^◌, IsTrue, List, length, Result, Ok, Err}
+use Rattle.std.specs.Prelude.{◌≡◌, ◌<◌, ◌≤◌, ◌^◌, IsTrue, List, length, Result, Ok, Err}
 use Rattle.std.specs.List.{AllByRecursion}
 use Rattle.ak_address.specs.Unique.{AddressModel, IsAddress}
 use Rattle.ak_settings.specs.Settings.{IsWithin, IsStrategy, is_listed}
@@ -45,10 +45,11 @@ pub record AreLimits (l : Limits) : Type 0 where
   pub threshold : IsWithin 1000 l.threshold
   pub limit : IsWithin 1000 l.limit
 
--- ticks that lie 1 to 1000000 milliseconds apart, and a seed below 2 ^ 63
+-- ticks that lie 1 to 1000000 milliseconds apart, a seed below 2 ^ 63, and at most 1000000 ticks before members are let in
 pub record IsRunning (r : Running) : Type 0 where
   pub tick_ms : IsWithin 1000000 r.tick_ms
   pub seed : r.seed < 2 ^ 63
+  pub weakly : r.weakly ≤ 1000000
 
 -- entries as a document says them
 abbrev pub entries_view : Entries → EntriesModel

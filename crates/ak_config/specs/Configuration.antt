@@ -36,7 +36,7 @@ abbrev pub ◌>>=◌ : {A B : Type 0} → Result A ConfigFault → (A → Result
 abbrev pub keys : List (List ℕ)
 keys =
     codes "self" ∷ codes "uid" ∷ codes "listed" ∷ codes "strategy" ∷ codes "quorum" ∷ codes "margin" ∷ codes "deadline" ∷ codes "stable" ∷ codes "shards"
-    ∷ codes "buffer" ∷ codes "threshold" ∷ codes "limit" ∷ codes "tick-ms" ∷ codes "seed" ∷ codes "found" ∷ codes "join" ∷ []
+    ∷ codes "buffer" ∷ codes "threshold" ∷ codes "limit" ∷ codes "tick-ms" ∷ codes "seed" ∷ codes "found" ∷ codes "join" ∷ codes "weakly" ∷ []
 
 abbrev pub is_key : List ℕ → Bool
 is_key name = list_any (λ key. pointwise nat_eq key name) keys
@@ -193,7 +193,8 @@ running_at t = do
   seed ← integer_at (codes "seed") 0 (2 ^ 63 - 1) 1 t
   found ← flag_at (codes "found") false t
   join ← address_at (codes "join") t
-  Ok (record { tick_ms = tick_ms; seed = seed; found = found; join = join })
+  weakly ← integer_at (codes "weakly") 0 1000000 0 t
+  Ok (record { tick_ms = tick_ms; seed = seed; found = found; join = join; weakly = weakly })
 
 -- each key by itself, in the order of the keys
 unfoldable pub entries_at : Members → Result EntriesModel ConfigFault
@@ -219,6 +220,7 @@ config_of e =
         buffer = e.limits.buffer;
         threshold = e.limits.threshold;
         limit = e.limits.limit;
+        weakly = e.running.weakly;
       };
       tick_ms = e.running.tick_ms;
       seed = e.running.seed;

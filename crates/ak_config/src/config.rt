@@ -105,6 +105,7 @@ fn config_of(entries: Entries) -> Config
         seed,
         found,
         join,
+        weakly,
     } = running;
     let settings = Settings {
         listed,
@@ -116,6 +117,7 @@ fn config_of(entries: Entries) -> Config
         buffer,
         threshold,
         limit,
+        weakly,
     };
     Config {
         me,

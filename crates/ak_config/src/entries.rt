@@ -34,6 +34,7 @@ pub(crate) struct Running {
     pub(crate) seed: u64,
     pub(crate) found: bool,
     pub(crate) join: Option<Address>,
+    pub(crate) weakly: u32,
 }
 
 // All entries.
@@ -154,10 +155,12 @@ fn running_at(alloc: Global, table: &Table) -> Result<Running, ConfigFault>
     let seed = integer_at(alloc, table, "seed", 0, MOST_UID, 1)?;
     let found = flag_at(alloc, table, "found", false)?;
     let join = address_at(alloc, table, "join")?;
+    let weakly = integer_at(alloc, table, "weakly", 0, MOST_TICKS, 0)?;
     Ok(Running {
         tick_ms,
         seed,
         found,
         join,
+        weakly: weakly as u32,
     })
 }

@@ -11,7 +11,7 @@ use crate::values::name;
 use std::alloc::Global;
 use toml::Table;
 
-static KEYS: [&str; 16] = [
+static KEYS: [&str; 17] = [
     "self",
     "uid",
     "listed",
@@ -28,6 +28,7 @@ static KEYS: [&str; 16] = [
     "seed",
     "found",
     "join",
+    "weakly",
 ];
 
 fn is_key(name: &str) -> bool

@@ -8,7 +8,7 @@ use Rattle.std.specs.FinMap as map
 use Rattle.ak_address.specs.Unique.{UniqueModel}
 use Rattle.ak_address.specs.Uniques.{UniqueSet, has}
 use Rattle.ak_member.specs.declared.status.Status.{Status}
-use Rattle.ak_member.specs.declared.status.Status.TheVariants.{Joining, Up, Leaving, Exiting, Down}
+use Rattle.ak_member.specs.declared.status.Status.TheVariants.{Joining, WeaklyUp, Up, Leaving, Exiting, Down}
 use Rattle.ak_member.specs.declared.standing.Standing.{Standing}
 use Rattle.ak_member.specs.Standing.{member_of, member_pairs, members_of}
 use Rattle.ak_address.specs.Distinct.{distinct}
@@ -38,6 +38,7 @@ where_so false b so = refl
 
 out : (status : Status) → is_passed_over status ≡ true → (status ≡ Exiting) ⊎ (status ≡ Down)
 out Joining is = absurd (true≢false (sym is))
+out WeaklyUp is = absurd (true≢false (sym is))
 out Up is = absurd (true≢false (sym is))
 out Leaving is = absurd (true≢false (sym is))
 out Exiting is = inl refl

@@ -6,7 +6,7 @@ use Rattle.std.specs.FinMap as map
 use Rattle.ak_address.specs.Unique.{UniqueModel}
 use Rattle.ak_address.specs.Uniques.{UniqueSet, has}
 use Rattle.ak_member.specs.declared.status.Status.{Status}
-use Rattle.ak_member.specs.declared.status.Status.TheVariants.{Joining, Up, Leaving, Exiting, Down}
+use Rattle.ak_member.specs.declared.status.Status.TheVariants.{Joining, WeaklyUp, Up, Leaving, Exiting, Down}
 use Rattle.ak_member.specs.Standing.{Standings, member_of, members_of}
 use Rattle.ak_address.specs.Distinct.{distinct}
 use Rattle.ak_member.specs.Age.{counts, IsCounted, counted_addresses}
@@ -16,6 +16,7 @@ use Rattle.ak_reach.specs.Unreachable.{unreachable_members, IsUnreachable}
 -- an unreachable member with this status hinders nobody
 abbrev pub is_passed_over : Status → Bool
 is_passed_over Joining = false
+is_passed_over WeaklyUp = false
 is_passed_over Up = false
 is_passed_over Leaving = false
 is_passed_over Exiting = true

@@ -75,6 +75,7 @@ pub(crate) fn is_passed_over(status: Status) -> bool
 {
     match status {
         Status::Joining => false,
+        Status::WeaklyUp => false,
         Status::Up => false,
         Status::Leaving => false,
         Status::Exiting => true,

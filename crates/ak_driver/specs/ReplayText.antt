@@ -2,10 +2,10 @@
 use Rattle.std.specs.Prelude.{◌≡◌, ℕ, ◌+◌, ◌<◌, ◌≤◌, ◌⊎◌, List, [], ◌∷◌, ◌++◌, ◌==◌, codes, map, length, take, Option, None, Some, Ok, Err}
 use Rattle.std.specs.List.{concat, slice_split}
 use Rattle.std.specs.Fmt.{decimal}
-use Rattle.ak_schedule.specs.Line.{lines, without_cr, IsPassedOver}
+use Rattle.ak_schedule.specs.Line.{lines, words, most_bytes, without_cr, IsPassedOver}
 use Rattle.ak_settings.specs.Settings.{SettingsModel}
-use Rattle.ak_schedule.specs.Schedule.{SpellsEvent}
-use Rattle.ak_schedule.specs.Draft.{first_draft, ReadsHeader}
+use Rattle.ak_schedule.specs.Schedule.{SpellsEvent, NamesExtra}
+use Rattle.ak_schedule.specs.Draft.{first_draft, ReadsHeader, ReadsExtra}
 use Rattle.ak_schedule.specs.declared.event.Event.{Event}
 use Rattle.ak_world.specs.declared.world.Reason.{Reason}
 use Rattle.ak_world.specs.declared.world.Reason.TheVariants.{Unlisted, UniqueUsed, AddressInUse, SecondFound, UnknownNode, NodeStopped, NoPacket, TooManyPackets, TooManyStarts}
@@ -31,8 +31,9 @@ header_count = 9
 pub record Progress : Type 0 where
   -- the number of the next line, from 1 on
   pub line : ℕ
-  -- how many headers were read, and what they set
+  -- how many headers were read, the first optional header that may still come, and what they set
   pub headers : ℕ
+  pub extra : ℕ
   pub settings : SettingsModel
   -- the events that were accepted, and the world after them
   pub events : List Event
@@ -40,7 +41,7 @@ pub record Progress : Type 0 where
 
 -- before the first line no header is read
 abbrev pub at_start : Progress
-at_start = record { line = 1; headers = first_draft.read; settings = first_draft.settings; events = []; world = empty_world }
+at_start = record { line = 1; headers = first_draft.read; extra = first_draft.extra; settings = first_draft.settings; events = []; world = empty_world }
 
 abbrev pub reason_text : Reason → List ℕ
 reason_text Unlisted = codes "S3"
@@ -68,10 +69,22 @@ pub record WantsHeader (p : Progress) (line : List ℕ) : Type 0 where
   pub not_passed : IsPassedOver line → ⊥
   pub heading : p.headers < header_count
 
+-- an optional header is wanted of a line that is not too long and begins with the word of one, after the headers and before the
+-- first event
+pub record WantsExtra (p : Progress) (line : List ℕ) : Type 0 where
+  pub in_limit : p.line ≤ most_lines
+  pub not_passed : IsPassedOver line → ⊥
+  pub running : header_count ≤ p.headers
+  pub none_yet : p.events ≡ []
+  pub short : length line ≤ most_bytes
+  pub named : NamesExtra (words line)
+
+-- an event of any other line after the headers
 pub record WantsEvent (p : Progress) (line : List ℕ) : Type 0 where
   pub in_limit : p.line ≤ most_lines
   pub not_passed : IsPassedOver line → ⊥
   pub running : header_count ≤ p.headers
+  pub no_extra : p.events ≡ [] → length line ≤ most_bytes → NamesExtra (words line) → ⊥
 
 -- fewer events were accepted than may be
 abbrev pub HasRoom : Progress → Type 0
@@ -79,25 +92,34 @@ HasRoom p = length p.events < most_events
 
 -- the line is the next header, and sets its setting
 abbrev pub SetsNext : Progress → List ℕ → SettingsModel → Type 0
-SetsNext p line settings = ReadsHeader line (record { read = p.headers; settings = p.settings }) (record { read = p.headers + 1; settings = settings })
+SetsNext p line settings = ReadsHeader line (record { read = p.headers; extra = p.extra; settings = p.settings }) (record { read = p.headers + 1; extra = p.extra; settings = settings })
 
--- what an accepted line is: passed over, a header, or an event that happens in the world
+-- the line is an optional header that may still come, and sets its setting
+abbrev pub SetsLater : Progress → List ℕ → ℕ → SettingsModel → Type 0
+SetsLater p line extra settings = ReadsExtra line (record { read = p.headers; extra = p.extra; settings = p.settings }) (record { read = p.headers; extra = extra; settings = settings })
+
+-- what an accepted line is: passed over, a header, an optional header, or an event that happens in the world
 pub data Judgement : Type 0 where
   Passes : Judgement
   Sets : SettingsModel → Judgement
+  SetsExtra : ℕ → SettingsModel → Judgement
   Steps : Event → Done → Judgement
 
 -- a line is accepted as this
 abbrev pub Judged : Progress → List ℕ → Judgement → Type 0
 Judged p line Passes = (p.line ≤ most_lines) × IsPassedOver line
 Judged p line (Sets settings) = WantsHeader p line × SetsNext p line settings
+Judged p line (SetsExtra extra settings) = WantsExtra p line × SetsLater p line extra settings
 Judged p line (Steps event done) = WantsEvent p line × HasRoom p × SpellsEvent line event × (happens p.settings event p.world ≡ Ok done)
 
--- a line is refused with this code: it spells no event; it is not the next header; it comes after the last that may be; or it
+-- a line is refused with this code: it spells no event; it is not the next header, or begins with the
+-- word of an optional one and is none that may still come; it comes after the last that may be; or it
 -- spells an event that the world refuses
 abbrev pub IsRefused : Progress → List ℕ → Code → Type 0
 IsRefused p line Malformed = WantsEvent p line × HasRoom p × ((event : Event) → SpellsEvent line event → ⊥)
-IsRefused p line BadHeader = WantsHeader p line × ((settings : SettingsModel) → SetsNext p line settings → ⊥)
+IsRefused p line BadHeader =
+    (WantsHeader p line × ((settings : SettingsModel) → SetsNext p line settings → ⊥))
+    ⊎ (WantsExtra p line × ((extra : ℕ) (settings : SettingsModel) → SetsLater p line extra settings → ⊥))
 IsRefused p line PastLimit = (most_lines < p.line) ⊎ (WantsEvent p line × (most_events ≤ length p.events))
 IsRefused p line (Invalid why) = WantsEvent p line × HasRoom p × (event : Event) × SpellsEvent line event × (happens p.settings event p.world ≡ Err why)
 
@@ -105,6 +127,7 @@ IsRefused p line (Invalid why) = WantsEvent p line × HasRoom p × (event : Even
 abbrev pub turn : Progress → Judgement → Progress × List (List ℕ)
 turn p Passes = (record p { line = p.line + 1 }, [])
 turn p (Sets settings) = (record p { line = p.line + 1; headers = p.headers + 1; settings = settings }, [])
+turn p (SetsExtra extra settings) = (record p { line = p.line + 1; extra = extra; settings = settings }, [])
 turn p (Steps event done) = (
   record p { line = p.line + 1; events = p.events ++ event ∷ []; world = done.world },
   step_text (length p.world.packets + 1) (length p.events + 1) event done ∷ [],

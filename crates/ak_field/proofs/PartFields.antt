@@ -31,12 +31,12 @@ use Rattle.ak_field.proofs.Written.{subjects_fit}
 use Rattle.ak_field.proofs.PartTests.{less_than, is_less_than, up_number_small, state_from, state_to, IsIndex, ascends, ascending}
 
 -- ---- small fields
-state_field : IsField state_at byte (Ranges 1 7)
+state_field : IsField state_at byte (Ranges 1 8)
 unfolding state_at
 state_field =
-    checked_field Range (is_from 1 7) byte_at byte (λ n. n < 256) (Ranges 1 7) byte_field
-    (λ n v. (omega (arith, v.1), in_range 1 7 n v.0 v.1))
-    (λ n lt e. range_of 1 7 n e)
+    checked_field Range (is_from 1 8) byte_at byte (λ n. n < 256) (Ranges 1 8) byte_field
+    (λ n v. (omega (arith, v.1), in_range 1 8 n v.0 v.1))
+    (λ n lt e. range_of 1 8 n e)
 
 up_number_field : (state : ℕ) → IsField (up_number_at state) eight_bytes (λ n. IsTrue (is_up_number state n))
 unfolding up_number_at
@@ -112,7 +112,7 @@ module _ (many : ℕ) (last : Option Part) where
   From4 p = IsTrue (is_up_number p.state p.up_number) × From5 p
 
   abbrev pub From3 : Part → Type 0
-  From3 p = Ranges 1 7 p.state × From4 p
+  From3 p = Ranges 1 8 p.state × From4 p
 
   abbrev pub From2 : Part → Type 0
   From2 p = (p.count ≤ BOUND) × From3 p
@@ -194,7 +194,7 @@ module _ (many : ℕ) (last : Option Part) where
 
   field3 : many < 256 → (u : UniqueModel) (n : ℕ) → n ≤ BOUND → IsField (read3 u n) spelled3 (λ p. (p ≡ made u n p.state p.up_number p.seen p.row_number p.subjects) × From3 p)
   field3 fits u n bounded =
-      first_field state_at byte (Ranges 1 7) (λ p. p.state) (read4 u n) spelled4 (λ s p. (p ≡ made u n s p.up_number p.seen p.row_number p.subjects) × From4 p) (λ p. (p ≡ made u n p.state p.up_number p.seen p.row_number p.subjects) × From3 p)
+      first_field state_at byte (Ranges 1 8) (λ p. p.state) (read4 u n) spelled4 (λ s p. (p ≡ made u n s p.up_number p.seen p.row_number p.subjects) × From4 p) (λ p. (p ≡ made u n p.state p.up_number p.seen p.row_number p.subjects) × From3 p)
       state_field (λ s range. field4 fits u n s bounded)
       (λ p v. (v.1.0, (v.0, v.1.1)))
       (λ s p range v.

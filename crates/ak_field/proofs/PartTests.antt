@@ -5,7 +5,7 @@ use Rattle.std.proofs.lemmas.Bool.Decides.{nat_tests}
 use Rattle.ak_clock.specs.declared.version.TheConstants.{BOUND}
 use Rattle.ak_member.specs.declared.standing.Standing.{Standing}
 use Rattle.ak_member.specs.declared.standing.Standing.TheVariants.{Member, Buried}
-use Rattle.ak_member.specs.declared.status.Status.TheVariants.{Joining, Up, Leaving, Exiting, Down}
+use Rattle.ak_member.specs.declared.status.Status.TheVariants.{Joining, WeaklyUp, Up, Leaving, Exiting, Down}
 use Rattle.ak_member.specs.Standing.{as_member}
 use Rattle.ak_gossip.specs.Gossip.{IsStanding}
 use Rattle.ak_gossip.specs.Parts.{state_of, number_of, IsState}
@@ -43,7 +43,7 @@ small_if false false n e = (range_of 1 BOUND n e).1
 pub up_number_small : (state n : ℕ) → is_up_number state n ≡ true → n ≤ BOUND
 up_number_small state n e = small_if (state == 1 || nat_le 6 state) (state == 5) n e
 
-pub state_from : (state n : ℕ) (seen : Bool) → Ranges 1 7 state → is_up_number state n ≡ true → may_see state seen ≡ true → IsState state n seen
+pub state_from : (state n : ℕ) (seen : Bool) → Ranges 1 8 state → is_up_number state n ≡ true → may_see state seen ≡ true → IsState state n seen
 state_from zero n seen range up see = absurd (omega (arith, range.0))
 state_from (suc zero) n seen range up see = record { standing = Member Joining n; state_is = refl; number_is = refl; may_be = eq_is n 0 up; by_member = λ _. refl }
 state_from (suc (suc zero)) n seen range up see = record { standing = Member Up n; state_is = refl; number_is = refl; may_be = range_of 1 BOUND n up; by_member = λ _. refl }
@@ -54,7 +54,8 @@ state_from (suc (suc (suc (suc (suc (suc zero)))))) n true range up see = absurd
 state_from (suc (suc (suc (suc (suc (suc zero)))))) n false range up see = record { standing = Buried false; state_is = refl; number_is = eq_is n 0 up; may_be = tt; by_member = λ h. absurd (true≢false (sym h)) }
 state_from (suc (suc (suc (suc (suc (suc (suc zero))))))) n true range up see = absurd (true≢false (sym see))
 state_from (suc (suc (suc (suc (suc (suc (suc zero))))))) n false range up see = record { standing = Buried true; state_is = refl; number_is = eq_is n 0 up; may_be = tt; by_member = λ h. absurd (true≢false (sym h)) }
-state_from (suc (suc (suc (suc (suc (suc (suc (suc n)))))))) m seen range up see = absurd (omega (arith, range.1))
+state_from (suc (suc (suc (suc (suc (suc (suc (suc zero)))))))) n seen range up see = record { standing = Member WeaklyUp n; state_is = refl; number_is = refl; may_be = eq_is n 0 up; by_member = λ _. refl }
+state_from (suc (suc (suc (suc (suc (suc (suc (suc (suc n))))))))) m seen range up see = absurd (omega (arith, range.1))
 
 see_low : (b : Bool) → (not b || true) ≡ true
 see_low true = refl
@@ -65,12 +66,13 @@ see_none true h = absurd (true≢false (sym (h refl)))
 see_none false h = refl
 
 pub record Passes (state n : ℕ) (seen : Bool) : Type 0 where
-  pub range : Ranges 1 7 state
+  pub range : Ranges 1 8 state
   pub up : is_up_number state n ≡ true
   pub see : may_see state seen ≡ true
 
 passes : (x : Standing) (n : ℕ) (seen : Bool) → IsStanding x → n ≡ number_of x → (IsTrue seen → IsSome (as_member x)) → Passes (state_of x) n seen
 passes (Member Joining k) n seen may is by = record { range = (omega arith, omega arith); up = is_eq n 0 (is ∙ may); see = see_low seen }
+passes (Member WeaklyUp k) n seen may is by = record { range = (omega arith, omega arith); up = is_eq n 0 (is ∙ may); see = see_low seen }
 passes (Member Up k) n seen may is by = record { range = (omega arith, omega arith); up = in_range 1 BOUND n (omega (arith, may.0)) (omega (arith, may.1)); see = see_low seen }
 passes (Member Leaving k) n seen may is by = record { range = (omega arith, omega arith); up = in_range 1 BOUND n (omega (arith, may.0)) (omega (arith, may.1)); see = see_low seen }
 passes (Member Exiting k) n seen may is by = record { range = (omega arith, omega arith); up = in_range 1 BOUND n (omega (arith, may.0)) (omega (arith, may.1)); see = see_low seen }

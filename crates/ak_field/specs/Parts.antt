@@ -14,11 +14,11 @@ use Rattle.ak_field.specs.Fields.{length_at, number_at, flag_at}
 use Rattle.ak_field.specs.Lists.{next_unique_at}
 use Rattle.ak_field.specs.Spelling.{byte, eight_bytes, process, flag}
 
--- 1 joining, 2 up, 3 leaving, 4 exiting, 5 down, 6 removed, 7 removed and confirmed
+-- 1 joining, 2 up, 3 leaving, 4 exiting, 5 down, 6 removed, 7 removed and confirmed, 8 weakly up
 unfoldable pub state_at : List ℕ → Result (ℕ × List ℕ) WireFault
-state_at bytes = checked Range (is_from 1 7) (byte_at bytes)
+state_at bytes = checked Range (is_from 1 8) (byte_at bytes)
 
--- the up number of a state: none of those that are joining or removed, some of those that are up, leaving or exiting, and
+-- the up number of a state: none of those that are joining, weakly up or removed, some of those that are up, leaving or exiting, and
 -- some or none of those that are down
 abbrev pub is_up_number : ℕ → ℕ → Bool
 is_up_number state number =
@@ -29,7 +29,7 @@ up_number_at state bytes = checked Range (is_up_number state) (wide_at w64 bytes
 
 -- whether the process has seen the gossip, which no removed one has
 abbrev pub may_see : ℕ → Bool → Bool
-may_see state seen = not seen || nat_le state 5
+may_see state seen = not seen || (nat_le state 5 || state == 8)
 
 unfoldable pub seen_at : ℕ → List ℕ → Result (Bool × List ℕ) WireFault
 seen_at state bytes = checked Range (may_see state) (flag_at bytes)

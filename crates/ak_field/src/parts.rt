@@ -1,7 +1,7 @@
 ghost use Rattle.std.specs.Prelude.{◌≡◌, None, option_copied, option_map};
 ghost use Rattle.ak_field.specs.Reading.{Gives, GivesExactly, IsThere, Adds, items_at, last_of};
 ghost use Rattle.ak_field.specs.Fields.{length_at};
-ghost use Rattle.ak_field.specs.Parts.{state_at, is_up_number, up_number_at, seen_at, is_after, index_at, indices_at, subjects_at, part_at, parts_at};
+ghost use Rattle.ak_field.specs.Parts.{state_at, is_up_number, up_number_at, may_see, seen_at, is_after, index_at, indices_at, subjects_at, part_at, parts_at};
 
 use crate::fault::WireFault;
 use crate::fields::Fields;
@@ -71,7 +71,7 @@ impl<'a> Fields<'a> {
         ensures { GivesExactly result self.new (state_at self.old) }
     {
         let state = self.byte()?;
-        if state < 1 || state > 7 {
+        if state < 1 || state > 8 {
             return Err(WireFault::Range);
         }
         Ok(state)
@@ -93,7 +93,7 @@ impl<'a> Fields<'a> {
         ensures { GivesExactly result self.new (seen_at state self.old) }
     {
         let seen = self.flag()?;
-        if seen && state > 5 {
+        if !may_see(state, seen) {
             return Err(WireFault::Range);
         }
         Ok(seen)
@@ -150,6 +150,13 @@ impl<'a> Fields<'a> {
         }
         Ok(index)
     }
+}
+
+// Whether a process of this state may have seen the gossip, where it has.
+fn may_see(state: u8, seen: bool) -> bool
+    ensures { result ≡ may_see state seen }
+{
+    !seen || state <= 5 || state == 8
 }
 
 fn is_up_number(state: u8, number: u64) -> bool

@@ -138,6 +138,7 @@ fixed_are_settings = record {
   buffer = record { from = omega arith; to = omega arith };
   threshold = record { from = omega arith; to = omega arith };
   limit = record { from = omega arith; to = omega arith };
+  weakly = omega arith;
 }
 
 -- ---- the next event

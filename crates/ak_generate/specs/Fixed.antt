@@ -27,4 +27,5 @@ fixed = record {
   buffer = 4;
   threshold = 1;
   limit = 1;
+  weakly = 0;
 }

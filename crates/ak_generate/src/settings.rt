@@ -22,6 +22,7 @@ pub fn fixed_settings(alloc: Global) -> Result<Settings, AllocError>
         buffer: 4,
         threshold: 1,
         limit: 1,
+        weakly: 0,
     })
 }
 

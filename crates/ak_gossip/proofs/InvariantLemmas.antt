@@ -20,7 +20,7 @@ use Rattle.ak_member.specs.declared.effect.Effect.TheVariants.{Joined, Rise, Rem
 use Rattle.ak_member.specs.declared.standing.Standing.{Standing}
 use Rattle.ak_member.specs.declared.standing.Standing.TheVariants.{Member, Buried}
 use Rattle.ak_member.specs.declared.status.Status.{Status}
-use Rattle.ak_member.specs.declared.status.Status.TheVariants.{Joining, Up, Leaving, Exiting, Down}
+use Rattle.ak_member.specs.declared.status.Status.TheVariants.{Joining, WeaklyUp, Up, Leaving, Exiting, Down}
 use Rattle.ak_member.specs.Standing.{Standings, rank, greater_status, older_number, merged_standing, merged_standings, known, member_of, is_member}
 use Rattle.ak_member.specs.View.{Row, RowTable, later_row, after_effect, after_effects, after_observed, observed}
 use Rattle.ak_member.proofs.StandingLaws.{rank-greater_status}
@@ -29,12 +29,13 @@ use Rattle.ak_gossip.specs.Gossip.{GossipState, most_uniques, is_known, IsNumber
 -- ---- standings
 -- the number of a member by the rank of its status
 record IsRanked (r number : ℕ) : Type 0 where
-  none : r ≤ 1 → number ≡ 0
-  some : 2 ≤ r → r ≤ 4 → 1 ≤ number
+  none : r ≤ 2 → number ≡ 0
+  some : 3 ≤ r → r ≤ 5 → 1 ≤ number
   bounded : number ≤ BOUND
 
 ranked : (status : Status) (number : ℕ) → IsNumber status number → IsRanked (rank status) number
 ranked Joining number is = record { none = λ _. is; some = λ two _. absurd (omega arith); bounded = omega arith }
+ranked WeaklyUp number is = record { none = λ _. is; some = λ two _. absurd (omega arith); bounded = omega arith }
 ranked Up number is = record { none = λ one. absurd (omega arith); some = λ _ _. is.0; bounded = is.1 }
 ranked Leaving number is = record { none = λ one. absurd (omega arith); some = λ _ _. is.0; bounded = is.1 }
 ranked Exiting number is = record { none = λ one. absurd (omega arith); some = λ _ _. is.0; bounded = is.1 }
@@ -42,6 +43,7 @@ ranked Down number is = record { none = λ one. absurd (omega arith); some = λ 
 
 from_rank : (status : Status) (number : ℕ) → IsRanked (rank status) number → IsNumber status number
 from_rank Joining number r = r.none (omega arith)
+from_rank WeaklyUp number r = r.none (omega arith)
 from_rank Up number r = (r.some (omega arith) (omega arith), r.bounded)
 from_rank Leaving number r = (r.some (omega arith) (omega arith), r.bounded)
 from_rank Exiting number r = (r.some (omega arith) (omega arith), r.bounded)
@@ -69,10 +71,11 @@ ranked_merged r q n m x y = record {
   bounded = omega (arith, older-most n m, x.bounded, y.bounded);
 }
   where
-    one_is : (r q : ℕ) → 2 ≤ max r q → (2 ≤ r) ⊎ (2 ≤ q)
-    one_is zero q two = inr (omega arith)
-    one_is (suc zero) q two = inr (omega arith)
-    one_is (suc (suc r)) q two = inl (omega arith)
+    one_is : (r q : ℕ) → 3 ≤ max r q → (3 ≤ r) ⊎ (3 ≤ q)
+    one_is zero q three = inr (omega arith)
+    one_is (suc zero) q three = inr (omega arith)
+    one_is (suc (suc zero)) q three = inr (omega arith)
+    one_is (suc (suc (suc r))) q three = inl (omega arith)
 
 number_merged : (status other : Status) (n m : ℕ) → IsNumber status n → IsNumber other m → IsNumber (greater_status status other) (older_number n m)
 number_merged status other n m p q =

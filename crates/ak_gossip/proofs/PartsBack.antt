@@ -19,7 +19,7 @@ use Rattle.ak_clock.specs.Version.{Counts, IsVersion}
 use Rattle.ak_clock.proofs.VersionLaws.{empty_is_version, reaching_is_version}
 use Rattle.ak_member.specs.declared.standing.Standing.{Standing}
 use Rattle.ak_member.specs.declared.standing.Standing.TheVariants.{Member, Buried}
-use Rattle.ak_member.specs.declared.status.Status.TheVariants.{Joining, Up, Leaving, Exiting, Down}
+use Rattle.ak_member.specs.declared.status.Status.TheVariants.{Joining, WeaklyUp, Up, Leaving, Exiting, Down}
 use Rattle.ak_member.specs.Standing.{nobody, as_member, member_of, is_member}
 use Rattle.ak_member.specs.View.{Row}
 use Rattle.ak_gossip.specs.declared.part.Part.{Part}
@@ -34,6 +34,7 @@ use Rattle.ak_gossip.proofs.PartsSteps.{below_is_other, count_of_part, count_of_
 -- a standing is read back from its state and its number
 pub standing_back : (x : Standing) → standing_of (state_of x) (number_of x) ≡ Some x
 standing_back (Member Joining number) = refl
+standing_back (Member WeaklyUp number) = refl
 standing_back (Member Up number) = refl
 standing_back (Member Leaving number) = refl
 standing_back (Member Exiting number) = refl

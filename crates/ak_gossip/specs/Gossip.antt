@@ -12,7 +12,7 @@ use Rattle.ak_member.specs.declared.effect.Effect.{Effect}
 use Rattle.ak_member.specs.declared.standing.Standing.{Standing}
 use Rattle.ak_member.specs.declared.standing.Standing.TheVariants.{Member, Buried}
 use Rattle.ak_member.specs.declared.status.Status.{Status}
-use Rattle.ak_member.specs.declared.status.Status.TheVariants.{Joining, Up, Leaving, Exiting, Down}
+use Rattle.ak_member.specs.declared.status.Status.TheVariants.{Joining, WeaklyUp, Up, Leaving, Exiting, Down}
 use Rattle.ak_member.specs.Standing.{Standings, is_member, merged_standings}
 use Rattle.ak_member.specs.View.{View, Row, coded_view, coded_uniques, empty_view, merged_views, after_effects, after_entry, observed}
 use Rattle.ak_gossip.specs.declared.gossip.Received as received
@@ -45,9 +45,10 @@ most_uniques = 128
 abbrev pub is_known : Standings → UniqueModel → Bool
 is_known s who = is_some (map.get s who)
 
--- the number of a member: none while it is Joining, one from Up on; a member that went Down may have none
+-- the number of a member: none while it is Joining or WeaklyUp, one from Up on; a member that went Down may have none
 abbrev pub IsNumber : Status → ℕ → Type 0
 IsNumber Joining number = number ≡ 0
+IsNumber WeaklyUp number = number ≡ 0
 IsNumber Up number = (1 ≤ number) × (number ≤ BOUND)
 IsNumber Leaving number = (1 ≤ number) × (number ≤ BOUND)
 IsNumber Exiting number = (1 ≤ number) × (number ≤ BOUND)

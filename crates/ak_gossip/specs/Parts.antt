@@ -10,7 +10,7 @@ use Rattle.ak_clock.specs.Version.{count}
 use Rattle.ak_member.specs.declared.standing.Standing.{Standing}
 use Rattle.ak_member.specs.declared.standing.Standing.TheVariants.{Member, Buried}
 use Rattle.ak_member.specs.declared.status.Status.{Status}
-use Rattle.ak_member.specs.declared.status.Status.TheVariants.{Joining, Up, Leaving, Exiting, Down}
+use Rattle.ak_member.specs.declared.status.Status.TheVariants.{Joining, WeaklyUp, Up, Leaving, Exiting, Down}
 use Rattle.ak_member.specs.Standing.{as_member}
 use Rattle.ak_member.specs.View.{Row}
 use Rattle.ak_gossip.specs.declared.part.Part.{Part}
@@ -19,6 +19,7 @@ use Rattle.ak_gossip.specs.Gossip.{GossipState, most_uniques, IsStanding}
 -- the numbers of a datagram are a table of their own: a status that comes later gets a number that is free then
 abbrev pub state_of_status : Status → ℕ
 state_of_status Joining = 1
+state_of_status WeaklyUp = 8
 state_of_status Up = 2
 state_of_status Leaving = 3
 state_of_status Exiting = 4

@@ -10,7 +10,7 @@ use Rattle.ak_address.specs.Uniques.{UniqueSet, no_one, with_one}
 use Rattle.ak_clock.specs.Version.{Counts, reaching}
 use Rattle.ak_member.specs.declared.standing.Standing.{Standing}
 use Rattle.ak_member.specs.declared.standing.Standing.TheVariants.{Member, Buried}
-use Rattle.ak_member.specs.declared.status.Status.TheVariants.{Joining, Up, Leaving, Exiting, Down}
+use Rattle.ak_member.specs.declared.status.Status.TheVariants.{Joining, WeaklyUp, Up, Leaving, Exiting, Down}
 use Rattle.ak_member.specs.Standing.{Standings, known}
 use Rattle.ak_member.specs.View.{RowTable}
 use Rattle.ak_reach.specs.Reach.{with_row}
@@ -26,7 +26,8 @@ standing_of state number =
     else (if state == 5 then Some (Member Down number)
     else (if state == 6 then Some (Buried false)
     else (if state == 7 then Some (Buried true)
-    else None))))))
+    else (if state == 8 then Some (Member WeaklyUp number)
+    else None)))))))
 
 -- the indices ascend from the least on, below the end
 abbrev pub ascend_from : ℕ → ℕ → List ℕ → Bool

@@ -80,8 +80,8 @@ impl Gossip {
 }
 
 /// Whether the parts keep the ranges and the order of a gossip's parts (this project's choice): at most 128 of them,
-/// their processes ascending; a count at most 4611686018427387904; a state from 1 to 7, an up number that is 0 while
-/// Joining and of a tombstone, from 1 to the greatest count of an Up, Leaving or Exiting member, and up to it of one that
+/// their processes ascending; a count at most 4611686018427387904; a state from 1 to 8, an up number that is 0 while
+/// Joining or WeaklyUp and of a tombstone, from 1 to the greatest count of an Up, Leaving or Exiting member, and up to it of one that
 /// is Down; seen by members alone; a row's number at most the count; without a row no subjects, and else indices of parts
 /// that ascend. Takes no memory.
 pub fn parts_valid(parts: &[Part]) -> bool
@@ -138,6 +138,7 @@ fn standing_of(state: u8, up_number: u64) -> Option<Standing>
         5 => Some(Standing::Member(Status::Down, up_number)),
         6 => Some(Standing::Buried(false)),
         7 => Some(Standing::Buried(true)),
+        8 => Some(Standing::Member(Status::WeaklyUp, up_number)),
         _ => None,
     }
 }
@@ -147,6 +148,7 @@ fn number_valid(status: Status, number: u64) -> bool
 {
     match status {
         Status::Joining => number == 0,
+        Status::WeaklyUp => number == 0,
         Status::Up => 1 <= number && number <= BOUND,
         Status::Leaving => 1 <= number && number <= BOUND,
         Status::Exiting => 1 <= number && number <= BOUND,
@@ -218,6 +220,7 @@ fn state_of_status(status: Status) -> u8
 {
     match status {
         Status::Joining => 1,
+        Status::WeaklyUp => 8,
         Status::Up => 2,
         Status::Leaving => 3,
         Status::Exiting => 4,

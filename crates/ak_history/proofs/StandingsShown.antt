@@ -8,7 +8,7 @@ use Rattle.ak_address.specs.Table.{value_with}
 use Rattle.ak_address.proofs.TableLaws.{same_or_apart, get-empty}
 use Rattle.ak_clock.specs.Version.{Counts}
 use Rattle.ak_member.specs.declared.status.Status.{Status}
-use Rattle.ak_member.specs.declared.status.Status.TheVariants.{Joining, Up, Leaving, Exiting, Down}
+use Rattle.ak_member.specs.declared.status.Status.TheVariants.{Joining, WeaklyUp, Up, Leaving, Exiting, Down}
 use Rattle.ak_member.specs.declared.standing.Standing.{Standing}
 use Rattle.ak_member.specs.declared.standing.Standing.TheVariants.{Member, Buried}
 use Rattle.ak_member.specs.declared.effect.Effect.{Effect}
@@ -146,6 +146,7 @@ module _ (before after : Effect → Type 0) (e : Effect) (m : More before after 
 -- ---- a process joins
 greater_joining : (s : Status) → greater_status s Joining ≡ s
 greater_joining Joining = refl
+greater_joining WeaklyUp = refl
 greater_joining Up = refl
 greater_joining Leaving = refl
 greater_joining Exiting = refl
@@ -153,6 +154,7 @@ greater_joining Down = refl
 
 joining_greater : (s : Status) → greater_status Joining s ≡ s
 joining_greater Joining = refl
+joining_greater WeaklyUp = refl
 joining_greater Up = refl
 joining_greater Leaving = refl
 joining_greater Exiting = refl
@@ -442,6 +444,7 @@ standings_shown history v who = in_words history v who (map.get (view history v)
 -- ---- one standing alone is what the words allow
 least_rank : (s : Status) → 1 ≤ rank s
 least_rank Joining = omega arith
+least_rank WeaklyUp = omega arith
 least_rank Up = omega arith
 least_rank Leaving = omega arith
 least_rank Exiting = omega arith

@@ -9,8 +9,8 @@ use Rattle.ak_clock.specs.declared.version.TheConstants.{BOUND}
 use Rattle.ak_member.specs.declared.effect.Effect.{Effect}
 use Rattle.ak_member.specs.declared.effect.Effect.TheVariants.{Joined, Rise, Removed, Observed}
 use Rattle.ak_member.specs.declared.status.Status.{Status}
-use Rattle.ak_member.specs.declared.status.Status.TheVariants.{Joining, Up, Leaving, Exiting, Down}
-use Rattle.ak_member.specs.Standing.{Standings, member_of, is_member, members_of, is_joining}
+use Rattle.ak_member.specs.declared.status.Status.TheVariants.{Joining, WeaklyUp, Up, Leaving, Exiting, Down}
+use Rattle.ak_member.specs.Standing.{Standings, member_of, is_member, members_of, is_joining, is_waiting}
 use Rattle.ak_member.specs.Age.{counts}
 use Rattle.ak_member.specs.View.{View}
 use Rattle.ak_address.proofs.Elements.{contains_first, contains_rest, first_or_rest, contains_nothing, contains_either, contains_left, contains_right}
@@ -18,21 +18,30 @@ use Rattle.ak_member.proofs.MembersLaws.{members_have, have_members}
 use Rattle.ak_reach.specs.Unreachable.{unreachable_members, IsUnreachable}
 use Rattle.ak_reach.proofs.UnreachableLaws.{unreachable_means}
 use Rattle.ak_leader.specs.Leader.{leader, greatest_number, has_next, number_after, led, all_led, leaders_effects, all_founded, founding_effects}
-use Rattle.ak_leader.specs.Led.{IsMemberWith, IsAbout, LedTo}
+use Rattle.ak_leader.specs.Led.{IsMemberWith, IsWaiting, IsAbout, LedTo}
 use Rattle.ak_leader.specs.Led.LedTo.{rises, exits, confirms, removes}
 use Rattle.ak_leader.proofs.LeaderLaws.{leader_is}
 
 abbrev MemberPair : Type 0
 MemberPair = UniqueModel × (Status × ℕ)
 
+-- who waits does not count
+pub waiting_not_counted : (status : Status) → is_waiting status ≡ true → counts status ≡ false
+waiting_not_counted Joining waits = refl
+waiting_not_counted WeaklyUp waits = refl
+waiting_not_counted Up waits = absurd (true≢false (sym waits))
+waiting_not_counted Leaving waits = absurd (true≢false (sym waits))
+waiting_not_counted Exiting waits = refl
+waiting_not_counted Down waits = refl
+
 -- ---- what an effect comes from
 module _ (v : View) (confirmed : UniqueSet) where
   alone : (who : UniqueModel) (status : Status) (x y : Effect) → LedTo v confirmed who status y → Contains (y ∷ []) x → LedTo v confirmed who status x
   alone who status x y is there = elim (first_or_rest y x [] there) [ inl same ↦ subst (LedTo v confirmed who status) (sym same) is | inr none ↦ absurd (contains_nothing x none) ]
 
-  led_joining : (who : UniqueModel) (number : ℕ) (x : Effect) (b : Bool) → has_next number ≡ b → Contains (if b then Rise who Up (number + 1) ∷ [] else []) x → LedTo v confirmed who Joining x
-  led_joining who number x true is there = alone who Joining x _ (rises (number + 1) refl (omega arith) (let below = ltb-true number BOUND is in omega arith)) there
-  led_joining who number x false is there = absurd (contains_nothing x there)
+  led_waiting : (who : UniqueModel) (status : Status) → is_waiting status ≡ true → (number : ℕ) (x : Effect) (b : Bool) → has_next number ≡ b → Contains (if b then Rise who Up (number + 1) ∷ [] else []) x → LedTo v confirmed who status x
+  led_waiting who status waits number x true is there = alone who status x _ (rises (number + 1) waits (omega arith) (let below = ltb-true number BOUND is in omega arith)) there
+  led_waiting who status waits number x false is there = absurd (contains_nothing x there)
 
   led_exiting : (who : UniqueModel) (x : Effect) (b : Bool) → has confirmed who ≡ b → Contains (if b then Removed who true ∷ [] else []) x → LedTo v confirmed who Exiting x
   led_exiting who x true is there = alone who Exiting x _ (confirms (inl refl) is) there
@@ -45,7 +54,8 @@ module _ (v : View) (confirmed : UniqueSet) where
   led_down who x false false is lost there = absurd (contains_nothing x there)
 
   one_led : (number : ℕ) (m : MemberPair) (x : Effect) → Contains (led (unreachable_members v) confirmed number m) x → LedTo v confirmed m.0 m.1.0 x
-  one_led number (who, (Joining, up)) x there = led_joining who number x (has_next number) refl there
+  one_led number (who, (Joining, up)) x there = led_waiting who Joining refl number x (has_next number) refl there
+  one_led number (who, (WeaklyUp, up)) x there = led_waiting who WeaklyUp refl number x (has_next number) refl there
   one_led number (who, (Up, up)) x there = absurd (contains_nothing x there)
   one_led number (who, (Leaving, up)) x there = alone who Leaving x _ (exits refl) there
   one_led number (who, (Exiting, up)) x there = led_exiting who x (has confirmed who) refl there
@@ -67,7 +77,7 @@ module _ (v : View) (confirmed : UniqueSet) where
   -- ---- in words
   about : (who : UniqueModel) (status : Status) (x : Effect) → LedTo v confirmed who status x → IsAbout x who
   about who status x is = elim is as (λ y h. IsAbout y who) [
-    | rises number joining least most ↦ refl
+    | rises number waits least most ↦ refl
     | exits leaving ↦ refl
     | confirms out said ↦ refl
     | removes down silent lost ↦ refl
@@ -79,7 +89,7 @@ module _ (v : View) (confirmed : UniqueSet) where
   -- the cause of a rise, and of a removal
   abbrev CauseOfRise : Effect → Type 0
   CauseOfRise (Joined who) = Unit {0}
-  CauseOfRise (Rise who status number) = ((status ≡ Up) × IsMemberWith v.standings who Joining) ⊎ ((status ≡ Exiting) × IsMemberWith v.standings who Leaving)
+  CauseOfRise (Rise who status number) = ((status ≡ Up) × IsWaiting v.standings who) ⊎ ((status ≡ Exiting) × IsMemberWith v.standings who Leaving)
   CauseOfRise (Removed who b) = (b ≡ true → IsTrue (has confirmed who)) × ((b ≡ false) → IsMemberWith v.standings who Down × IsUnreachable v who)
   CauseOfRise (Observed subjects) = Unit {0}
 
@@ -88,7 +98,7 @@ module _ (v : View) (confirmed : UniqueSet) where
 
   cause : (who : UniqueModel) (status : Status) (x : Effect) → IsMemberWith v.standings who status → LedTo v confirmed who status x → CauseOfRise x
   cause who status x member is = elim is as (λ y h. CauseOfRise y) [
-    | rises number joining least most ↦ inl (refl, with_status who status Joining member joining)
+    | rises number waits least most ↦ inl (refl, (status, member, waits))
     | exits leaving ↦ inr (refl, with_status who status Leaving member leaving)
     | confirms out said ↦ (λ _. said, λ never. absurd (true≢false never))
     | removes down silent lost ↦ (λ never. absurd (true≢false (sym never)), λ _. (with_status who status Down member down, lost))
@@ -97,7 +107,7 @@ module _ (v : View) (confirmed : UniqueSet) where
   causes : (x : Effect) → Contains (leaders_effects v confirmed) x → CauseOfRise x
   causes x there = let d = led_from x there in cause d.0 d.1 x d.2 d.3
 
-  pub led_up : (who : UniqueModel) (number : ℕ) → Contains (leaders_effects v confirmed) (Rise who Up number) → IsMemberWith v.standings who Joining
+  pub led_up : (who : UniqueModel) (number : ℕ) → Contains (leaders_effects v confirmed) (Rise who Up number) → IsWaiting v.standings who
   led_up who number there = elim (causes (Rise who Up number) there) [ inl up ↦ up.1 | inr exiting ↦ absurd (up_exits exiting.0) ]
     where
       up_exits : Up ≡ Exiting → ⊥
@@ -132,7 +142,7 @@ module _ (v : View) (confirmed : UniqueSet) where
       only : (who : UniqueModel) (status : Status) (x : Effect) → IsMemberWith v.standings who status → (who ≡ me → counts status ≡ true) → LedTo v confirmed who status x → IsAbout x me
           → (x ≡ Rise me Exiting 0) × IsMemberWith v.standings me Leaving
       only who status x member counted is mine = (elim is as (λ y h. IsAbout y me → (y ≡ Rise me Exiting 0) × IsMemberWith v.standings me Leaving) [
-        | rises number joining least most ↦ λ same. absurd (true≢false (sym (counted same) ∙ ap counts joining))
+        | rises number waits least most ↦ λ same. absurd (true≢false (sym (counted same) ∙ waiting_not_counted status waits))
         | exits leaving ↦ λ same. (ap (λ u. Rise u Exiting 0) same, subst (λ u. IsMemberWith v.standings u Leaving) same (with_status who status Leaving member leaving))
         | confirms out said ↦ λ same. absurd (elim out [ inl exiting ↦ true≢false (sym (counted same) ∙ ap counts exiting) | inr down ↦ true≢false (sym (counted same) ∙ ap counts down) ])
         | removes down silent lost ↦ λ same. absurd (true≢false (sym (counted same) ∙ ap counts down))
@@ -173,48 +183,55 @@ module _ (v : View) (confirmed : UniqueSet) where
       (λ number. passed (Removed who false) (has confirmed who) (Removed who true ∷ []) (if has (unreachable_members v) who then Removed who false ∷ [] else []) silent
       (chosen (Removed who false) (has (unreachable_members v) who) [] ((unreachable_means v who).1 lost)))
 
-  -- a Joining member comes Up where there are numbers for all members
+  -- a member that waits comes Up where there are numbers for all members
   abbrev HasRise : List Effect → UniqueModel → Type 0
   HasRise effects who = (number : ℕ) × Contains effects (Rise who Up number)
 
-  rise_here : (who : UniqueModel) (number : ℕ) (b : Bool) (rest : List Effect) → b ≡ true → Contains ((if b then Rise who Up (number + 1) ∷ [] else []) ++ rest) (Rise who Up (number + 1))
-  rise_here who number true rest is = contains_first (Rise who Up (number + 1)) rest
-  rise_here who number false rest is = absurd (true≢false (sym is))
+  rise_here : (who : UniqueModel) (status : Status) (up number : ℕ) → is_waiting status ≡ true → has_next number ≡ true → Contains (led (unreachable_members v) confirmed number (who, (status, up))) (Rise who Up (number + 1))
+  rise_here who Joining up number waits next = chosen (Rise who Up (number + 1)) (has_next number) [] next
+  rise_here who WeaklyUp up number waits next = chosen (Rise who Up (number + 1)) (has_next number) [] next
+  rise_here who Up up number waits next = absurd (true≢false (sym waits))
+  rise_here who Leaving up number waits next = absurd (true≢false (sym waits))
+  rise_here who Exiting up number waits next = absurd (true≢false (sym waits))
+  rise_here who Down up number waits next = absurd (true≢false (sym waits))
+
+  next_if : (number : ℕ) (b : Bool) → (if b then number + 1 else number) ≤ number + 1
+  next_if number true = omega arith
+  next_if number false = omega arith
 
   next_most : (number : ℕ) (status : Status) → number_after number status ≤ number + 1
-  next_most number Joining = by_next (has_next number)
-    where
-      by_next : (b : Bool) → (if b then number + 1 else number) ≤ number + 1
-      by_next true = omega arith
-      by_next false = omega arith
+  next_most number Joining = next_if number (has_next number)
+  next_most number WeaklyUp = next_if number (has_next number)
   next_most number Up = omega arith
   next_most number Leaving = omega arith
   next_most number Exiting = omega arith
   next_most number Down = omega arith
 
-  owed_rise : (who : UniqueModel) (up number : ℕ) (ms : List MemberPair) → Contains ms (who, (Joining, up)) → number + length ms ≤ BOUND → HasRise (all_led (unreachable_members v) confirmed number ms) who
-  owed_rise who up number [] there room = absurd (contains_nothing _ there)
-  owed_rise who up number (n ∷ ms) there room =
+  owed_rise : (who : UniqueModel) (status : Status) → is_waiting status ≡ true → (up number : ℕ) (ms : List MemberPair) → Contains ms (who, (status, up)) → number + length ms ≤ BOUND → HasRise (all_led (unreachable_members v) confirmed number ms) who
+  owed_rise who status waits up number [] there room = absurd (contains_nothing _ there)
+  owed_rise who status waits up number (n ∷ ms) there room =
       let rest = all_led (unreachable_members v) confirmed (number_after number n.1.0) ms in
-      elim (first_or_rest n (who, (Joining, up)) ms there) [
+      elim (first_or_rest n (who, (status, up)) ms there) [
         | inl same ↦
             let below : number < BOUND = omega arith in (
               number + 1,
               subst (λ (r : MemberPair). Contains (led (unreachable_members v) confirmed number r ++ all_led (unreachable_members v) confirmed (number_after number r.1.0) ms) (Rise who Up (number + 1))) same
-                  (rise_here who number (has_next number) (all_led (unreachable_members v) confirmed (number_after number Joining) ms) (lt-ltb number BOUND below)),
+                  (contains_left (led (unreachable_members v) confirmed number (who, (status, up))) (all_led (unreachable_members v) confirmed (number_after number status) ms) (Rise who Up (number + 1))
+                  (rise_here who status up number waits (lt-ltb number BOUND below))),
             )
         | inr later ↦
             let next = next_most number n.1.0 in
-            let r = owed_rise who up (number_after number n.1.0) ms later (omega arith) in
+            let r = owed_rise who status waits up (number_after number n.1.0) ms later (omega arith) in
             (r.0, contains_right (led (unreachable_members v) confirmed number n) rest (Rise who Up r.0) r.1)
       ]
 
-  pub owes_rise : (who : UniqueModel) → IsMemberWith v.standings who Joining → greatest_number (members_of v.standings) + length (members_of v.standings) ≤ BOUND → (number : ℕ) × Contains (leaders_effects v confirmed) (Rise who Up number)
-  owes_rise who member room = owed_rise who member.0 (greatest_number (members_of v.standings)) (members_of v.standings) (have_members v.standings who (Joining, member.0) member.1) room
+  pub owes_rise : (who : UniqueModel) → IsWaiting v.standings who → greatest_number (members_of v.standings) + length (members_of v.standings) ≤ BOUND → (number : ℕ) × Contains (leaders_effects v confirmed) (Rise who Up number)
+  owes_rise who (status, member, waits) room = owed_rise who status waits member.0 (greatest_number (members_of v.standings)) (members_of v.standings) (have_members v.standings who (status, member.0) member.1) room
 
 -- ---- the founding
 pub joins : (status : Status) → is_joining status ≡ true → status ≡ Joining
 joins Joining is = refl
+joins WeaklyUp is = absurd (true≢false (sym is))
 joins Up is = absurd (true≢false (sym is))
 joins Leaving is = absurd (true≢false (sym is))
 joins Exiting is = absurd (true≢false (sym is))

@@ -1,3 +1,4 @@
 pub mod LeaderLaws
 pub mod LedLaws
 pub mod NumberLaws
+pub mod WeakLaws

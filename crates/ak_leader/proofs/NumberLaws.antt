@@ -9,7 +9,7 @@ use Rattle.ak_clock.specs.declared.version.TheConstants.{BOUND}
 use Rattle.ak_member.specs.declared.effect.Effect.{Effect}
 use Rattle.ak_member.specs.declared.effect.Effect.TheVariants.{Rise, Removed}
 use Rattle.ak_member.specs.declared.status.Status.{Status}
-use Rattle.ak_member.specs.declared.status.Status.TheVariants.{Joining, Up, Leaving, Exiting, Down}
+use Rattle.ak_member.specs.declared.status.Status.TheVariants.{Joining, WeaklyUp, Up, Leaving, Exiting, Down}
 use Rattle.ak_member.specs.Standing.{member_of, members_of}
 use Rattle.ak_member.specs.View.{View}
 use Rattle.ak_address.proofs.Elements.{first_or_rest, contains_nothing, contains_at}
@@ -83,6 +83,7 @@ module _ (lost confirmed : UniqueSet) where
   all_numbers : (number : ℕ) (ms : List MemberPair) → Numbers number (all_led lost confirmed number ms)
   all_numbers number [] = no_numbers number
   all_numbers number ((who, (Joining, up)) ∷ ms) = joining who number ms (has_next number) refl (all_numbers (number_after number Joining) ms)
+  all_numbers number ((who, (WeaklyUp, up)) ∷ ms) = joining who number ms (has_next number) refl (all_numbers (number_after number WeaklyUp) ms)
   all_numbers number ((who, (Up, up)) ∷ ms) = all_numbers number ms
   all_numbers number ((who, (Leaving, up)) ∷ ms) = other_effect number (Rise who Exiting 0) (all_led lost confirmed number ms) (λ other n. exits_nobody_up who other n) (all_numbers number ms)
   all_numbers number ((who, (Exiting, up)) ∷ ms) = exiting who number (all_led lost confirmed number ms) (has confirmed who) (all_numbers number ms)

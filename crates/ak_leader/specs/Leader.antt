@@ -9,7 +9,7 @@ use Rattle.ak_clock.specs.declared.version.TheConstants.{BOUND}
 use Rattle.ak_member.specs.declared.effect.Effect.{Effect}
 use Rattle.ak_member.specs.declared.effect.Effect.TheVariants.{Rise, Removed}
 use Rattle.ak_member.specs.declared.status.Status.{Status}
-use Rattle.ak_member.specs.declared.status.Status.TheVariants.{Joining, Up, Leaving, Exiting, Down}
+use Rattle.ak_member.specs.declared.status.Status.TheVariants.{Joining, WeaklyUp, Up, Leaving, Exiting, Down}
 use Rattle.ak_member.specs.Standing.{Standings, members_of, is_joining}
 use Rattle.ak_member.specs.Age.{counts, IsCounted}
 use Rattle.ak_member.specs.View.{View}
@@ -44,15 +44,17 @@ has_next number = nat_lt number BOUND
 -- the last number given, after a member with this status
 abbrev pub number_after : ℕ → Status → ℕ
 number_after number Joining = if has_next number then number + 1 else number
+number_after number WeaklyUp = if has_next number then number + 1 else number
 number_after number Up = number
 number_after number Leaving = number
 number_after number Exiting = number
 number_after number Down = number
 
--- what the leader makes of one member: who joins comes Up with the next number, who leaves exits, and who has exited or
+-- what the leader makes of one member: who is Joining or WeaklyUp comes Up with the next number, who leaves exits, and who has exited or
 -- is Down is removed, once it said that it stops, or where a Down one is unreachable
 abbrev pub led : UniqueSet → UniqueSet → ℕ → UniqueModel × (Status × ℕ) → List Effect
 led lost confirmed number (who, (Joining, up)) = if has_next number then Rise who Up (number + 1) ∷ [] else []
+led lost confirmed number (who, (WeaklyUp, up)) = if has_next number then Rise who Up (number + 1) ∷ [] else []
 led lost confirmed number (who, (Up, up)) = []
 led lost confirmed number (who, (Leaving, up)) = Rise who Exiting 0 ∷ []
 led lost confirmed number (who, (Exiting, up)) = if has confirmed who then Removed who true ∷ [] else []
@@ -75,3 +77,16 @@ all_founded number (pair ∷ pairs) = if is_joining pair.1.0 then Rise pair.0 Up
 -- the founding effects
 abbrev pub founding_effects : Standings → List Effect
 founding_effects s = all_founded 0 (members_of s)
+
+-- a member is let in while the members cannot agree: it is Joining, and can be reached
+abbrev pub is_let_in : UniqueSet → UniqueModel × (Status × ℕ) → Bool
+is_let_in lost pair = is_joining pair.1.0 && not (has lost pair.0)
+
+-- each of them becomes WeaklyUp
+abbrev pub all_let_in : UniqueSet → List (UniqueModel × (Status × ℕ)) → List Effect
+all_let_in lost [] = []
+all_let_in lost (pair ∷ pairs) = if is_let_in lost pair then Rise pair.0 WeaklyUp 0 ∷ all_let_in lost pairs else all_let_in lost pairs
+
+-- what the leader of a view that does not settle makes of it (Akka's Cluster Specification, "WeaklyUp Members")
+abbrev pub weak_effects : View → List Effect
+weak_effects v = all_let_in (unreachable_members v) (members_of v.standings)

@@ -7,14 +7,18 @@ use Rattle.ak_clock.specs.declared.version.TheConstants.{BOUND}
 use Rattle.ak_member.specs.declared.effect.Effect.{Effect}
 use Rattle.ak_member.specs.declared.effect.Effect.TheVariants.{Joined, Rise, Removed, Observed}
 use Rattle.ak_member.specs.declared.status.Status.{Status}
-use Rattle.ak_member.specs.declared.status.Status.TheVariants.{Joining, Up, Leaving, Exiting, Down}
-use Rattle.ak_member.specs.Standing.{Standings, member_of}
+use Rattle.ak_member.specs.declared.status.Status.TheVariants.{Joining, WeaklyUp, Up, Leaving, Exiting, Down}
+use Rattle.ak_member.specs.Standing.{Standings, member_of, is_waiting}
 use Rattle.ak_member.specs.View.{View}
 use Rattle.ak_reach.specs.Unreachable.{IsUnreachable}
 
 -- the process is a member with this status
 abbrev pub IsMemberWith : Standings → UniqueModel → Status → Type 0
 IsMemberWith s who status = (number : ℕ) × (member_of (map.get s who) ≡ Some (status, number))
+
+-- the process is a member that waits to come Up
+abbrev pub IsWaiting : Standings → UniqueModel → Type 0
+IsWaiting s who = (status : Status) × IsMemberWith s who status × IsTrue (is_waiting status)
 
 -- the effect changes what is known of this process
 abbrev pub IsAbout : Effect → UniqueModel → Type 0
@@ -25,7 +29,7 @@ IsAbout (Observed subjects) who = ⊥
 
 -- what the leader makes of a member with this status, and why
 pub data LedTo (v : View) (confirmed : UniqueSet) (who : UniqueModel) (status : Status) : Effect → Type 0 where
-  rises : (number : ℕ) → status ≡ Joining → 1 ≤ number → number ≤ BOUND → LedTo v confirmed who status (Rise who Up number)
+  rises : (number : ℕ) → IsTrue (is_waiting status) → 1 ≤ number → number ≤ BOUND → LedTo v confirmed who status (Rise who Up number)
   exits : status ≡ Leaving → LedTo v confirmed who status (Rise who Exiting 0)
   confirms : (status ≡ Exiting) ⊎ (status ≡ Down) → IsTrue (has confirmed who) → LedTo v confirmed who status (Removed who true)
   removes : status ≡ Down → has confirmed who ≡ false → IsUnreachable v who → LedTo v confirmed who status (Removed who false)

@@ -13,8 +13,8 @@ use ak_member::{Effect, Effects, Members, Standing, Status};
 use ak_reach::{Rows, is_unreachable};
 use std::alloc::{AllocError, Global};
 
-/// What the leader makes of a view on which all agree, in one pass in the order of processes: a Joining member comes Up
-/// with the next number above all up numbers of the view, from 1 to `BOUND` (past that, it stays as it is); a Leaving one
+/// What the leader makes of a view on which all agree, in one pass in the order of processes: a Joining or WeaklyUp member
+/// comes Up with the next number above all up numbers of the view, from 1 to `BOUND` (past that, it stays as it is); a Leaving one
 /// exits; an Exiting or Down one that is among those confirmed to have stopped is removed as confirmed; any other Down one
 /// that is unreachable is removed unconfirmed (Akka's Cluster Specification, "Leader"; the confirmation is this project's
 /// choice). Only memory can fail, and only where there is an effect.
@@ -73,6 +73,7 @@ fn effect_at(
 {
     match members.pair(pair) {
         Some((who, Standing::Member(Status::Joining, _))) => rise(alloc, who, number),
+        Some((who, Standing::Member(Status::WeaklyUp, _))) => rise(alloc, who, number),
         Some((_, Standing::Member(Status::Up, _))) => Ok(None),
         Some((who, Standing::Member(Status::Leaving, _))) => {
             Ok(Some(Effect::Rise(who.copy(alloc)?, Status::Exiting, 0)))
@@ -89,7 +90,7 @@ fn effect_at(
     }
 }
 
-// A Joining member comes Up with the next number, if that is within the bound.
+// A member that waits comes Up with the next number, if that is within the bound.
 fn rise(alloc: Global, who: &Unique, number: u64) -> Result<Option<Effect>, AllocError>
     ensures ok { IfOk result (λ effect. option_to_list effect ≡ if has_next number then Rise who.now Up (number + 1) ∷ [] else []) }
     ensures memory { OnErr result (IsTrue (has_next number)) }
@@ -132,17 +133,23 @@ fn number_after(number: u64, status: Status) -> u64
     ensures { result ≡ number_after number status }
 {
     match status {
-        Status::Joining => {
-            if number < BOUND {
-                return number + 1;
-            }
-            number
-        }
+        Status::Joining => number_next(number),
+        Status::WeaklyUp => number_next(number),
         Status::Up => number,
         Status::Leaving => number,
         Status::Exiting => number,
         Status::Down => number,
     }
+}
+
+// The last number given after a member that waits.
+fn number_next(number: u64) -> u64
+    ensures { result ≡ if has_next number then number + 1 else number }
+{
+    if number < BOUND {
+        return number + 1;
+    }
+    number
 }
 
 // Appends the effect, if there is one.

@@ -1,6 +1,7 @@
 -- Why a rule of a membership writes an effect.
-use Rattle.std.proofs.Common.{◌≡◌, ℕ, ◌+◌, Bool, true, false, not, ◌&&◌, inl, inr, if◌then◌else◌, nat_le, List, [], ◌∷◌, Option, Some, None, is_some, Result, Ok, Err, Contains, refl, sym, ap, ◌∙◌, subst, true≢false}
+use Rattle.std.proofs.Common.{◌≡◌, ℕ, ◌+◌, ◌≤◌, ◌==◌, min, Bool, true, false, not, ◌&&◌, inl, inr, if◌then◌else◌, nat_le, List, [], ◌∷◌, Option, Some, None, is_some, Result, Ok, Err, Contains, refl, sym, ap, ◌∙◌, subst, arith, true≢false}
 use Rattle.std.proofs.lemmas.Bool.{leb-true}
+use Rattle.std.proofs.lemmas.Bool.Decides.{nat_tests}
 use Rattle.std.specs.FinMap as map
 use Rattle.std.specs.Cmp.{first_so, second_so}
 use Rattle.ak_world.proofs.RaisedBySteps.{up_is}
@@ -17,14 +18,15 @@ use Rattle.ak_gossip.specs.declared.gossip.GossipFault.{GossipFault}
 use Rattle.ak_gossip.specs.declared.gossip.GossipFault.TheVariants as fault
 use Rattle.ak_gossip.specs.declared.gossip.Received.{Received}
 use Rattle.ak_gossip.specs.Gossip.{GossipState, is_known, receive}
-use Rattle.ak_leader.specs.Leader.{leader, leaders_effects, founding_effects}
+use Rattle.ak_leader.specs.Leader.{leader, leaders_effects, founding_effects, weak_effects}
 use Rattle.ak_leader.specs.Led.{LedTo, IsMemberWith}
 use Rattle.ak_leader.specs.Led.LedTo.{rises, exits, confirms, removes}
 use Rattle.ak_leader.proofs.LedLaws.{led_from, founds_at}
+use Rattle.ak_leader.proofs.WeakLaws.{weak_from}
 use Rattle.ak_member.specs.declared.effect.Effect.{Effect}
 use Rattle.ak_member.specs.declared.effect.Effect.TheVariants.{Joined, Rise, Observed}
 use Rattle.ak_member.specs.declared.status.Status.{Status}
-use Rattle.ak_member.specs.declared.status.Status.TheVariants.{Joining, Up, Leaving, Exiting, Down}
+use Rattle.ak_member.specs.declared.status.Status.TheVariants.{Joining, WeaklyUp, Up, Leaving, Exiting, Down}
 use Rattle.ak_member.specs.Standing as standing
 use Rattle.ak_member.specs.Standing.{members_of, member_of, is_down, is_up, is_joining, is_member_with}
 use Rattle.ak_member.proofs.MembersLaws.{members_have}
@@ -33,7 +35,7 @@ use Rattle.ak_membership.specs.declared.change.MemberFault.{MemberFault}
 use Rattle.ak_membership.specs.declared.state.MembershipState.{MembershipState}
 use Rattle.ak_membership.specs.Knowledge.{told_as, told}
 use Rattle.ak_membership.specs.Membership.{Outcome, unchanged, may_count, update, update_any, is_member, join, leave, down, is_beside, has_member_beside, replaced, most_at_join, on_join, on_received, on_gossip, on_heard, on_confirmed}
-use Rattle.ak_membership.specs.Tick.{observes, silent, decides, decided, founds, leads, has_settled, is_process, joining_addresses, updates, tick}
+use Rattle.ak_membership.specs.Tick.{observes, silent, decides, decided, founds, leads, lets_in, waited, has_settled, is_process, joining_addresses, updates, tick}
 use Rattle.ak_membership.proofs.Causes.{joining_member, status_of}
 use Rattle.ak_node.specs.declared.node.NodeEvent.{NodeEvent}
 use Rattle.ak_node.specs.declared.node.NodeEvent.TheVariants as event
@@ -145,11 +147,37 @@ module _ (n : State) (ev : NodeEvent) where
 
         by_cause : (who : UniqueModel) (status : Status) → IsMemberWith (members_at n) who status → (y : Effect) → LedTo m.gossip.view m.confirmed who status y → Why y
         by_cause who status member y is = elim is as (λ z h. Why z) [
-          | rises number joins least most ↦ cause.IsCause.rises who number ticks leads_it (as_status who status Joining joins member)
+          | rises number waits least most ↦ cause.IsCause.rises who number ticks leads_it (status, member, waits)
           | exits leaving ↦ cause.IsCause.exits who ticks leads_it (as_status who status Leaving leaving member)
           | confirms out said ↦ cause.IsCause.confirms who ticks leads_it (elim out [ inl gone ↦ inl (as_status who status Exiting gone member) | inr gone ↦ inr (as_status who status Down gone member) ]) said
           | removes down unsaid lost ↦ cause.IsCause.removes who ticks leads_it (as_status who status Down down member) lost unsaid
         ]
+
+    let_in : lets_in m ≡ true → (x : Effect) → Contains (weak_effects m.gossip.view) x → Why x
+    let_in is x there =
+        let asked = not (m.settings.weakly == 0) in
+        let full = waited m == m.settings.weakly in
+        let mine = is_process m.me (leader m.gossip.view) in
+        let both = first_so (asked && full) mine is in
+        let least = some_asked m.settings.weakly (first_so asked full both) in
+        let long = is_long (waited m) m.settings.weakly (second_so asked full both) in
+        let d = weak_from m.gossip.view x there in
+        subst Why (sym d.3)
+        (cause.IsCause.lets_in d.0 ticks
+        (record { asked = least; waited = long; unsettled = not_settled (has_settled m) refl least long; leads = is_it m.me (leader m.gossip.view) (second_so (asked && full) mine is) })
+        d.1 d.2)
+      where
+        some_asked : (k : ℕ) → not (k == 0) ≡ true → 1 ≤ k
+        some_asked k some = grind (arith, nat_tests)
+
+        is_long : (k l : ℕ) → (k == l) ≡ true → k ≡ l
+        is_long k l same = grind (arith, nat_tests)
+
+        not_settled : (b : Bool) → has_settled m ≡ b → 1 ≤ m.settings.weakly → waited m ≡ m.settings.weakly → has_settled m ≡ false
+        not_settled false settled least long = settled
+        not_settled true settled least long =
+            let none : waited m ≡ 0 = ap (λ b. if b then 0 else min (m.weak + 1) m.settings.weakly) settled in
+            absurd (omega (arith, none, long, least))
 
     founded : founds m ≡ true → (x : Effect) → Contains (founding_effects m.gossip.view.standings) x → Why x
     founded is x there =
@@ -182,7 +210,8 @@ module _ (n : State) (ev : NodeEvent) where
         all_if Why (observes m) _ _ (λ is. all_update Why m (Observed (silent m) ∷ []) (all_one Why (Observed (silent m)) (cause.IsCause.observes ticks))) (λ none.
         all_if Why (decides m) _ _ (λ is. all_update Why m (decided m) (decides_it is)) (λ none.
         all_if Why (founds m) _ _ (λ is. all_update Why m (founding_effects m.gossip.view.standings) (founded is)) (λ none.
-        all_if Why (leads m) _ _ (λ is. all_any Why m (leaders_effects m.gossip.view m.confirmed) (led is)) (λ none. all_unchanged Why m))))
+        all_if Why (leads m) _ _ (λ is. all_any Why m (leaders_effects m.gossip.view m.confirmed) (led is)) (λ none.
+        all_if Why (lets_in m) _ _ (λ is. all_any Why m (weak_effects m.gossip.view) (let_in is)) (λ none. all_unchanged Why m)))))
 
   ticking : (word : ℕ) → ev ≡ event.Tick word → All Why (tick m)
   ticking word is = all_if Why (is_member m) _ _ (λ member x says. updated_why ((word, is), member) x says) (λ none. all_unchanged Why m)

@@ -22,3 +22,6 @@ pub mod MovedFirst
 pub mod MovedSecond
 pub mod MovedWorlds
 pub mod MovedRun
+pub mod WeakSteps
+pub mod WeakRuns
+pub mod WaitingLaws

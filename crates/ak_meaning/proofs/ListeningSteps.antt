@@ -1,5 +1,5 @@
 -- What a step does to the counters of a detector: what came with its event, and then the members.
-use Rattle.std.proofs.Common.{◌≡◌, ◌+◌, Bool, true, false, not, if◌then◌else◌, nat_le, List, [], ◌∷◌, ◌++◌, Some, Result, Ok, Err, IsTrue, refl, sym, ◌∙◌, subst}
+use Rattle.std.proofs.Common.{◌≡◌, ℕ, ◌+◌, Bool, true, false, not, if◌then◌else◌, nat_le, List, [], ◌∷◌, ◌++◌, Some, Result, Ok, Err, IsTrue, refl, sym, ◌∙◌, subst}
 use Rattle.std.specs.FinMap as map
 use Rattle.ak_address.specs.Unique.{UniqueModel}
 use Rattle.ak_address.specs.Uniques.{with_one}
@@ -8,7 +8,7 @@ use Rattle.ak_gossip.specs.declared.gossip.GossipFault.{GossipFault}
 use Rattle.ak_gossip.specs.declared.gossip.GossipFault.TheVariants as fault
 use Rattle.ak_gossip.specs.declared.gossip.Received.{Received}
 use Rattle.ak_gossip.specs.Gossip.{GossipState, is_known, receive}
-use Rattle.ak_leader.specs.Leader.{leaders_effects, founding_effects}
+use Rattle.ak_leader.specs.Leader.{leaders_effects, founding_effects, weak_effects}
 use Rattle.ak_member.specs.declared.effect.Effect.{Effect}
 use Rattle.ak_member.specs.declared.effect.Effect.TheVariants.{Joined, Rise, Observed}
 use Rattle.ak_member.specs.declared.status.Status.TheVariants.{Leaving, Down}
@@ -18,7 +18,7 @@ use Rattle.ak_membership.specs.declared.change.MemberFault.{MemberFault}
 use Rattle.ak_membership.specs.declared.change.Reply.TheVariants.{Welcome}
 use Rattle.ak_membership.specs.declared.state.MembershipState.{MembershipState}
 use Rattle.ak_membership.specs.Membership.{Outcome, unchanged, replying, may_count, made, update, update_any, knowing, is_member, found, leave, down, has_member_beside, replaced, most_at_join, on_join, on_received, on_gossip, on_heard}
-use Rattle.ak_membership.specs.Tick.{observes, silent, decides, decided, founds, leads, updates, counted}
+use Rattle.ak_membership.specs.Tick.{observes, silent, decides, decided, founds, leads, lets_in, waited, updates, counted}
 use Rattle.ak_node.specs.declared.node.NodeEvent.{NodeEvent}
 use Rattle.ak_node.specs.declared.node.NodeEvent.TheVariants as event
 use Rattle.ak_node.specs.declared.node.State.{State}
@@ -98,10 +98,11 @@ module _ (m : MembershipState) where
       listens_if (observes m) (update (Observed (silent m) ∷ []) m) _ (update_listens m (Observed (silent m) ∷ []) refl refl refl)
       (listens_if (decides m) (update (decided m) m) _ (update_listens m (decided m) refl refl refl)
       (listens_if (founds m) (update (founding_effects m.gossip.view.standings) m) _ (update_listens m (founding_effects m.gossip.view.standings) refl refl refl)
-      (listens_if (leads m) (update_any (leaders_effects m.gossip.view m.confirmed) m) (unchanged m) (any_listens (leaders_effects m.gossip.view m.confirmed)) itself)))
+      (listens_if (leads m) (update_any (leaders_effects m.gossip.view m.confirmed) m) _ (any_listens (leaders_effects m.gossip.view m.confirmed))
+      (listens_if (lets_in m) (update_any (weak_effects m.gossip.view) m) (unchanged m) (any_listens (weak_effects m.gossip.view)) itself))))
 
-  counted_listens : (l : MembershipState) → Listens [] m l → Listens (Ticks ∷ []) m (counted l)
-  counted_listens l s = record { detector = (λ i. ticked (s.settings i).deadline (s.detector i)); me = s.me; settings = s.settings }
+  counted_listens : (l : MembershipState) (weak : ℕ) → Listens [] m l → Listens (Ticks ∷ []) m (counted weak l)
+  counted_listens l weak s = record { detector = (λ i. ticked (s.settings i).deadline (s.detector i)); me = s.me; settings = s.settings }
 
   -- nothing comes to one that is no member
   nothing_comes : (b : Bool) (l : MembershipState) → Listens [] m l → Listens (if b then [] else []) m l
@@ -138,8 +139,8 @@ module _ (m : MembershipState) where
       by_member false = still (record m { target = Some target }) refl refl refl
   given_listens (event.Tick word) = by_member (is_member m)
     where
-      by_member : (b : Bool) → Listens (if b then Ticks ∷ [] else []) m (if b then (counted (updates m).0, (updates m).1) else unchanged m).0
-      by_member true = counted_listens (updates m).0 updates_listen
+      by_member : (b : Bool) → Listens (if b then Ticks ∷ [] else []) m (if b then (counted (waited m) (updates m).0, (updates m).1) else unchanged m).0
+      by_member true = counted_listens (updates m).0 (waited m) updates_listen
       by_member false = itself
   given_listens (event.Packet p) = told_listens p.from p.message
   given_listens (event.Leave who) = nothing_comes (is_member m) (given_to (event.Leave who) m).0 (leave_listens who)

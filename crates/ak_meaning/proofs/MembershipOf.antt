@@ -177,10 +177,10 @@ module _ (n : State) where
   ticking : (word : ℕ) → Does (node.tick word n) (ticks.tick n.membership)
   ticking word = by_member (is_member n) refl
     where
-      by_member : (b : Bool) → is_member n ≡ b → Does (if b then and_then (goes_on word) (ticked n (ticks.tick n.membership)) else asks_at n.membership.target n) (if b then (ticks.counted (ticks.updates n.membership).0, (ticks.updates n.membership).1) else unchanged n.membership)
+      by_member : (b : Bool) → is_member n ≡ b → Does (if b then and_then (goes_on word) (ticked n (ticks.tick n.membership)) else asks_at n.membership.target n) (if b then (ticks.counted (ticks.waited n.membership) (ticks.updates n.membership).0, (ticks.updates n.membership).1) else unchanged n.membership)
       by_member true is = record {
-        state = (tick_member word (ticks.tick n.membership)).state ∙ ap (λ b. (if b then (ticks.counted (ticks.updates n.membership).0, (ticks.updates n.membership).1) else unchanged n.membership).0) is;
-        updates = (tick_member word (ticks.tick n.membership)).updates ∙ ap (λ b. told (if b then (ticks.counted (ticks.updates n.membership).0, (ticks.updates n.membership).1) else unchanged n.membership).1) is;
+        state = (tick_member word (ticks.tick n.membership)).state ∙ ap (λ b. (if b then (ticks.counted (ticks.waited n.membership) (ticks.updates n.membership).0, (ticks.updates n.membership).1) else unchanged n.membership).0) is;
+        updates = (tick_member word (ticks.tick n.membership)).updates ∙ ap (λ b. told (if b then (ticks.counted (ticks.waited n.membership) (ticks.updates n.membership).0, (ticks.updates n.membership).1) else unchanged n.membership).1) is;
       }
       by_member false is = asks_idle n.membership.target
 

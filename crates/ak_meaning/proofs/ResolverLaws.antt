@@ -17,7 +17,7 @@ use Rattle.ak_leader.specs.Led.{IsMemberWith}
 use Rattle.ak_member.specs.declared.effect.Effect.{Effect}
 use Rattle.ak_member.specs.declared.effect.Effect.TheVariants.{Rise}
 use Rattle.ak_member.specs.declared.status.Status.{Status}
-use Rattle.ak_member.specs.declared.status.Status.TheVariants.{Joining, Up, Leaving, Exiting, Down}
+use Rattle.ak_member.specs.declared.status.Status.TheVariants.{Joining, WeaklyUp, Up, Leaving, Exiting, Down}
 use Rattle.ak_member.specs.declared.standing.Standing.{Standing}
 use Rattle.ak_member.specs.Standing.{member_of, members_of, is_down}
 use Rattle.ak_member.specs.Age.{counts, counted_pairs, counted_addresses}
@@ -41,6 +41,7 @@ use Rattle.ak_meaning.proofs.CountingLemmas.{below_none, rising_once, last_ones,
 -- ---- who counts
 counts_means : (status : Status) → counts status ≡ true → (status ≡ Up) ⊎ (status ≡ Leaving)
 counts_means Joining is = absurd (true≢false (sym is))
+counts_means WeaklyUp is = absurd (true≢false (sym is))
 counts_means Up is = inl refl
 counts_means Leaving is = inr refl
 counts_means Exiting is = absurd (true≢false (sym is))
@@ -430,6 +431,7 @@ named me other = me
 
 not_down : (status : Status) → status ≢ Down → is_down status ≡ false
 not_down Joining is = refl
+not_down WeaklyUp is = refl
 not_down Up is = refl
 not_down Leaving is = refl
 not_down Exiting is = refl

@@ -28,7 +28,7 @@ use Rattle.ak_world.proofs.IndexLemmas.{set_at, set_here, push_at}
 use Rattle.ak_world.proofs.WaitedRuns.{run_settings}
 use Rattle.ak_meaning.specs.Counting.{HasEachOnce}
 use Rattle.ak_meaning.specs.Causes.{Gives, IsCause}
-use Rattle.ak_meaning.specs.Causes.IsCause.{begins, admits, founds, rises, leaves, exits, downs_asked, downs_replaced, downs_decided, confirms, removes, observes}
+use Rattle.ak_meaning.specs.Causes.IsCause.{begins, admits, founds, rises, lets_in, leaves, exits, downs_asked, downs_replaced, downs_decided, confirms, removes, observes}
 use Rattle.ak_meaning.specs.Standstill.{IsAt, TicksAt, TicksBetween, StoodStill, DownsAt}
 use Rattle.ak_meaning.proofs.CauseSteps.{told_why}
 use Rattle.ak_meaning.proofs.MembershipOf.{step_told}
@@ -187,6 +187,7 @@ decided_it n ev word is other x effect_is why = elim why as (λ y h. y ≡ Rise 
   | admits who asks member unknown ↦ λ e. absurd cc
   | founds who number ticks founding joins ↦ λ e. absurd cc
   | rises who number ticks leads joins ↦ λ e. absurd cc
+  | lets_in who ticks letting joins reached ↦ λ e. absurd cc
   | leaves who asks up ↦ λ e. absurd cc
   | exits who ticks leads leaving ↦ λ e. absurd cc
   | downs_asked who asks member ↦ λ e. elim asks [ inl now ↦ absurd cc | inr packet ↦ let q = packet.1 in absurd cc ]

@@ -7,7 +7,7 @@ use Rattle.ak_gossip.specs.declared.gossip.GossipFault.{GossipFault}
 use Rattle.ak_gossip.specs.declared.gossip.GossipFault.TheVariants as fault
 use Rattle.ak_gossip.specs.declared.gossip.Received.{Received}
 use Rattle.ak_gossip.specs.Gossip.{GossipState, is_known, receive, updated}
-use Rattle.ak_leader.specs.Leader.{leaders_effects, founding_effects}
+use Rattle.ak_leader.specs.Leader.{leaders_effects, founding_effects, weak_effects}
 use Rattle.ak_member.specs.declared.effect.Effect.{Effect}
 use Rattle.ak_member.specs.declared.effect.Effect.TheVariants.{Joined, Rise, Observed}
 use Rattle.ak_member.specs.declared.status.Status.TheVariants.{Leaving, Down}
@@ -19,7 +19,7 @@ use Rattle.ak_membership.specs.declared.change.Reply.TheVariants.{Welcome}
 use Rattle.ak_membership.specs.declared.state.MembershipState.{MembershipState}
 use Rattle.ak_membership.specs.Membership.{Outcome, unchanged, replying, may_count, made, update, update_any, knowing, is_member, leave, down, has_member_beside, replaced, most_at_join, on_join, on_received, on_gossip, on_heard}
 use Rattle.ak_sight.specs.Sight.{sight, has_moved}
-use Rattle.ak_membership.specs.Tick.{observes, silent, decides, decided, founds, leads, updates, counted}
+use Rattle.ak_membership.specs.Tick.{observes, silent, decides, decided, founds, leads, lets_in, waited, updates, counted}
 use Rattle.ak_membership.specs.Closing.{stable_after}
 use Rattle.ak_sight.proofs.MovedLaws.{stood_still}
 use Rattle.ak_node.specs.declared.node.NodeEvent.{NodeEvent}
@@ -110,10 +110,11 @@ module _ (m : MembershipState) where
       steady_if 0 (observes m) (update (Observed (silent m) ∷ []) m) _ (update_steady m (Observed (silent m) ∷ []) refl refl)
       (steady_if 0 (decides m) (update (decided m) m) _ (update_steady m (decided m) refl refl)
       (steady_if 0 (founds m) (update (founding_effects m.gossip.view.standings) m) _ (update_steady m (founding_effects m.gossip.view.standings) refl refl)
-      (steady_if 0 (leads m) (update_any (leaders_effects m.gossip.view m.confirmed) m) (unchanged m) (any_steady (leaders_effects m.gossip.view m.confirmed)) itself)))
+      (steady_if 0 (leads m) (update_any (leaders_effects m.gossip.view m.confirmed) m) _ (any_steady (leaders_effects m.gossip.view m.confirmed))
+      (steady_if 0 (lets_in m) (update_any (weak_effects m.gossip.view) m) (unchanged m) (any_steady (weak_effects m.gossip.view)) itself))))
 
-  counted_steady : (l : MembershipState) → Steady 0 m l → Steady 1 m (counted l)
-  counted_steady l s = record { still = s.still; stable = (let most = s.stable in omega arith) }
+  counted_steady : (l : MembershipState) (weak : ℕ) → Steady 0 m l → Steady 1 m (counted weak l)
+  counted_steady l weak s = record { still = s.still; stable = (let most = s.stable in omega arith) }
 
 -- how many ticks of a member an event is
 abbrev pub member_ticks : NodeEvent → MembershipState → ℕ
@@ -174,8 +175,8 @@ module _ (m : MembershipState) where
       by_member false = same_steady m (record m { target = Some target }) refl refl
   given_steady (event.Tick word) = by_member (is_member m)
     where
-      by_member : (b : Bool) → Steady (if b then 1 else 0) m (if b then (counted (updates m).0, (updates m).1) else unchanged m).0
-      by_member true = counted_steady m (updates m).0 (updates_steady m)
+      by_member : (b : Bool) → Steady (if b then 1 else 0) m (if b then (counted (waited m) (updates m).0, (updates m).1) else unchanged m).0
+      by_member true = counted_steady m (updates m).0 (waited m) (updates_steady m)
       by_member false = itself m
   given_steady (event.Packet p) = told_steady p.from p.message
   given_steady (event.Leave who) = leave_steady m who

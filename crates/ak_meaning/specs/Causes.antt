@@ -10,14 +10,14 @@ use Rattle.ak_downing.specs.Downing.{decide, downs}
 use Rattle.ak_gossip.specs.Gossip.{is_known}
 use Rattle.ak_history.specs.declared.entry.Entry.{Entry}
 use Rattle.ak_leader.specs.Leader.{leader}
-use Rattle.ak_leader.specs.Led.{IsMemberWith}
+use Rattle.ak_leader.specs.Led.{IsMemberWith, IsWaiting}
 use Rattle.ak_member.specs.declared.effect.Effect.{Effect}
 use Rattle.ak_member.specs.declared.effect.Effect.TheVariants.{Joined, Rise, Removed, Observed}
 use Rattle.ak_member.specs.declared.status.Status.{Status}
-use Rattle.ak_member.specs.declared.status.Status.TheVariants.{Joining, Up, Leaving, Exiting, Down}
+use Rattle.ak_member.specs.declared.status.Status.TheVariants.{Joining, WeaklyUp, Up, Leaving, Exiting, Down}
 use Rattle.ak_member.specs.Age.{counts}
 use Rattle.ak_member.specs.Standing.{Standings, is_member}
-use Rattle.ak_membership.specs.Tick.{decides, joining_addresses, silent}
+use Rattle.ak_membership.specs.Tick.{decides, waited, joining_addresses, silent}
 use Rattle.ak_node.specs.declared.node.NodeEvent.{NodeEvent}
 use Rattle.ak_node.specs.declared.node.NodeEvent.TheVariants as event
 use Rattle.ak_node.specs.declared.node.State.{State}
@@ -71,6 +71,13 @@ members_at n = (known n).view.standings
 abbrev pub LeadsSettled : State → Type 0
 LeadsSettled n = IsTrue (is_settled (settling_size n.membership.settings.strategy) (known n).view (known n).seen) × (leader (known n).view ≡ Some (me_of n))
 
+-- the settings let members in, it leads, and its view has not settled for as many ticks as they ask, this one included
+pub record LetsIn (n : State) : Type 0 where
+  pub asked : 1 ≤ n.membership.settings.weakly
+  pub waited : waited n.membership ≡ n.membership.settings.weakly
+  pub unsettled : is_settled (settling_size n.membership.settings.strategy) (known n).view (known n).seen ≡ false
+  pub leads : leader (known n).view ≡ Some (me_of n)
+
 -- it is the founder and Joining itself, all agree, and Joining members have enough addresses
 pub record Founds (n : State) : Type 0 where
   pub founder : IsTrue n.membership.founder
@@ -106,9 +113,11 @@ pub data IsCause (n : State) (ev : NodeEvent) : Effect → Type 0 where
   -- it founds the cluster, or admits whom it does not know
   begins : ev ≡ event.Found → IsCause n ev (Joined (me_of n))
   admits : (who : UniqueModel) → AsksToJoin ev who → IsTrue (node.is_member n) → is_known (members_at n) who ≡ false → IsCause n ev (Joined who)
-  -- a Joining member comes Up at the founding, or by the leader of a settled view
+  -- a Joining member comes Up at the founding, and one that waits by the leader of a settled view
   founds : (who : UniqueModel) (number : ℕ) → TicksNow n ev → Founds n → IsMemberWith (members_at n) who Joining → IsCause n ev (Rise who Up number)
-  rises : (who : UniqueModel) (number : ℕ) → TicksNow n ev → LeadsSettled n → IsMemberWith (members_at n) who Joining → IsCause n ev (Rise who Up number)
+  rises : (who : UniqueModel) (number : ℕ) → TicksNow n ev → LeadsSettled n → IsWaiting (members_at n) who → IsCause n ev (Rise who Up number)
+  -- a Joining member that can be reached is let in by the leader of a view that has not settled for long enough
+  lets_in : (who : UniqueModel) → TicksNow n ev → LetsIn n → IsMemberWith (members_at n) who Joining → (IsUnreachable (known n).view who → ⊥) → IsCause n ev (Rise who WeaklyUp 0)
   -- an Up member leaves where that is asked, and exits by the leader of a settled view
   leaves : (who : UniqueModel) → AsksToLeave ev who → IsMemberWith (members_at n) who Up → IsCause n ev (Rise who Leaving 0)
   exits : (who : UniqueModel) → TicksNow n ev → LeadsSettled n → IsMemberWith (members_at n) who Leaving → IsCause n ev (Rise who Exiting 0)

@@ -9,3 +9,5 @@ pub mod Resolver
 pub mod Ring
 pub mod Standstill
 pub mod Watching
+pub mod Unsettled
+pub mod Waiting

@@ -1,8 +1,9 @@
-ghost use Rattle.std.specs.Prelude.{◌≡◌, ◌↔◌, ◌<◌, ◌++◌, ◌∷◌, ℕ, false, IsTrue, List, Ok, Err, Some, Contains, slice_get, take, true};
+ghost use Rattle.std.specs.Prelude.{◌≡◌, ◌↔◌, ◌<◌, ◌++◌, ◌∷◌, ℕ, false, IsTrue, List, Option, Ok, Err, Some, Contains, slice_get, take, true};
 ghost use Rattle.std.specs.FinMap as map;
 ghost use Rattle.ak_address.specs.Counters.{Counters};
 ghost use Rattle.ak_address.specs.Unique.{UniqueModel};
-ghost use Rattle.ak_address.specs.Uniques.{has};
+ghost use Rattle.ak_address.specs.Uniques.{UniqueSet, has};
+ghost use Rattle.ak_converge.specs.Convergence.{IsConverged};
 ghost use Rattle.ak_detector.specs.Detector.{silent, watch_ring, watching};
 ghost use Rattle.ak_downing.specs.declared.decision.Decision.TheVariants.{DownAll, DownUnreachable};
 ghost use Rattle.ak_downing.specs.Downing.{decide};
@@ -19,7 +20,12 @@ ghost use Rattle.ak_meaning.specs.Receiving.{AreMerged};
 ghost use Rattle.ak_meaning.specs.Resolver.{AreDivided, DecidesByMajority, DecidesByQuorum, DoesCount, DownsRightly};
 ghost use Rattle.ak_meaning.specs.Ring.{Happening, HasLast, IsLast, IsRing, IsSilent, IsWatched, ticks_in};
 ghost use Rattle.ak_meaning.specs.Standstill.{DownsAt, IsAt, StoodStill};
+ghost use Rattle.ak_meaning.specs.Unsettled.{LetsInAt, StoodUnsettled};
+ghost use Rattle.ak_meaning.specs.Waiting.{AreAlikeBut};
 ghost use Rattle.ak_meaning.specs.Watching.{WatchesRing};
+ghost use Rattle.ak_leader.specs.Leader.{IsLeader};
+ghost use Rattle.ak_member.specs.Age.{IsCounted};
+ghost use Rattle.ak_reach.specs.Unreachable.{IsUnreachable};
 ghost use Rattle.ak_member.specs.declared.effect.Effect.{Effect};
 ghost use Rattle.ak_member.specs.declared.effect.Effect.TheVariants.{Removed, Rise};
 ghost use Rattle.ak_member.specs.declared.status.Status.TheVariants.{Up};
@@ -104,6 +110,23 @@ pub fn a_decision_waits_for_a_standstill()
     ensures { (settings : SettingsModel) (events : List Event) (index time : ℕ) → DownsAt settings events index time → StoodStill settings events index time }
 {}
 
+/// Whoever lets a member in at a tick had waited: from some step on it ticked as a member at least as often as the settings ask, this
+/// tick included, and at each of these ticks it found its view not settled (Akka's Cluster Specification, "WeaklyUp Members"; that it
+/// is ticks that are counted is this project's choice).
+pub fn a_member_is_let_in_after_a_wait()
+    ensures { (settings : SettingsModel) (events : List Event) (index time : ℕ) → LetsInAt settings events index time → StoodUnsettled settings events index time }
+{}
+
+/// A WeaklyUp member counts for nothing. Take two views that have the same rows and show the same members, but that some who wait are
+/// Joining in one and WeaklyUp in the other. The same members count in both, the same are unreachable, both are converged for the
+/// same who have seen them, or neither is, and both have the same leader (Akka's Cluster Specification, "WeaklyUp Members").
+pub fn waiting_members_count_for_nothing()
+    ensures counted { (v w : View) → AreAlikeBut v w → (who : UniqueModel) (number : ℕ) → IsCounted v.standings who number ↔ IsCounted w.standings who number }
+    ensures reached { (v w : View) → AreAlikeBut v w → (who : UniqueModel) → IsUnreachable v who ↔ IsUnreachable w who }
+    ensures converged { (v w : View) → AreAlikeBut v w → (seen : UniqueSet) → IsConverged v seen ↔ IsConverged w seen }
+    ensures leader { (v w : View) → AreAlikeBut v w → (o : Option UniqueModel) → IsLeader v o ↔ IsLeader w o }
+{}
+
 /// A gossip that is received without refusal leaves the version that is the merge of both, whatever the result; the receiver is
 /// among those that have seen what is known then, where it is a member of that, but after an older one, which changes nothing.
 /// That is what a running node knows after a step in which a packet for it carried a gossip that knows it; and where the gossip is
@@ -117,8 +140,9 @@ pub fn an_accepted_gossip_leaves_the_merge()
 {}
 
 /// Over every list of events: each effect of each entry of the history was written at a step of its author, a running node, for a
-/// cause. It founded, or admitted who asked. A rise to Up was made by the founding or by a leader in a settled view, one to
-/// Exiting by such a leader, one to Leaving where it was asked, one to Down where it was asked, where another process at that
+/// cause. It founded, or admitted who asked. A rise to Up was made by the founding or by a leader in a settled view, of a
+/// member that was Joining or WeaklyUp; one to WeaklyUp by a leader whose view had not settled for long enough, of a Joining member
+/// that it reached; one to Exiting by a leader in a settled view, one to Leaving where it was asked, one to Down where it was asked, where another process at that
 /// address asked to join, or by a decision, where some member counted, and another one than the author was unreachable and not
 /// Down. A removal was made by such a leader: as confirmed only of one that said that it stops, and else of one that was Down and
 /// unreachable. Who founds was given the event to found the cluster before (Akka's Cluster Specification, "Membership Lifecycle").

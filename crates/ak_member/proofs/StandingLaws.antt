@@ -4,7 +4,7 @@ use Rattle.std.proofs.lemmas.Bool.{ltb-true, ltb-false, lt-ltb, le-ltb}
 use Rattle.std.proofs.lemmas.Bool.Decides.{nat_tests}
 use Rattle.ak_address.proofs.BoolLemmas.{or_turned}
 use Rattle.ak_member.specs.declared.status.Status.{Status}
-use Rattle.ak_member.specs.declared.status.Status.TheVariants.{Joining, Up, Leaving, Exiting, Down}
+use Rattle.ak_member.specs.declared.status.Status.TheVariants.{Joining, WeaklyUp, Up, Leaving, Exiting, Down}
 use Rattle.ak_member.specs.declared.standing.Standing.{Standing}
 use Rattle.ak_member.specs.declared.standing.Standing.TheVariants.{Member, Buried}
 use Rattle.ak_member.specs.Standing.{rank, greater_status, older_number, merged_standing}
@@ -14,13 +14,15 @@ use Rattle.ak_member.specs.View.{Row, later_row}
 abbrev of_rank : ℕ → Status
 of_rank zero = Joining
 of_rank (suc zero) = Joining
-of_rank (suc (suc zero)) = Up
-of_rank (suc (suc (suc zero))) = Leaving
-of_rank (suc (suc (suc (suc zero)))) = Exiting
-of_rank (suc (suc (suc (suc (suc n))))) = Down
+of_rank (suc (suc zero)) = WeaklyUp
+of_rank (suc (suc (suc zero))) = Up
+of_rank (suc (suc (suc (suc zero)))) = Leaving
+of_rank (suc (suc (suc (suc (suc zero))))) = Exiting
+of_rank (suc (suc (suc (suc (suc (suc n)))))) = Down
 
 of_its_rank : (x : Status) → of_rank (rank x) ≡ x
 of_its_rank Joining = refl
+of_its_rank WeaklyUp = refl
 of_its_rank Up = refl
 of_its_rank Leaving = refl
 of_its_rank Exiting = refl

@@ -6,12 +6,13 @@ use Rattle.std.specs.FinMap as map
 use Rattle.std.specs.declared.cmp.Ordering.TheVariants.{Less}
 use Rattle.ak_address.specs.Unique.{AddressModel, UniqueModel, unique_cmp}
 use Rattle.ak_member.specs.declared.status.Status.{Status}
-use Rattle.ak_member.specs.declared.status.Status.TheVariants.{Joining, Up, Leaving, Exiting, Down}
+use Rattle.ak_member.specs.declared.status.Status.TheVariants.{Joining, WeaklyUp, Up, Leaving, Exiting, Down}
 use Rattle.ak_member.specs.Standing.{Standings, member_of, members_of}
 
 -- the members that count: those that serve the cluster
 abbrev pub counts : Status → Bool
 counts Joining = false
+counts WeaklyUp = false
 counts Up = true
 counts Leaving = true
 counts Exiting = false

@@ -8,16 +8,17 @@ use Rattle.ak_address.specs.Unique.{UniqueModel, unique_cmp}
 use Rattle.ak_address.specs.Table.{value_with, merged_tables}
 use Rattle.ak_address.specs.Uniques.{UniqueSet, set_of}
 use Rattle.ak_member.specs.declared.status.Status.{Status}
-use Rattle.ak_member.specs.declared.status.Status.TheVariants.{Joining, Up, Leaving, Exiting, Down}
+use Rattle.ak_member.specs.declared.status.Status.TheVariants.{Joining, WeaklyUp, Up, Leaving, Exiting, Down}
 use Rattle.ak_member.specs.declared.standing.Standing.{Standing}
 use Rattle.ak_member.specs.declared.standing.Standing.TheVariants.{Member, Buried}
 
 abbrev pub rank : Status → ℕ
 rank Joining = 1
-rank Up = 2
-rank Leaving = 3
-rank Exiting = 4
-rank Down = 5
+rank WeaklyUp = 2
+rank Up = 3
+rank Leaving = 4
+rank Exiting = 5
+rank Down = 6
 
 abbrev pub greater_status : Status → Status → Status
 greater_status one other = if nat_lt (rank one) (rank other) then other else one
@@ -79,13 +80,24 @@ is_member s who = is_some (member_of (map.get s who))
 -- tests of a status
 abbrev pub is_joining : Status → Bool
 is_joining Joining = true
+is_joining WeaklyUp = false
 is_joining Up = false
 is_joining Leaving = false
 is_joining Exiting = false
 is_joining Down = false
 
+-- a member that waits to come Up
+abbrev pub is_waiting : Status → Bool
+is_waiting Joining = true
+is_waiting WeaklyUp = true
+is_waiting Up = false
+is_waiting Leaving = false
+is_waiting Exiting = false
+is_waiting Down = false
+
 abbrev pub is_up : Status → Bool
 is_up Joining = false
+is_up WeaklyUp = false
 is_up Up = true
 is_up Leaving = false
 is_up Exiting = false
@@ -93,6 +105,7 @@ is_up Down = false
 
 abbrev pub is_exiting : Status → Bool
 is_exiting Joining = false
+is_exiting WeaklyUp = false
 is_exiting Up = false
 is_exiting Leaving = false
 is_exiting Exiting = true
@@ -100,6 +113,7 @@ is_exiting Down = false
 
 abbrev pub is_down : Status → Bool
 is_down Joining = false
+is_down WeaklyUp = false
 is_down Up = false
 is_down Leaving = false
 is_down Exiting = false

@@ -1,5 +1,5 @@
 ghost use Rattle.std.specs.Prelude.{◌≡◌};
-ghost use Rattle.ak_member.specs.Standing.{rank, is_joining, is_up, is_exiting, is_down};
+ghost use Rattle.ak_member.specs.Standing.{rank, is_joining, is_waiting, is_up, is_exiting, is_down};
 ghost use Rattle.ak_member.specs.Age.{counts};
 
 /// How far a member has come, in this order (Akka's Cluster Specification, "Membership Lifecycle").
@@ -7,6 +7,8 @@ ghost use Rattle.ak_member.specs.Age.{counts};
 pub enum Status {
     /// It has joined, and no leader has moved it up yet.
     Joining,
+    /// It was let in while the members could not agree: it can be seen and used, and counts for nothing yet.
+    WeaklyUp,
     Up,
     /// It was asked to leave.
     Leaving,
@@ -17,16 +19,17 @@ pub enum Status {
 }
 
 impl Status {
-    /// How far it has come in the order of statuses, from 1 to 5. A status only ever rises. Takes no memory.
+    /// How far it has come in the order of statuses, from 1 to 6. A status only ever rises. Takes no memory.
     pub fn rank(&self) -> u8
         ensures { result ≡ rank self.now }
     {
         match self {
             Status::Joining => 1,
-            Status::Up => 2,
-            Status::Leaving => 3,
-            Status::Exiting => 4,
-            Status::Down => 5,
+            Status::WeaklyUp => 2,
+            Status::Up => 3,
+            Status::Leaving => 4,
+            Status::Exiting => 5,
+            Status::Down => 6,
         }
     }
 
@@ -36,6 +39,7 @@ impl Status {
     {
         match self {
             Status::Joining => false,
+            Status::WeaklyUp => false,
             Status::Up => true,
             Status::Leaving => true,
             Status::Exiting => false,
@@ -48,6 +52,20 @@ impl Status {
         ensures { result ≡ is_joining self.now }
     {
         matches!(self, Status::Joining)
+    }
+
+    /// Whether it waits to come Up: the Joining and the WeaklyUp ones do. Takes no memory.
+    pub fn is_waiting(&self) -> bool
+        ensures { result ≡ is_waiting self.now }
+    {
+        match self {
+            Status::Joining => true,
+            Status::WeaklyUp => true,
+            Status::Up => false,
+            Status::Leaving => false,
+            Status::Exiting => false,
+            Status::Down => false,
+        }
     }
 
     /// Whether it is Up. Takes no memory.

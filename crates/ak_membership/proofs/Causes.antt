@@ -8,15 +8,16 @@ use Rattle.ak_address.proofs.Elements.{first_or_rest, contains_nothing, index_of
 use Rattle.ak_member.specs.declared.effect.Effect.{Effect}
 use Rattle.ak_member.specs.declared.status.Status.{Status}
 use Rattle.ak_member.specs.declared.status.Status.TheVariants.{Joining, Down}
-use Rattle.ak_member.specs.Standing.{Standings, member_of, members_of, has_status, is_joining, is_member_with}
+use Rattle.ak_member.specs.Standing.{Standings, member_of, members_of, has_status, is_joining, is_waiting, is_member_with}
 use Rattle.ak_member.specs.Standing as standing
 use Rattle.ak_member.proofs.MembersLaws.{members_have}
 use Rattle.ak_settings.specs.Settings.{settling_size}
 use Rattle.ak_converge.specs.Convergence.{is_converged}
-use Rattle.ak_leader.specs.Leader.{leaders_effects, greatest_number, founding_effects}
+use Rattle.ak_leader.specs.Leader.{leaders_effects, greatest_number, founding_effects, weak_effects}
 use Rattle.ak_leader.specs.Led.{IsMemberWith, LedTo}
 use Rattle.ak_leader.specs.Led.LedTo.{rises, exits, confirms, removes}
 use Rattle.ak_leader.proofs.LedLaws.{each_led, founds_at, founds_each, joins}
+use Rattle.ak_leader.proofs.WeakLaws.{weak_from}
 use Rattle.ak_downing.specs.Downing.{all_downed}
 use Rattle.ak_downing.proofs.DownedLaws.{downed_has}
 use Rattle.ak_membership.specs.declared.state.MembershipState.{MembershipState}
@@ -55,7 +56,7 @@ module _ (given : Given) (m : MembershipState) where
       let at = index_of (founding_effects s) x there in
       let d = founds_at s at.0 x at.1 in
       subst (IsCause given m (founding_effects s)) (sym d.2)
-      (member_is s d.0 (Joining, d.1.0) d.1.1, (passes_with is_joining s d.0 Joining refl d.1, inl (first_so m.founder j both, joining, mine)))
+      (member_is s d.0 (Joining, d.1.0) d.1.1, (passes_with is_waiting s d.0 Joining refl d.1, inl (first_so m.founder j both, joining, mine)))
 
   -- the leader acts in a settled view
   pub leading_causes : IsTrue (has_settled m) → (x : Effect) → Contains (leaders_effects m.gossip.view m.confirmed) x → IsCause given m (leaders_effects m.gossip.view m.confirmed) x
@@ -66,11 +67,18 @@ module _ (given : Given) (m : MembershipState) where
     where
       by_cause : (pair : UniqueModel × (Status × ℕ)) → member_of (map.get m.gossip.view.standings pair.0) ≡ Some pair.1 → (y : Effect) → LedTo m.gossip.view m.confirmed pair.0 pair.1.0 y → IsCause given m (leaders_effects m.gossip.view m.confirmed) y
       by_cause pair at y is = elim is as (λ z h. IsCause given m (leaders_effects m.gossip.view m.confirmed) z) [
-        | rises number joins least most ↦ (member_is m.gossip.view.standings pair.0 pair.1 at, (ap (has_status is_joining) at ∙ ap is_joining joins, inr settled))
+        | rises number waits least most ↦ (member_is m.gossip.view.standings pair.0 pair.1 at, (ap (has_status is_waiting) at ∙ waits, inr settled))
         | exits leaving ↦ (member_is m.gossip.view.standings pair.0 pair.1 at, settled)
         | confirms status said ↦ (member_is m.gossip.view.standings pair.0 pair.1 at, (settled, said))
         | removes down unsaid lost ↦ (member_is m.gossip.view.standings pair.0 pair.1 at, settled)
       ]
+
+  -- the leader of a view that does not settle lets in whom it can reach
+  pub letting_in_causes : (x : Effect) → Contains (weak_effects m.gossip.view) x → IsCause given m (weak_effects m.gossip.view) x
+  letting_in_causes x there =
+      let s = m.gossip.view.standings in
+      let d = weak_from m.gossip.view x there in
+      subst (IsCause given m (weak_effects m.gossip.view)) (sym d.3) (member_is s d.0 (Joining, d.1.0) d.1.1, passes_with is_joining s d.0 Joining refl d.1)
 
   -- members go Down
   pub downing_causes : (test : UniqueModel → Bool) (x : Effect) → Contains (all_downed test (members_of m.gossip.view.standings)) x → IsCause given m (all_downed test (members_of m.gossip.view.standings)) x

@@ -11,7 +11,7 @@ use Rattle.ak_clock.specs.Version.{count}
 use Rattle.ak_member.specs.declared.effect.Effect.{Effect}
 use Rattle.ak_member.specs.declared.effect.Effect.TheVariants.{Rise}
 use Rattle.ak_member.specs.declared.status.Status.{Status}
-use Rattle.ak_member.specs.declared.status.Status.TheVariants.{Joining, Up, Leaving, Exiting, Down}
+use Rattle.ak_member.specs.declared.status.Status.TheVariants.{Joining, WeaklyUp, Up, Leaving, Exiting, Down}
 use Rattle.ak_member.specs.declared.standing.Standing.{Standing}
 use Rattle.ak_member.specs.declared.standing.Standing.TheVariants.{Member, Buried}
 use Rattle.ak_member.specs.Standing.{Standings, member_of, members_of, member_pairs, is_member, is_up, is_joining, is_member_with}
@@ -19,10 +19,11 @@ use Rattle.ak_member.specs.Age.{counts}
 use Rattle.ak_member.proofs.MembersLaws.{members_have}
 use Rattle.ak_gossip.specs.Gossip.{GossipState, is_known, most_uniques, IsGossip, IsStanding, MayUpdate}
 use Rattle.ak_gossip.proofs.InvariantLemmas.{member_known}
-use Rattle.ak_leader.specs.Leader.{leader, leaders_effects, founding_effects, greatest_number, all_founded}
+use Rattle.ak_leader.specs.Leader.{leader, leaders_effects, founding_effects, weak_effects, greatest_number, all_founded}
 use Rattle.ak_leader.specs.Led.{LedTo}
 use Rattle.ak_leader.specs.Led.LedTo.{rises, exits, confirms, removes}
 use Rattle.ak_leader.proofs.LedLaws.{each_led, founds_at}
+use Rattle.ak_leader.proofs.WeakLaws.{weak_from}
 use Rattle.ak_leader.proofs.LeaderLaws.{leader_is}
 use Rattle.ak_downing.specs.Downing.{all_downed}
 use Rattle.ak_downing.proofs.DownedLaws.{downed_has}
@@ -58,6 +59,7 @@ module _ (g : GossipState) (p : IsGossip g) where
 
   up_number : (who : UniqueModel) (m : Status × ℕ) → member_of (map.get g.view.standings who) ≡ Some m → is_up m.0 ≡ true → HasNumber g.view.standings who
   up_number who (Joining, k) at is = absurd (true≢false (sym is))
+  up_number who (WeaklyUp, k) at is = absurd (true≢false (sym is))
   up_number who (Up, k) at is = with_number who (Up, k) at (λ number h. h.0)
   up_number who (Leaving, k) at is = absurd (true≢false (sym is))
   up_number who (Exiting, k) at is = absurd (true≢false (sym is))
@@ -114,6 +116,11 @@ module _ (g : GossipState) (p : IsGossip g) where
             let mine = leads_counted leads in
             let is : (mine.1, mine.0) ≡ pair.1 = same_Some (mine.1, mine.0) pair.1 (sym mine.2 ∙ ap (λ u. member_of (map.get g.view.standings u)) same ∙ at) in
             true≢false (sym mine.3 ∙ ap (λ (m : Status × ℕ). counts m.0) is ∙ no_more)
+
+    pub letting_in_may : MayUpdate me (weak_effects g.view) g
+    letting_in_may = fit_may me _ g p room member (all_fit g.view.standings me _ (λ x there.
+        let d = weak_from g.view x there in
+        subst (IsFit g.view.standings me) (sym d.3) (known_member d.0 (Joining, d.1.0) d.1.1, refl)))
 
     pub leading_may : is_process me (leader g.view) ≡ true → (confirmed : UniqueSet) → MayUpdate me (leaders_effects g.view confirmed) g
     leading_may leads confirmed = fit_may me _ g p room member (all_fit g.view.standings me _ (λ x there.

@@ -13,7 +13,7 @@ use Rattle.ak_clock.specs.Version.{count}
 use Rattle.ak_member.specs.declared.effect.Effect.{Effect}
 use Rattle.ak_member.specs.declared.effect.Effect.TheVariants.{Joined, Rise, Removed, Observed}
 use Rattle.ak_member.specs.declared.status.Status.{Status}
-use Rattle.ak_member.specs.declared.status.Status.TheVariants.{Joining, Up, Leaving, Exiting, Down}
+use Rattle.ak_member.specs.declared.status.Status.TheVariants.{Joining, WeaklyUp, Up, Leaving, Exiting, Down}
 use Rattle.ak_member.specs.declared.standing.Standing.{Standing}
 use Rattle.ak_member.specs.declared.standing.Standing.TheVariants.{Member, Buried}
 use Rattle.ak_address.specs.Table.{value_with}
@@ -30,6 +30,7 @@ HasNumber s who = (status : Status) (number : ℕ) → map.get s who ≡ Some (M
 -- a rise that fits: to Up with a number, to Leaving and Exiting of one that has a number
 abbrev pub IsFitRise : Standings → UniqueModel → Status → ℕ → Type 0
 IsFitRise s who Joining number = ⊥
+IsFitRise s who WeaklyUp number = number ≡ 0
 IsFitRise s who Up number = (1 ≤ number) × (number ≤ BOUND)
 IsFitRise s who Leaving number = (number ≡ 0) × HasNumber s who
 IsFitRise s who Exiting number = (number ≡ 0) × HasNumber s who
@@ -45,6 +46,7 @@ IsFit s author (Observed subjects) = ⊥
 -- ---- one effect
 number_bounded : (status : Status) (number : ℕ) → IsNumber status number → number ≤ BOUND
 number_bounded Joining number is = omega arith
+number_bounded WeaklyUp number is = omega arith
 number_bounded Up number is = is.1
 number_bounded Leaving number is = is.1
 number_bounded Exiting number is = is.1
@@ -63,6 +65,7 @@ numbered_rise (Member st k) status as_one is has_number =
 
 risen_standing : (s : Standings) (who : UniqueModel) (status : Status) (number : ℕ) (x : Standing) → IsFitRise s who status number → map.get s who ≡ Some x → IsStanding x → IsStanding (merged_standing x (Member status number))
 risen_standing s who Joining number x fit at is = absurd fit
+risen_standing s who WeaklyUp number x fit at is = standing_merged x (Member WeaklyUp number) is fit
 risen_standing s who Up number x fit at is = standing_merged x (Member Up number) is fit
 risen_standing s who Leaving number x fit at is = subst (λ m. IsStanding (merged_standing x (Member Leaving m))) (sym fit.0) (numbered_rise x Leaving (λ k h. h) is (λ st k same. fit.1 st k (at ∙ ap Some same)))
 risen_standing s who Exiting number x fit at is = subst (λ m. IsStanding (merged_standing x (Member Exiting m))) (sym fit.0) (numbered_rise x Exiting (λ k h. h) is (λ st k same. fit.1 st k (at ∙ ap Some same)))
@@ -159,6 +162,7 @@ numbers_after author s (Observed subjects) who fit has_number = absurd fit
 
 rise_after : (author : UniqueModel) (s : Standings) (x : Effect) (who : UniqueModel) (status : Status) (number : ℕ) → IsFit s author x → IsFitRise s who status number → IsFitRise (after_effect x s) who status number
 rise_after author s x who Joining number fit rise = rise
+rise_after author s x who WeaklyUp number fit rise = rise
 rise_after author s x who Up number fit rise = rise
 rise_after author s x who Leaving number fit rise = (rise.0, numbers_after author s x who fit rise.1)
 rise_after author s x who Exiting number fit rise = (rise.0, numbers_after author s x who fit rise.1)

@@ -24,7 +24,7 @@ use Rattle.ak_gossip.specs.Gossip.{is_known}
 use Rattle.ak_member.specs.Standing as standing
 use Rattle.ak_member.specs.Standing.{is_up, is_down}
 use Rattle.ak_settings.specs.Settings.{is_listed}
-use Rattle.ak_leader.specs.Leader.{leaders_effects, founding_effects}
+use Rattle.ak_leader.specs.Leader.{leaders_effects, founding_effects, weak_effects}
 use Rattle.ak_settled.specs.Settled as settled
 use Rattle.ak_settled.specs.Settled.{version_of}
 use Rattle.ak_settled.specs.SettledView.{SettledView, SettledModel}
@@ -35,7 +35,7 @@ use Rattle.ak_membership.specs.declared.change.MemberFault.TheVariants.{NotUp, U
 use Rattle.ak_membership.specs.declared.state.MembershipState.{MembershipState}
 use Rattle.ak_member.specs.Standing.{is_member_with}
 use Rattle.ak_membership.specs.Membership.{Outcome, unchanged, made, update, update_any, may_count, is_gone, is_member, has_member_beside, replaced, most_at_join, admitted, on_join, leave, down}
-use Rattle.ak_membership.specs.Tick.{tick, updates, counted, silent, decided, observes, decides, founds, leads, has_settled}
+use Rattle.ak_membership.specs.Tick.{tick, updates, counted, waited, silent, decided, observes, decides, founds, leads, lets_in, has_settled}
 use Rattle.ak_membership.specs.Closing.{is_other, is_same, is_viewed, stops, is_noted, notes, settled_after, stable_after, close}
 use Rattle.ak_membership.specs.MembershipContracts.{Answers, IsAtRest, IsMembership, Closes, makes_none}
 
@@ -52,9 +52,9 @@ unfolding noted_by
 noted_ticked margin None version = refl
 noted_ticked margin (Some noted) version = refl
 
-rests_counted : (m : MembershipState) → IsAtRest m → IsAtRest (counted m)
+rests_counted : (m : MembershipState) (weak : ℕ) → IsAtRest m → IsAtRest (counted weak m)
 unfolding noted_by
-rests_counted m rest = record {
+rests_counted m weak rest = record {
   shown = rest.shown;
   here = rest.here;
   noted = ap (λ b. has_settled m && b) (noted_ticked m.settings.margin m.settled.view m.gossip.version) ∙ rest.noted;
@@ -88,13 +88,14 @@ updates_none m =
     either_none (observes m) m _ _ (update_none (Observed (silent m) ∷ []) m)
     (either_none (decides m) m _ _ (update_none (decided m) m)
     (either_none (founds m) m _ _ (update_none (founding_effects m.gossip.view.standings) m)
-    (either_none (leads m) m _ _ (update_any_none (leaders_effects m.gossip.view m.confirmed) m) (λ none. refl))))
+    (either_none (leads m) m _ _ (update_any_none (leaders_effects m.gossip.view m.confirmed) m)
+    (either_none (lets_in m) m _ _ (update_any_none (weak_effects m.gossip.view) m) (λ none. refl)))))
 
 pub rests_ticked : (m : MembershipState) → (tick m).1.number ≡ None → IsAtRest m → IsAtRest (tick m).0
 rests_ticked m none rest = by_case (is_member m) none
   where
-    by_case : (b : Bool) → (if b then (counted (updates m).0, (updates m).1) else unchanged m).1.number ≡ None → IsAtRest (if b then (counted (updates m).0, (updates m).1) else unchanged m).0
-    by_case true none = rests_counted (updates m).0 (subst IsAtRest (sym (updates_none m none)) rest)
+    by_case : (b : Bool) → (if b then (counted (waited m) (updates m).0, (updates m).1) else unchanged m).1.number ≡ None → IsAtRest (if b then (counted (waited m) (updates m).0, (updates m).1) else unchanged m).0
+    by_case true none = rests_counted (updates m).0 (waited m) (subst IsAtRest (sym (updates_none m none)) rest)
     by_case false none = rest
 
 -- ---- a request that makes no update leaves what is known

@@ -20,7 +20,7 @@ use Rattle.ak_reach.specs.Unreachable.{unreachable_members}
 use Rattle.ak_detector.specs.Detector as detector
 use Rattle.ak_detector.proofs.DetectorLaws.{silent_watched, ticked_same}
 use Rattle.ak_downing.specs.Downing.{decide, is_against}
-use Rattle.ak_leader.specs.Leader.{leader, leaders_effects, founding_effects}
+use Rattle.ak_leader.specs.Leader.{leader, leaders_effects, founding_effects, weak_effects}
 use Rattle.ak_settings.specs.Settings.{is_listed}
 use Rattle.ak_membership.specs.declared.change.Change.{Change}
 use Rattle.ak_membership.specs.declared.change.MemberFault.{MemberFault}
@@ -30,7 +30,7 @@ use Rattle.ak_membership.specs.declared.state.MembershipState.{MembershipState}
 use Rattle.ak_membership.specs.Membership.{Outcome, unchanged, replying, may_count, update, update_any, is_member, leave, down, has_member_beside, replaced, is_beside, most_at_join, admitted, on_join, on_received, on_gossip}
 use Rattle.ak_membership.specs.Tick.{silent, decided, leads, has_settled, is_process}
 use Rattle.ak_membership.specs.MembershipContracts.{Makes, Answers, IsAccepted, IsWatching, KnowsItself, or_no_memory}
-use Rattle.ak_membership.proofs.MayMake.{leaving_may, down_may, downed_may, founding_may, leading_may}
+use Rattle.ak_membership.proofs.MayMake.{leaving_may, down_may, downed_may, founding_may, letting_in_may, leading_may}
 use Rattle.ak_membership.proofs.MayRise.{observing_may}
 
 -- what a call that only memory can fail answered, as that of a rule that is not refused
@@ -160,6 +160,9 @@ module _ (m : MembershipState) (g : IsGossip m.gossip) (effects : List Effect) w
       second : (a b : Bool) → (a && b) ≡ true → b ≡ true
       second true b is = is
       second false b is = absurd (true≢false (sym is))
+
+  pub may_let_in : IsTrue (is_member m) → effects ≡ weak_effects m.gossip.view → IsTrue (may_count m) → MayUpdate m.me effects m.gossip
+  may_let_in member is may = as_effects (weak_effects m.gossip.view) is (letting_in_may m.gossip g m.me (room m may) member)
 
   pub may_resolve : IsTrue (is_member m) → effects ≡ decided m → IsTrue (may_count m) → MayUpdate m.me effects m.gossip
   may_resolve member is may =

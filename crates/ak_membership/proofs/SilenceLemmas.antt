@@ -10,12 +10,12 @@ use Rattle.ak_address.proofs.Elements.{contains_at, index_of}
 use Rattle.ak_address.proofs.UniquesLaws.{has_at, index_of_has, has-no_one, has-those}
 use Rattle.ak_detector.specs.Detector.{ticked}
 use Rattle.ak_detector.proofs.DetectorLaws.{silent_watched, ticked_same}
-use Rattle.ak_leader.specs.Leader.{leaders_effects, founding_effects}
+use Rattle.ak_leader.specs.Leader.{leaders_effects, founding_effects, weak_effects}
 use Rattle.ak_member.specs.declared.effect.Effect.{Effect}
 use Rattle.ak_member.specs.declared.effect.Effect.TheVariants.{Observed}
 use Rattle.ak_membership.specs.declared.state.MembershipState.{MembershipState}
 use Rattle.ak_membership.specs.Membership.{unchanged, made, update, update_any, may_count}
-use Rattle.ak_membership.specs.Tick.{silent, own_subjects, lacks, observes, decides, decided, founds, leads, updates}
+use Rattle.ak_membership.specs.Tick.{silent, own_subjects, lacks, observes, decides, decided, founds, leads, lets_in, updates}
 use Rattle.ak_sight.proofs.MovedLaws.{none_any, all_none}
 
 in_set : (s : UniqueSet) (who : UniqueModel) → Contains (in_order s) who → has s who ≡ true
@@ -72,7 +72,7 @@ heard_subjects m subjects p = found_along (those subjects p) subjects (λ who. n
     test who there = ap (λ b. b && not (has (silent m) who)) (sym (has-those subjects p who ∙ ap (λ b. b && p who) there))
 
 pub unchanged_unless_counting : (m : MembershipState) → may_count m ≡ false → updates m ≡ unchanged m
-unchanged_unless_counting m none = by_rules (observes m) (decides m) (founds m) (leads m) (leaders_effects m.gossip.view m.confirmed)
+unchanged_unless_counting m none = by_rules (observes m) (decides m) (founds m) (leads m) (lets_in m) (leaders_effects m.gossip.view m.confirmed) (weak_effects m.gossip.view)
   where
     never : (effects : List Effect) → update effects m ≡ unchanged m
     never effects = ap (λ b. cond b (made effects m) (unchanged m)) none
@@ -81,10 +81,11 @@ unchanged_unless_counting m none = by_rules (observes m) (decides m) (founds m) 
     never_any [] = refl
     never_any (effect ∷ effects) = never (effect ∷ effects)
 
-    by_rules : (a b c d : Bool) (effects : List Effect)
-        → cond a (update (Observed (silent m) ∷ []) m) (cond b (update (decided m) m) (cond c (update (founding_effects m.gossip.view.standings) m) (cond d (update_any effects m) (unchanged m)))) ≡ unchanged m
-    by_rules true b c d effects = never (Observed (silent m) ∷ [])
-    by_rules false true c d effects = never (decided m)
-    by_rules false false true d effects = never (founding_effects m.gossip.view.standings)
-    by_rules false false false true effects = never_any effects
-    by_rules false false false false effects = refl
+    by_rules : (a b c d e : Bool) (effects weak : List Effect)
+        → cond a (update (Observed (silent m) ∷ []) m) (cond b (update (decided m) m) (cond c (update (founding_effects m.gossip.view.standings) m) (cond d (update_any effects m) (cond e (update_any weak m) (unchanged m))))) ≡ unchanged m
+    by_rules true b c d e effects weak = never (Observed (silent m) ∷ [])
+    by_rules false true c d e effects weak = never (decided m)
+    by_rules false false true d e effects weak = never (founding_effects m.gossip.view.standings)
+    by_rules false false false true e effects weak = never_any effects
+    by_rules false false false false true effects weak = never_any weak
+    by_rules false false false false false effects weak = refl

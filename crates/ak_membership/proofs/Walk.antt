@@ -18,16 +18,16 @@ use Rattle.ak_gossip.proofs.InvariantLemmas.{member_known}
 use Rattle.ak_settings.specs.Settings.{is_listed}
 use Rattle.ak_reach.specs.Unreachable.{unreachable_members}
 use Rattle.ak_downing.specs.Downing.{decide, is_against}
-use Rattle.ak_leader.specs.Leader.{leaders_effects, founding_effects}
+use Rattle.ak_leader.specs.Leader.{leaders_effects, founding_effects, weak_effects}
 use Rattle.ak_settled.specs.Settled.{after_tick}
 use Rattle.ak_membership.specs.declared.change.Reply.{Reply}
 use Rattle.ak_membership.specs.declared.change.Reply.TheVariants.{Welcome}
 use Rattle.ak_membership.specs.declared.change.MemberFault.{MemberFault}
 use Rattle.ak_membership.specs.declared.state.MembershipState.{MembershipState}
 use Rattle.ak_membership.specs.Membership.{Outcome, unchanged, replying, may_count, made, update, update_any, knowing, is_member, found, leave, down, is_beside, has_member_beside, replaced, most_at_join, on_join, on_received, on_gossip}
-use Rattle.ak_membership.specs.Tick.{observes, silent, decides, decided, founds, leads, has_settled, updates, counted, tick}
+use Rattle.ak_membership.specs.Tick.{observes, silent, decides, decided, founds, leads, lets_in, has_settled, waited, updates, counted, tick}
 use Rattle.ak_membership.specs.Knowledge.{Given, Keeps, Updates, Accepts, learnt, IsLawful, Learns}
-use Rattle.ak_membership.proofs.Causes.{founding_causes, leading_causes, downing_causes, one_cause}
+use Rattle.ak_membership.proofs.Causes.{founding_causes, leading_causes, letting_in_causes, downing_causes, one_cause}
 
 module _ (given : Given) (m : MembershipState) where
   learns_if : (b : Bool) {o p : Outcome} → (b ≡ true → Learns given m o) → (b ≡ false → Learns given m p) → Learns given m (if b then o else p)
@@ -150,7 +150,8 @@ module _ (given : Given) (m : MembershipState) where
       learns_if (observes m) (λ is. updating m (Observed (silent m) ∷ []) itself (inl known, one_cause given m (Observed (silent m)) refl)) (λ no.
       learns_if (decides m) (λ is. updating m (decided m) itself (inl known, downing_causes given m (is_against (decide m.settings.strategy m.gossip.view m.me) (unreachable_members m.gossip.view) m.me))) (λ no.
       learns_if (founds m) (λ is. updating m (founding_effects m.gossip.view.standings) itself (inl known, founding_causes given m is)) (λ no.
-      learns_if (leads m) (λ is. updating_any m (leaders_effects m.gossip.view m.confirmed) itself (inl known, leading_causes given m (first_so (has_settled m) _ is))) (λ no. still))))
+      learns_if (leads m) (λ is. updating_any m (leaders_effects m.gossip.view m.confirmed) itself (inl known, leading_causes given m (first_so (has_settled m) _ is))) (λ no.
+      learns_if (lets_in m) (λ is. updating_any m (weak_effects m.gossip.view) itself (inl known, letting_in_causes given m)) (λ no. still)))))
 
   -- what an update leaves for the tick to count
   pub record Leaves (o : Outcome) : Type 0 where
@@ -174,10 +175,11 @@ module _ (given : Given) (m : MembershipState) where
       leaves_if (observes m) (update (Observed (silent m) ∷ []) m) _ (update_leaves (Observed (silent m) ∷ []))
       (leaves_if (decides m) (update (decided m) m) _ (update_leaves (decided m))
       (leaves_if (founds m) (update (founding_effects m.gossip.view.standings) m) _ (update_leaves (founding_effects m.gossip.view.standings))
-      (leaves_if (leads m) (update_any (leaders_effects m.gossip.view m.confirmed) m) (unchanged m) (update_any_leaves (leaders_effects m.gossip.view m.confirmed)) (record { ticks = refl; settings = refl; settled = refl }))))
+      (leaves_if (leads m) (update_any (leaders_effects m.gossip.view m.confirmed) m) _ (update_any_leaves (leaders_effects m.gossip.view m.confirmed))
+      (leaves_if (lets_in m) (update_any (weak_effects m.gossip.view) m) (unchanged m) (update_any_leaves (weak_effects m.gossip.view)) (record { ticks = refl; settings = refl; settled = refl })))))
 
-  counting : (o : Outcome) → Leaves o → Learns given m o → Learns given m (counted o.0, o.1)
-  counting o left c = record {
+  counting : (o : Outcome) (weak : ℕ) → Leaves o → Learns given m o → Learns given m (counted weak o.0, o.1)
+  counting o weak left c = record {
     knowledge = c.knowledge;
     lawful = c.lawful;
     knows = c.knows;
@@ -194,7 +196,7 @@ module _ (given : Given) (m : MembershipState) where
   }
 
   pub tick_learns : Learns given m (tick m)
-  tick_learns = learns_if (is_member m) (λ member. counting (updates m) updates_leave (updates_learns member)) (λ no. still)
+  tick_learns = learns_if (is_member m) (λ member. counting (updates m) (waited m) updates_leave (updates_learns member)) (λ no. still)
 
   -- ---- a process asks to join
   pub join_learns : (from : UniqueModel) → given.asks ≡ Some from → IfOk (on_join from m) (λ o. Learns given m o)

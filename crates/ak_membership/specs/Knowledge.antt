@@ -7,9 +7,9 @@ use Rattle.ak_clock.specs.Version.{count, relation}
 use Rattle.ak_member.specs.declared.effect.Effect.{Effect}
 use Rattle.ak_member.specs.declared.effect.Effect.TheVariants.{Joined, Rise, Removed, Observed}
 use Rattle.ak_member.specs.declared.status.Status.{Status}
-use Rattle.ak_member.specs.declared.status.Status.TheVariants.{Joining, Up, Leaving, Exiting, Down}
+use Rattle.ak_member.specs.declared.status.Status.TheVariants.{Joining, WeaklyUp, Up, Leaving, Exiting, Down}
 use Rattle.ak_member.specs.Standing as standing
-use Rattle.ak_member.specs.Standing.{is_up, is_joining, is_member_with}
+use Rattle.ak_member.specs.Standing.{is_up, is_joining, is_waiting, is_member_with}
 use Rattle.ak_gossip.specs.Gossip.{GossipState, is_known, updated, accepted, marked_seen}
 use Rattle.ak_settled.specs.Settled.{after_tick}
 use Rattle.ak_settled.specs.SettledView.{SettledModel}
@@ -60,11 +60,12 @@ HasMember m who = IsTrue (standing.is_member m.gossip.view.standings who)
 abbrev pub IsFounding : MembershipState → List Effect → Type 0
 IsFounding m effects = IsTrue m.founder × IsTrue (is_member_with is_joining m.gossip.view.standings m.me) × ((number : ℕ) × Contains effects (Rise m.me Up number))
 
--- why a node may raise a member: a Joining one to Up at the founding or in a settled view; to Leaving one that is Up; to
+-- why a node may raise a member: to WeaklyUp one that is Joining; to Up one that waits, at the founding or in a settled view; to Leaving one that is Up; to
 -- Exiting one that is Leaving, in a settled view; to Down any
 abbrev pub MayRaise : MembershipState → List Effect → UniqueModel → Status → Type 0
 MayRaise m effects who Joining = ⊥
-MayRaise m effects who Up = IsTrue (is_member_with is_joining m.gossip.view.standings who) × (IsFounding m effects ⊎ IsTrue (has_settled m))
+MayRaise m effects who WeaklyUp = IsTrue (is_member_with is_joining m.gossip.view.standings who)
+MayRaise m effects who Up = IsTrue (is_member_with is_waiting m.gossip.view.standings who) × (IsFounding m effects ⊎ IsTrue (has_settled m))
 MayRaise m effects who Leaving = IsTrue (is_member_with is_up m.gossip.view.standings who)
 MayRaise m effects who Exiting = IsTrue (has_settled m)
 MayRaise m effects who Down = Unit {0}

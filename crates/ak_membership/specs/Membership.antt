@@ -40,6 +40,7 @@ started me settings =
       target = None;
       ticks = 0;
       stable = 0;
+      weak = 0;
       moved = false;
       detector = map.empty;
       confirmed = no_one;

@@ -1,5 +1,6 @@
 -- What a tick makes of what a node knows: whom it finds silent (Akka's Cluster Specification, "Failure Detector"), what it
--- decides about a partition ("Split Brain Resolver"), the founding, and what the leader does in a settled view ("Leader"). That
+-- decides about a partition ("Split Brain Resolver"), the founding, and what the leader does in a settled view ("Leader") and in one
+-- that does not settle ("WeaklyUp Members"). That
 -- at most one of them is written at a tick, and that only settled views have a leader that acts, are this project's choice.
 use Rattle.std.specs.Prelude.{ℕ, ◌+◌, ◌*◌, ◌%◌, ◌==◌, min, Bool, true, false, ◌&&◌, ◌||◌, not, nat_le, nat_lt, List, [], ◌∷◌, length, map, Option, Some, None, if◌then◌else◌}
 use Rattle.std.specs.List.{list_any}
@@ -20,7 +21,7 @@ use Rattle.ak_settings.specs.Settings.{settling_size}
 use Rattle.ak_converge.specs.Convergence.{is_converged, is_settled}
 use Rattle.ak_detector.specs.Detector as detector
 use Rattle.ak_downing.specs.Downing.{decide, downs}
-use Rattle.ak_leader.specs.Leader.{leader, leaders_effects, founding_effects}
+use Rattle.ak_leader.specs.Leader.{leader, leaders_effects, founding_effects, weak_effects}
 use Rattle.ak_select.specs.Select.{peer}
 use Rattle.ak_settled.specs.Settled.{after_tick}
 use Rattle.ak_membership.specs.declared.state.MembershipState.{MembershipState}
@@ -101,6 +102,15 @@ is_process me (Some who) = is_eq (unique_cmp who me)
 abbrev pub leads : MembershipState → Bool
 leads m = has_settled m && is_process m.me (leader m.gossip.view)
 
+-- ---- letting in
+-- how long the view did not settle, with this tick, counted up to as long as the settings ask
+abbrev pub waited : MembershipState → ℕ
+waited m = if has_settled m then 0 else min (m.weak + 1) m.settings.weakly
+
+-- the settings let members in, the view did not settle for long enough, and the node leads
+abbrev pub lets_in : MembershipState → Bool
+lets_in m = not (m.settings.weakly == 0) && waited m == m.settings.weakly && is_process m.me (leader m.gossip.view)
+
 -- ---- the tick
 -- at most one update, the first that applies
 abbrev pub updates : MembershipState → Outcome
@@ -109,7 +119,8 @@ updates m =
     else (if decides m then update (decided m) m
     else (if founds m then update (founding_effects m.gossip.view.standings) m
     else (if leads m then update_any (leaders_effects m.gossip.view m.confirmed) m
-    else unchanged m)))
+    else (if lets_in m then update_any (weak_effects m.gossip.view) m
+    else unchanged m))))
 
 -- there is an effect
 abbrev pub has_effect : List Effect → Bool
@@ -120,23 +131,28 @@ has_effect (effect ∷ effects) = true
 abbrev pub acts : MembershipState → Bool
 acts m = leads m && has_effect (leaders_effects m.gossip.view m.confirmed)
 
+-- the node lets somebody in
+abbrev pub welcomes : MembershipState → Bool
+welcomes m = lets_in m && has_effect (weak_effects m.gossip.view)
+
 -- a number is left for an update, and one of the rules makes one
 abbrev pub is_due : MembershipState → Bool
-is_due m = may_count m && (observes m || decides m || founds m || acts m)
+is_due m = may_count m && (observes m || decides m || founds m || acts m || welcomes m)
 
--- the tick is counted; the tombstones of the settled view, and the watched members that are not heard, wait for a tick more
-abbrev pub counted : MembershipState → MembershipState
-counted m =
+-- the tick is counted, and for how long the view did not settle; the tombstones of the settled view, and the watched members that are not heard, wait for a tick more
+abbrev pub counted : ℕ → MembershipState → MembershipState
+counted weak m =
     record m {
       ticks = m.ticks + 1;
       stable = stood m;
+      weak = weak;
       settled = after_tick m.settings.margin m.settled;
       detector = detector.ticked m.settings.deadline m.detector;
     }
 
 -- one tick; of a node that is no member it changes nothing
 abbrev pub tick : MembershipState → Outcome
-tick m = if is_member m then (counted (updates m).0, (updates m).1) else unchanged m
+tick m = if is_member m then (counted (waited m) (updates m).0, (updates m).1) else unchanged m
 
 -- ---- gossip
 -- a node gossips at every third tick, and while fewer than half of the members have seen what it knows

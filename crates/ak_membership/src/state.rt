@@ -22,7 +22,7 @@ use ak_converge::Tally;
 use ak_detector::Detector;
 use ak_downing::{decide, downs};
 use ak_gossip::{Gossip, GossipFault, Received};
-use ak_leader::{actions, founding, leader};
+use ak_leader::{actions, founding, leader, weak_effects};
 use ak_member::{Effect, Effects, Status};
 use ak_select::peer;
 use ak_settings::{Settings, Strategy};
@@ -51,6 +51,8 @@ pub struct MembershipState {
     pub ticks: u64,
     /// For how many ticks its view stood still, counted up to as many as the settings ask.
     pub stable: u32,
+    /// For how many ticks its view did not settle, counted up to as many as the settings ask.
+    pub weak: u32,
     /// Members are shown otherwise than at the last closing.
     pub moved: bool,
     /// The members that it watches.
@@ -606,6 +608,53 @@ impl MembershipState {
         )
     }
 
+    // How long the view did not settle with this tick.
+    fn waited(&self, tally: &Tally) -> u32
+        requires tally { IsTallyOf tally.now self.now.gossip }
+        ensures { result ≡ ticks.waited self.now }
+    {
+        let settled = self.has_settled(tally);
+        if settled {
+            return 0;
+        }
+        if self.weak < self.settings.weakly {
+            return self.weak + 1;
+        }
+        self.settings.weakly
+    }
+
+    // The settings let members in, the view did not settle for long enough, and the node leads.
+    fn lets_in(&self, tally: &Tally) -> bool
+        requires tally { IsTallyOf tally.now self.now.gossip }
+        ensures { result ≡ ticks.lets_in self.now }
+    {
+        if self.settings.weakly == 0 || self.waited(tally) != self.settings.weakly {
+            return false;
+        }
+        self.is_leader()
+    }
+
+    // The Joining members that can be reached are let in.
+    fn let_in(&mut self, alloc: Global, tally: &mut Tally) -> Result<Change, AllocError>
+        requires member { IsTrue (rules.is_member self.old) }
+        requires tally { IsTallyOf tally.old self.old.gossip }
+        ensures ok { IfOk result (λ change. Makes (rules.update_any (leads.weak_effects self.old.gossip.view) self.old) self.new change) }
+        ensures err { OnErr result (self.new ≡ self.old) }
+        ensures memory { OnErr result (IsTrue (ticks.has_effect (leads.weak_effects self.old.gossip.view))) }
+        ensures tally { IsTallyOf tally.new self.new.gossip }
+    {
+        self.gossip.invariant();
+        let effects = self.weak_effects(alloc)?;
+        self.update_any(alloc, effects, tally)
+    }
+
+    fn weak_effects(&self, alloc: Global) -> Result<Effects, AllocError>
+        ensures ok { IfOk result (λ effects. effects ≡ leads.weak_effects self.now.gossip.view) }
+        ensures memory { OnErr result (leads.weak_effects self.now.gossip.view ≢ []) }
+    {
+        weak_effects(alloc, self.gossip.members(), self.gossip.rows())
+    }
+
     // Whom the node finds silent with this tick.
     fn silent(&self, alloc: Global) -> Result<Uniques, AllocError>
         ensures { IfOk result (λ them. them ≡ ticks.silent self.now) }
@@ -706,17 +755,21 @@ impl MembershipState {
         if self.leads(tally) {
             return self.lead(alloc, tally);
         }
+        if self.lets_in(tally) {
+            return self.let_in(alloc, tally);
+        }
         Ok(unchanged(alloc))
     }
 
     // The tick is counted. It comes after what may fail, so that a tick that fails changes nothing.
-    fn count(&mut self)
+    fn count(&mut self, weak: u32)
         requires { self.old.ticks < 2 ^ 62 }
-        ensures { self.new ≡ ticks.counted self.old }
+        ensures { self.new ≡ ticks.counted weak self.old }
     {
         self.settings.invariant();
         self.ticks += 1;
         self.stable = self.stood();
+        self.weak = weak;
         self.settled.tick(self.settings.margin);
         self.detector.tick(self.settings.deadline);
     }
@@ -733,8 +786,9 @@ impl MembershipState {
         if !self.is_member() {
             return Ok(unchanged(alloc));
         }
+        let weak = self.waited(tally);
         let change = self.updates(alloc, tally)?;
-        self.count();
+        self.count(weak);
         Ok(change)
     }
 
@@ -777,6 +831,7 @@ impl MembershipState {
         self.target = None;
         self.ticks = 0;
         self.stable = 0;
+        self.weak = 0;
         self.moved = false;
         self.detector = Detector::new(alloc);
         self.confirmed = Uniques::empty(alloc);

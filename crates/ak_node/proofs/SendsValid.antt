@@ -17,7 +17,7 @@ use Rattle.ak_gossip.specs.Gossip.{GossipState, IsGossip, is_known, nothing_know
 use Rattle.ak_gossip.proofs.InvariantLemmas.{member_known}
 use Rattle.ak_member.specs.declared.effect.Effect.{Effect}
 use Rattle.ak_member.specs.declared.effect.Effect.TheVariants.{Observed}
-use Rattle.ak_leader.specs.Leader.{leaders_effects, founding_effects}
+use Rattle.ak_leader.specs.Leader.{leaders_effects, founding_effects, weak_effects}
 use Rattle.ak_member.specs.Standing as standing
 use Rattle.ak_member.specs.Standing.{Standings, is_exiting, is_member_with}
 use Rattle.ak_membership.specs.declared.change.MemberFault.{MemberFault}
@@ -230,8 +230,11 @@ any_watches m [] = refl
 any_watches m (effect ∷ effects) = updated_watches m (effect ∷ effects)
 
 module _ (m : MembershipState) where
+  abbrev let_in : membership.Outcome
+  let_in = if ticks.lets_in m then update_any (weak_effects m.gossip.view) m else unchanged m
+
   abbrev led : membership.Outcome
-  led = if ticks.leads m then update_any (leaders_effects m.gossip.view m.confirmed) m else unchanged m
+  led = if ticks.leads m then update_any (leaders_effects m.gossip.view m.confirmed) m else let_in
 
   abbrev founded : membership.Outcome
   founded = if ticks.founds m then update (founding_effects m.gossip.view.standings) m else led
@@ -244,11 +247,12 @@ module _ (m : MembershipState) where
       watches_if m (ticks.observes m) (update (Observed (ticks.silent m) ∷ []) m) resolved (updated_watches m (Observed (ticks.silent m) ∷ []))
       (watches_if m (ticks.decides m) (update (ticks.decided m) m) founded (updated_watches m (ticks.decided m))
       (watches_if m (ticks.founds m) (update (founding_effects m.gossip.view.standings) m) led (updated_watches m (founding_effects m.gossip.view.standings))
-      (watches_if m (ticks.leads m) (update_any (leaders_effects m.gossip.view m.confirmed) m) (unchanged m) (any_watches m (leaders_effects m.gossip.view m.confirmed)) refl)))
+      (watches_if m (ticks.leads m) (update_any (leaders_effects m.gossip.view m.confirmed) m) let_in (any_watches m (leaders_effects m.gossip.view m.confirmed))
+      (watches_if m (ticks.lets_in m) (update_any (weak_effects m.gossip.view) m) (unchanged m) (any_watches m (weak_effects m.gossip.view)) refl))))
 
 watched_then : (m : MembershipState) → membership.is_member m ≡ true → (who : UniqueModel) → finmap.contains_key (ticks.tick m).0.detector who ≡ finmap.contains_key m.detector who
 watched_then m member who =
-    ap (λ b. finmap.contains_key (if b then (ticks.counted (ticks.updates m).0, (ticks.updates m).1) else unchanged m).0.detector who) member
+    ap (λ b. finmap.contains_key (if b then (ticks.counted (ticks.waited m) (ticks.updates m).0, (ticks.updates m).1) else unchanged m).0.detector who) member
     ∙ ticked_same (ticks.updates m).0.settings.deadline (ticks.updates m).0.detector who
     ∙ ap (λ c. finmap.contains_key c who) (tick_watches m)
 

@@ -133,8 +133,8 @@ ends_told whos q there = map_in action.MarginEnd whos q there
 pub tick_waits : (m : MembershipState) → membership.is_member m ≡ true → ((ticks.tick m).0.settled ≡ after_tick m.settings.margin m.settled) × ((ticks.tick m).0.settings ≡ m.settings)
 tick_waits m member =
     let left = updates_leave m in (
-      ap (λ b. (if b then (ticks.counted (ticks.updates m).0, (ticks.updates m).1) else unchanged m).0.settled) member ∙ (λ i. after_tick (left.settings i).margin (left.settled i)),
-      ap (λ b. (if b then (ticks.counted (ticks.updates m).0, (ticks.updates m).1) else unchanged m).0.settings) member ∙ left.settings,
+      ap (λ b. (if b then (ticks.counted (ticks.waited m) (ticks.updates m).0, (ticks.updates m).1) else unchanged m).0.settled) member ∙ (λ i. after_tick (left.settings i).margin (left.settled i)),
+      ap (λ b. (if b then (ticks.counted (ticks.waited m) (ticks.updates m).0, (ticks.updates m).1) else unchanged m).0.settings) member ∙ left.settings,
     )
 
 -- at a step of a member each tombstone whose margin ends at the tick is told

@@ -16,7 +16,7 @@ use Rattle.ak_address.proofs.TableLaws.{get_at, index_of_get, key_itself}
 use Rattle.ak_address.proofs.UniquesLaws.{has-no_one, has-those, has_at, same_uniques}
 use Rattle.ak_member.specs.declared.standing.Standing.{Standing}
 use Rattle.ak_member.specs.declared.status.Status.{Status}
-use Rattle.ak_member.specs.declared.status.Status.TheVariants.{Joining, Up, Leaving, Exiting, Down}
+use Rattle.ak_member.specs.declared.status.Status.TheVariants.{Joining, WeaklyUp, Up, Leaving, Exiting, Down}
 use Rattle.ak_member.specs.Standing.{Standings, member_of, is_member, has_status, members_with, all_members}
 use Rattle.ak_member.specs.View.{View, RowTable}
 use Rattle.ak_member.proofs.MemberLemmas.{drop_from}
@@ -69,6 +69,7 @@ observing (Some m) is = (m.0, m.1, refl, λ down. true≢false (sym is ∙ ap ob
 
 not_down_observes : (status : Status) → status ≢ Down → observes status ≡ true
 not_down_observes Joining not_down = refl
+not_down_observes WeaklyUp not_down = refl
 not_down_observes Up not_down = refl
 not_down_observes Leaving not_down = refl
 not_down_observes Exiting not_down = refl

@@ -6,7 +6,7 @@ use Rattle.std.specs.FinMap as map
 use Rattle.ak_address.specs.Unique.{UniqueModel}
 use Rattle.ak_address.specs.Uniques.{UniqueSet, has}
 use Rattle.ak_member.specs.declared.status.Status.{Status}
-use Rattle.ak_member.specs.declared.status.Status.TheVariants.{Joining, Up, Leaving, Exiting, Down}
+use Rattle.ak_member.specs.declared.status.Status.TheVariants.{Joining, WeaklyUp, Up, Leaving, Exiting, Down}
 use Rattle.ak_member.specs.Standing.{member_of, is_member, members_with, all_members}
 use Rattle.ak_member.specs.View.{View, Row}
 use Rattle.ak_reach.specs.Reach.{unreachable}
@@ -14,6 +14,7 @@ use Rattle.ak_reach.specs.Reach.{unreachable}
 -- the members that observe: those that are not Down
 abbrev pub observes : Status → Bool
 observes Joining = true
+observes WeaklyUp = true
 observes Up = true
 observes Leaving = true
 observes Exiting = true

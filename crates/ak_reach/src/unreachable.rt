@@ -100,6 +100,7 @@ fn observes(member: Option<Member<'_>>) -> bool
     match member {
         Some(member) => match member.status {
             Status::Joining => true,
+            Status::WeaklyUp => true,
             Status::Up => true,
             Status::Leaving => true,
             Status::Exiting => true,

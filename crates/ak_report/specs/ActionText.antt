@@ -8,7 +8,7 @@ use Rattle.ak_address.specs.Spelling.{address_text, unique_text}
 use Rattle.ak_member.specs.declared.effect.Effect.{Effect}
 use Rattle.ak_member.specs.declared.effect.Effect.TheVariants.{Joined, Rise, Removed, Observed}
 use Rattle.ak_member.specs.declared.status.Status.{Status}
-use Rattle.ak_member.specs.declared.status.Status.TheVariants.{Joining, Up, Leaving, Exiting, Down}
+use Rattle.ak_member.specs.declared.status.Status.TheVariants.{Joining, WeaklyUp, Up, Leaving, Exiting, Down}
 use Rattle.ak_member.specs.Standing.{members_of, tombstones_of}
 use Rattle.ak_gossip.specs.Gossip.{GossipState}
 use Rattle.ak_wire.specs.declared.envelope.Envelope.{Envelope}
@@ -46,6 +46,7 @@ version_text version = listed_text (map count_text (finmap.entries version))
 
 abbrev pub status_name : Status → List ℕ
 status_name Joining = codes "joining"
+status_name WeaklyUp = codes "weakly-up"
 status_name Up = codes "up"
 status_name Leaving = codes "leaving"
 status_name Exiting = codes "exiting"

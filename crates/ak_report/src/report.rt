@@ -64,6 +64,7 @@ fn status_name(status: Status) -> &'static [u8]
 {
     match status {
         Status::Joining => b"joining",
+        Status::WeaklyUp => b"weakly-up",
         Status::Up => b"up",
         Status::Leaving => b"leaving",
         Status::Exiting => b"exiting",

@@ -144,4 +144,4 @@ one_draft line old one other h g =
     let which : h.which ≡ g.which = cc (h.next, g.next) in
     let settings_lists : one.settings ≡ other.settings =
     one_settings g.which line old.settings one.settings other.settings (subst (λ (w : header.Header). SetsHeader w line old.settings one.settings) which h.sets) g.sets in
-    ap (λ (n : ℕ). record { read = n; settings = one.settings }) (h.count ∙ sym g.count) ∙ ap (λ (s : SettingsModel). record { read = other.read; settings = s }) settings_lists
+    (λ i. record { read = (h.count ∙ sym g.count) i; extra = (h.same_extra ∙ sym g.same_extra) i; settings = settings_lists i })

@@ -1,28 +1,32 @@
 -- The header lines of a schedule, as far as they are read.
-use Rattle.std.specs.Prelude.{◌≡◌, ◌↔◌, ℕ, ◌+◌, ◌<◌, ◌≤◌, Bool, IsTrue, List, [], ◌∷◌, length, Contains, Some, slice_get, Result, Ok, Err, refl}
+use Rattle.std.specs.Prelude.{◌≡◌, ◌↔◌, ℕ, ◌+◌, ◌<◌, ◌≤◌, Bool, true, false, IsTrue, List, [], ◌∷◌, length, Contains, Some, slice_get, Result, Ok, Err, refl}
 use Rattle.std.specs.List.{AllZip}
 use Rattle.std.specs.Coded.{Coded, code_by, coded×, coded_ℕ}
 use Rattle.ak_address.specs.Unique.{AddressModel}
 use Rattle.ak_address.specs.Spelling.{SpellsAddress}
 use Rattle.ak_settings.specs.declared.settings.Strategy.TheVariants.{DownAll}
+use Rattle.ak_schedule.specs.declared.draft.Extra.{Extra}
 use Rattle.ak_schedule.specs.declared.draft.Header.{Header}
 use Rattle.ak_schedule.specs.declared.fault.LineFault.{LineFault}
 use Rattle.ak_schedule.specs.declared.fault.LineFault.TheVariants.{Malformed, BadHeader, NoMemory}
 use Rattle.ak_settings.specs.Settings.{SettingsModel, IsListing, IsStrategy, IsWithin, coded_settings}
-use Rattle.ak_schedule.specs.Schedule.{headers, SetsHeader}
+use Rattle.ak_schedule.specs.Schedule.{headers, extras, NamesExtra, SetsHeader, SetsExtraHeader}
+use Rattle.ak_schedule.specs.Line.{words}
 
--- how many headers are read, and the settings by then
+-- how many headers are read, the index of the first optional header that may still come, and the settings by then
 pub record Drafted : Type 0 where
   pub read : ℕ
+  pub extra : ℕ
   pub settings : SettingsModel
 
 abbrev pub coded_draft : Coded Drafted
-coded_draft = code_by (ℕ × SettingsModel) (coded× coded_ℕ coded_settings) (λ d. (d.read, d.settings)) (λ p. record { read = p.0; settings = p.1 }) (λ _. refl)
+coded_draft = code_by (ℕ × (ℕ × SettingsModel)) (coded× coded_ℕ (coded× coded_ℕ coded_settings)) (λ d. (d.read, (d.extra, d.settings))) (λ p. record { read = p.0; extra = p.1.0; settings = p.1.1 }) (λ _. refl)
 
 -- nothing is read
 abbrev pub first_draft : Drafted
 first_draft = record {
   read = 0;
+  extra = 0;
   settings = record {
     listed = [];
     strategy = DownAll;
@@ -33,12 +37,14 @@ first_draft = record {
     buffer = 1;
     threshold = 1;
     limit = 1;
+    weakly = 0;
   };
 }
 
 -- each setting is in its range, the addresses once they are read
 pub record IsDraft (d : Drafted) : Type 0 where
   pub count : d.read ≤ 9
+  pub extra : d.extra ≤ length extras
   pub listed : 1 ≤ d.read → IsListing d.settings.listed
   pub strategy : IsStrategy d.settings.strategy
   pub margin : IsWithin 1000000 d.settings.margin
@@ -48,6 +54,7 @@ pub record IsDraft (d : Drafted) : Type 0 where
   pub buffer : IsWithin 100000 d.settings.buffer
   pub threshold : IsWithin 1000 d.settings.threshold
   pub limit : IsWithin 1000 d.settings.limit
+  pub weakly : d.settings.weakly ≤ 1000000
 
 -- the line is the next header, and sets its setting
 pub record ReadsHeader (line : List ℕ) (old new : Drafted) : Type 0 where
@@ -55,15 +62,39 @@ pub record ReadsHeader (line : List ℕ) (old new : Drafted) : Type 0 where
   pub next : slice_get headers old.read ≡ Some which
   pub sets : SetsHeader which line old.settings new.settings
   pub count : new.read ≡ old.read + 1
+  pub same_extra : new.extra ≡ old.extra
 
 -- lines are headers, read one after another
 abbrev pub ReadsHeaders : List (List ℕ) → Drafted → Drafted → Type 0
 ReadsHeaders [] old new = new ≡ old
 ReadsHeaders (line ∷ rest) old new = (next : Drafted) × ReadsHeader line old next × ReadsHeaders rest next new
 
--- settings, all of whose headers are read
+-- settings, all of whose nine headers are read
 abbrev pub all_read : SettingsModel → Drafted
-all_read s = record { read = 9; settings = s }
+all_read s = record { read = 9; extra = 0; settings = s }
+
+-- the line is an optional header that may still come, and sets its setting
+pub record ReadsExtra (line : List ℕ) (old new : Drafted) : Type 0 where
+  pub which : Extra
+  pub index : ℕ
+  pub next : slice_get extras index ≡ Some which
+  pub later : old.extra ≤ index
+  pub sets : SetsExtraHeader which line old.settings new.settings
+  pub same_read : new.read ≡ old.read
+  pub past : new.extra ≡ index + 1
+
+-- lines are optional headers, read one after another
+abbrev pub ReadsExtras : List (List ℕ) → Drafted → Drafted → Type 0
+ReadsExtras [] old new = new ≡ old
+ReadsExtras (line ∷ rest) old new = (next : Drafted) × ReadsExtra line old next × ReadsExtras rest next new
+
+-- whether the line is an optional header; refused exactly where its first word is that of one, and it is none that may still come
+abbrev pub ExtraAnswers : Result Bool LineFault → List ℕ → Drafted → Drafted → Type 0
+ExtraAnswers (Ok true) line old new = ReadsExtra line old new
+ExtraAnswers (Ok false) line old new = (new ≡ old) × (NamesExtra (words line) → ⊥)
+ExtraAnswers (Err Malformed) line old new = ⊥
+ExtraAnswers (Err BadHeader) line old new = (new ≡ old) × NamesExtra (words line) × ((next : Drafted) → ReadsExtra line old next → ⊥)
+ExtraAnswers (Err (NoMemory _)) line old new = ⊥
 
 -- the next header, and whether it is the ninth; refused exactly where the line is not the next header; memory runs out at the
 -- first header alone, which holds addresses while it is read
@@ -79,6 +110,7 @@ pub record SetsNext (line : List ℕ) (old new : Drafted) : Type 0 where
   pub next : slice_get headers old.read ≡ Some which
   pub sets : SetsHeader which line old.settings new.settings
   pub count : new.read ≡ old.read
+  pub same_extra : new.extra ≡ old.extra
 
 abbrev pub NextAnswers : Result (Unit {0}) LineFault → List ℕ → Drafted → Drafted → Type 0
 NextAnswers (Ok _) line old new = SetsNext line old new

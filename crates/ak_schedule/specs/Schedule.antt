@@ -9,6 +9,7 @@ use Rattle.ak_settings.specs.declared.settings.Strategy.{Strategy}
 use Rattle.ak_settings.specs.declared.settings.Strategy.TheVariants.{StaticQuorum, KeepMajority, DownAll}
 use Rattle.ak_schedule.specs.declared.event.Event.{Event}
 use Rattle.ak_schedule.specs.declared.event.Event.TheVariants.{Start, Found, Join, Tick, Deliver, Leave, Down, Offer, Stop}
+use Rattle.ak_schedule.specs.declared.draft.Extra as extra
 use Rattle.ak_schedule.specs.declared.draft.Header as header
 use Rattle.ak_schedule.specs.Line.{words, most_bytes}
 use Rattle.ak_settings.specs.Settings.{SettingsModel, IsListing}
@@ -47,6 +48,26 @@ Sets header.TheVariants.Buffer ws old new = (n : ℕ) × SpellsSetting (codes "b
 Sets header.TheVariants.Threshold ws old new = (n : ℕ) × SpellsSetting (codes "threshold") 1000 ws n × (new ≡ record old { threshold = n })
 Sets header.TheVariants.Limit ws old new = (n : ℕ) × SpellsSetting (codes "limit") 1000 ws n × (new ≡ record old { limit = n })
 
+-- the name of a setting and its number from 0 on
+abbrev pub SpellsOption : List ℕ → ℕ → List (List ℕ) → ℕ → Type 0
+SpellsOption name most ws n = (word : List ℕ) × (ws ≡ name ∷ word ∷ []) × SpellsNumber word 0 most n
+
+-- the first word of an optional header
+abbrev pub extra_name : extra.Extra → List ℕ
+extra_name extra.TheVariants.Weakly = codes "weakly"
+
+-- a line with these words begins with the word of an optional header
+abbrev pub NamesExtra : List (List ℕ) → Type 0
+NamesExtra ws = (which : extra.Extra) × (rest : List (List ℕ)) × (ws ≡ extra_name which ∷ rest)
+
+-- an optional header line with these words gives the setting its value, and leaves the others
+abbrev pub SetsExtra : extra.Extra → List (List ℕ) → SettingsModel → SettingsModel → Type 0
+SetsExtra extra.TheVariants.Weakly ws old new = (n : ℕ) × SpellsOption (codes "weakly") 1000000 ws n × (new ≡ record old { weakly = n })
+
+-- the optional headers, in their order
+abbrev pub extras : List extra.Extra
+extras = extra.TheVariants.Weakly ∷ []
+
 -- the header that comes after so many
 abbrev pub headers : List header.Header
 headers =
@@ -65,9 +86,13 @@ SpellsValue header.TheVariants.Buffer ws s = SpellsSetting (codes "buffer") 1000
 SpellsValue header.TheVariants.Threshold ws s = SpellsSetting (codes "threshold") 1000 ws s.threshold
 SpellsValue header.TheVariants.Limit ws s = SpellsSetting (codes "limit") 1000 ws s.limit
 
+-- what is so where the optional headers do not say another thing
+pub record SaysNoMore (s : SettingsModel) : Type 0 where
+  pub weakly : s.weakly ≡ 0
+
 -- nine header lines, none of them too long, spell these settings, a line for each in the order of the headers
 abbrev pub SpellsSettings : List (List ℕ) → SettingsModel → Type 0
-SpellsSettings headings s = AllZip (λ which line. (length line ≤ most_bytes) × SpellsValue which (words line) s) headers headings
+SpellsSettings headings s = AllZip (λ which line. (length line ≤ most_bytes) × SpellsValue which (words line) s) headers headings × SaysNoMore s
 
 -- the words of an event line
 abbrev pub SpellsWords : List (List ℕ) → Event → Type 0
@@ -91,6 +116,11 @@ pub record SpellsEvent (line : List ℕ) (event : Event) : Type 0 where
 pub record SetsHeader (which : header.Header) (line : List ℕ) (old new : SettingsModel) : Type 0 where
   pub short : length line ≤ most_bytes
   pub words : Sets which (words line) old new
+
+-- an optional header line, which is not too long
+pub record SetsExtraHeader (which : extra.Extra) (line : List ℕ) (old new : SettingsModel) : Type 0 where
+  pub short : length line ≤ most_bytes
+  pub words : SetsExtra which (words line) old new
 
 -- some event line spells the event
 abbrev pub IsSpelled : Event → Type 0

@@ -1,9 +1,10 @@
 ghost use Rattle.std.specs.Prelude.{◌≡◌, ◌≢◌, ◌<◌, ◌≤◌, length, MatchResult};
-ghost use Rattle.ak_schedule.specs.Draft.{first_draft, HeaderAnswers, NextAnswers};
+ghost use Rattle.ak_schedule.specs.Draft.{first_draft, HeaderAnswers, NextAnswers, ExtraAnswers};
 
 use crate::fault::LineFault;
-use crate::header::{read_listing, read_setting, read_strategy};
-use crate::line::MOST_BYTES;
+use crate::header::{read_listing, read_option, read_setting, read_strategy};
+use crate::kind::is_text;
+use crate::line::{MOST_BYTES, next_word};
 use ak_address::Address;
 use ak_settings::{MOST_BUFFER, MOST_SHARDS, MOST_TICKS, Settings, Strategy};
 use std::alloc::Global;
@@ -25,11 +26,19 @@ pub enum Header {
     Limit,
 }
 
+/// The optional header lines of a schedule, in their order, each at most once after the ninth header line.
+#[derive(Clone, Copy, Debug, PartialEq, Eq)]
+pub enum Extra {
+    Weakly,
+}
+
 /// The header lines of a schedule, as far as they are read. Until a line sets it a setting has a first
 /// value: no address, the strategy that downs all, and 1.
 #[derive(Debug, Drop)]
 pub struct Draft {
     read: u32,
+    // The index of the first optional header that may still come.
+    extra: u32,
     listed: Vec<Address>,
     strategy: Strategy,
     margin: u32,
@@ -39,6 +48,7 @@ pub struct Draft {
     buffer: u32,
     threshold: u32,
     limit: u32,
+    weakly: u32,
 }
 
 impl Model for Draft {
@@ -48,9 +58,9 @@ impl Model for Draft {
 
     ghost coded = { coded_draft };
 
-    ghost view = { λ d. record { read = d.read; settings = record { listed = d.listed.items; strategy = d.strategy; margin = d.margin; deadline = d.deadline; stable = d.stable; shards = d.shards; buffer = d.buffer; threshold = d.threshold; limit = d.limit } } };
+    ghost view = { λ d. record { read = d.read; extra = d.extra; settings = record { listed = d.listed.items; strategy = d.strategy; margin = d.margin; deadline = d.deadline; stable = d.stable; shards = d.shards; buffer = d.buffer; threshold = d.threshold; limit = d.limit; weakly = d.weakly } } };
 
-    ghost invariant = { λ d. IsDraft (record { read = d.read; settings = record { listed = d.listed.items; strategy = d.strategy; margin = d.margin; deadline = d.deadline; stable = d.stable; shards = d.shards; buffer = d.buffer; threshold = d.threshold; limit = d.limit } }) };
+    ghost invariant = { λ d. IsDraft (record { read = d.read; extra = d.extra; settings = record { listed = d.listed.items; strategy = d.strategy; margin = d.margin; deadline = d.deadline; stable = d.stable; shards = d.shards; buffer = d.buffer; threshold = d.threshold; limit = d.limit; weakly = d.weakly } }) };
 }
 
 impl Draft {
@@ -60,6 +70,7 @@ impl Draft {
     {
         Draft {
             read: 0,
+            extra: 0,
             listed: Vec::new(alloc),
             strategy: Strategy::DownAll,
             margin: 1,
@@ -69,6 +80,7 @@ impl Draft {
             buffer: 1,
             threshold: 1,
             limit: 1,
+            weakly: 0,
         }
     }
 
@@ -85,6 +97,29 @@ impl Draft {
         self.set_next(alloc, line)?;
         self.read += 1;
         Ok(self.read == HEADERS)
+    }
+
+    /// Reads an optional header line: true exactly where the line is one that may still come, false exactly where its first word is
+    /// that of none. Refused as `BadHeader` exactly where it is that of one, and the line is not spelled so, comes twice or comes
+    /// before another that was read. At every error the draft is as it was. The optional headers, their order and their ranges are
+    /// this project's choice. Takes no memory.
+    pub fn extra(&mut self, line: &[u8]) -> Result<bool, LineFault>
+        requires read { self.old.read ≡ HEADERS }
+        requires short { length line.now ≤ MOST_BYTES }
+        ensures { ExtraAnswers result line.now self.old self.new }
+    {
+        let Some((first, _)) = next_word(line) else {
+            return Ok(false);
+        };
+        if !is_text(first, b"weakly") {
+            return Ok(false);
+        }
+        if self.extra > 0 {
+            return Err(LineFault::BadHeader);
+        }
+        self.weakly = read_option(line, b"weakly", MOST_TICKS)?;
+        self.extra = 1;
+        Ok(true)
     }
 
     /// How many headers were read, at most nine.
@@ -105,6 +140,7 @@ impl Draft {
         }
         let Draft {
             read: _,
+            extra: _,
             listed,
             strategy,
             margin,
@@ -114,6 +150,7 @@ impl Draft {
             buffer,
             threshold,
             limit,
+            weakly,
         } = self;
         Ok(Settings {
             listed,
@@ -125,6 +162,7 @@ impl Draft {
             buffer,
             threshold,
             limit,
+            weakly,
         })
     }
 }

@@ -2,7 +2,7 @@ ghost use Rattle.std.specs.Prelude.{[], ◌∷◌, MatchOption, MatchResult, cod
 ghost use Rattle.ak_address.specs.Spelling.{SpellsAddress};
 ghost use Rattle.ak_schedule.specs.Line.{words};
 ghost use Rattle.ak_schedule.specs.Draft.{RefusesHeader, RefusesValue, SpellsAddresses, SpellsNext};
-ghost use Rattle.ak_schedule.specs.Schedule.{SpellsListing, SpellsSetting, SpellsStrategy};
+ghost use Rattle.ak_schedule.specs.Schedule.{SpellsListing, SpellsOption, SpellsSetting, SpellsStrategy};
 
 use crate::fault::LineFault;
 use crate::kind::is_text;
@@ -25,6 +25,24 @@ pub(crate) fn read_setting(line: &[u8], name: &[u8], most: u32) -> Result<u32, L
         return Err(LineFault::BadHeader);
     }
     match parse_number(number, 1, u64::from(most)) {
+        Some(number) => return Ok(number as u32),
+        None => return Err(LineFault::BadHeader),
+    }
+}
+
+/// The number of an optional header line that has this name, from 0 to the most. Refused exactly where the line is no such header.
+pub(crate) fn read_option(line: &[u8], name: &[u8], most: u32) -> Result<u32, LineFault>
+    ensures { MatchResult result
+        (λ n. SpellsOption name.now most (words line.now) n)
+        (RefusesHeader (SpellsOption name.now most (words line.now))) }
+{
+    let Some((first, number)) = two_words(line) else {
+        return Err(LineFault::BadHeader);
+    };
+    if !is_text(first, name) {
+        return Err(LineFault::BadHeader);
+    }
+    match parse_number(number, 0, u64::from(most)) {
         Some(number) => return Ok(number as u32),
         None => return Err(LineFault::BadHeader),
     }

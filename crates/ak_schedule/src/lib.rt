@@ -12,7 +12,7 @@ mod print;
 mod read;
 
 pub use ak_settings::{Settings, Strategy};
-pub use draft::{Draft, Header};
+pub use draft::{Draft, Extra, Header};
 pub use event::Event;
 pub use fault::LineFault;
 pub use laws::{

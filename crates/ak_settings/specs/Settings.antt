@@ -19,6 +19,7 @@ pub record SettingsModel : Type 0 where
   pub buffer : ℕ
   pub threshold : ℕ
   pub limit : ℕ
+  pub weakly : ℕ
 
 -- from 1 to most
 pub record IsWithin (most n : ℕ) : Type 0 where
@@ -46,6 +47,7 @@ pub record IsSettings (s : SettingsModel) : Type 0 where
   pub buffer : IsWithin 100000 s.buffer
   pub threshold : IsWithin 1000 s.threshold
   pub limit : IsWithin 1000 s.limit
+  pub weakly : s.weakly ≤ 1000000
 
 -- an address is listed: a process may start there, and join through it
 abbrev pub is_listed : List AddressModel → AddressModel → Bool
@@ -82,6 +84,7 @@ of_membership listed strategy margin deadline stable = record {
   buffer = default_buffer;
   threshold = default_threshold;
   limit = default_limit;
+  weakly = 0;
 }
 
 -- how many addresses a settled view counts at least
@@ -112,9 +115,9 @@ coded_strategy = code_by (ℕ ⊎ Bool) (coded⊎ coded_ℕ coded_bool) strategy
 -- settings are stored as their fields, in pairs
 abbrev pub coded_settings : Coded SettingsModel
 coded_settings =
-    code_by (List AddressModel × (Strategy × (ℕ × (ℕ × (ℕ × (ℕ × (ℕ × (ℕ × ℕ))))))))
-    (coded× (coded_list coded_address) (coded× coded_strategy (coded× coded_ℕ (coded× coded_ℕ (coded× coded_ℕ (coded× coded_ℕ (coded× coded_ℕ (coded× coded_ℕ coded_ℕ))))))))
-    (λ s. (s.listed, (s.strategy, (s.margin, (s.deadline, (s.stable, (s.shards, (s.buffer, (s.threshold, s.limit)))))))))
+    code_by (List AddressModel × (Strategy × (ℕ × (ℕ × (ℕ × (ℕ × (ℕ × (ℕ × (ℕ × ℕ)))))))))
+    (coded× (coded_list coded_address) (coded× coded_strategy (coded× coded_ℕ (coded× coded_ℕ (coded× coded_ℕ (coded× coded_ℕ (coded× coded_ℕ (coded× coded_ℕ (coded× coded_ℕ coded_ℕ)))))))))
+    (λ s. (s.listed, (s.strategy, (s.margin, (s.deadline, (s.stable, (s.shards, (s.buffer, (s.threshold, (s.limit, s.weakly))))))))))
     (λ p. record {
       listed = p.0;
       strategy = p.1.0;
@@ -124,6 +127,7 @@ coded_settings =
       shards = p.1.1.1.1.1.0;
       buffer = p.1.1.1.1.1.1.0;
       threshold = p.1.1.1.1.1.1.1.0;
-      limit = p.1.1.1.1.1.1.1.1;
+      limit = p.1.1.1.1.1.1.1.1.0;
+      weakly = p.1.1.1.1.1.1.1.1.1;
     })
     (λ _. refl)

@@ -40,6 +40,9 @@ pub struct Settings {
     pub threshold: u32,
     /// How many shards may move at the same time, 1 to 1,000.
     pub limit: u32,
+    /// For how many ticks the leader's view does not settle before members that wait are let in as WeaklyUp, 0 to 1,000,000;
+    /// 0: never.
+    pub weakly: u32,
 }
 
 impl Model for Settings {
@@ -49,9 +52,9 @@ impl Model for Settings {
 
     ghost coded = { coded_settings };
 
-    ghost view = { λ s. record { listed = s.listed.items; strategy = s.strategy; margin = s.margin; deadline = s.deadline; stable = s.stable; shards = s.shards; buffer = s.buffer; threshold = s.threshold; limit = s.limit } };
+    ghost view = { λ s. record { listed = s.listed.items; strategy = s.strategy; margin = s.margin; deadline = s.deadline; stable = s.stable; shards = s.shards; buffer = s.buffer; threshold = s.threshold; limit = s.limit; weakly = s.weakly } };
 
-    ghost invariant = { λ s. IsSettings (record { listed = s.listed.items; strategy = s.strategy; margin = s.margin; deadline = s.deadline; stable = s.stable; shards = s.shards; buffer = s.buffer; threshold = s.threshold; limit = s.limit }) };
+    ghost invariant = { λ s. IsSettings (record { listed = s.listed.items; strategy = s.strategy; margin = s.margin; deadline = s.deadline; stable = s.stable; shards = s.shards; buffer = s.buffer; threshold = s.threshold; limit = s.limit; weakly = s.weakly }) };
 }
 
 /// Into how many shards entities are divided where nobody chooses: as many as there may be.
@@ -99,6 +102,7 @@ impl Settings {
             buffer: DEFAULT_BUFFER,
             threshold: DEFAULT_THRESHOLD,
             limit: DEFAULT_LIMIT,
+            weakly: 0,
         })
     }
 
@@ -144,6 +148,7 @@ impl Settings {
             buffer: self.buffer,
             threshold: self.threshold,
             limit: self.limit,
+            weakly: self.weakly,
         })
     }
 }

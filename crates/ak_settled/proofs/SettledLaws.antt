@@ -13,7 +13,7 @@ use Rattle.ak_address.proofs.ChangedLaws.{get-changed, changed-empty}
 use Rattle.ak_address.proofs.CountersLaws.{among, has-set_of, passes, among_passing, contained, is_among, get-with_each, raised_same}
 use Rattle.ak_clock.specs.Version.{Counts}
 use Rattle.ak_member.specs.declared.status.Status.{Status}
-use Rattle.ak_member.specs.declared.status.Status.TheVariants.{Joining, Up, Leaving, Exiting, Down}
+use Rattle.ak_member.specs.declared.status.Status.TheVariants.{Joining, WeaklyUp, Up, Leaving, Exiting, Down}
 use Rattle.ak_member.specs.declared.standing.Standing.{Standing}
 use Rattle.ak_member.specs.declared.standing.Standing.TheVariants.{Member, Buried}
 use Rattle.ak_member.specs.Standing.{Standings, member_of, members_of, tombstone_of, as_tombstone}
@@ -52,6 +52,7 @@ known_joining margin ticks number (Some (Member status other)) is = (ap (λ o. h
 
 risen : (status : Status) → status ≢ Joining → has_risen status ≡ true
 risen Joining apart = absurd (apart refl)
+risen WeaklyUp apart = refl
 risen Up apart = refl
 risen Leaving apart = refl
 risen Exiting apart = refl

@@ -8,7 +8,7 @@ use Rattle.ak_address.specs.Uniques.{UniqueSet, no_one, set_of}
 use Rattle.ak_address.specs.Counters.{Counters, counter, raised, with_each}
 use Rattle.ak_clock.specs.Version.{Counts}
 use Rattle.ak_member.specs.declared.status.Status.{Status}
-use Rattle.ak_member.specs.declared.status.Status.TheVariants.{Joining, Up, Leaving, Exiting, Down}
+use Rattle.ak_member.specs.declared.status.Status.TheVariants.{Joining, WeaklyUp, Up, Leaving, Exiting, Down}
 use Rattle.ak_member.specs.Standing.{Standings, nobody, tombstone_of, tombstone_pairs}
 use Rattle.ak_member.specs.declared.standing.Standing.{Standing}
 use Rattle.ak_member.specs.declared.standing.Standing.TheVariants.{Member, Buried}
@@ -69,15 +69,16 @@ abbrev pub is_finished : ℕ → SettledView → UniqueModel → Bool
 is_finished margin None who = false
 is_finished margin (Some noted) who = is_over margin (counter noted.counters who) (tombstone_of (finmap.get noted.standings who))
 
--- a member has come Up
+-- a member has risen: it is more than Joining
 abbrev pub has_risen : Status → Bool
 has_risen Joining = false
+has_risen WeaklyUp = true
 has_risen Up = true
 has_risen Leaving = true
 has_risen Exiting = true
 has_risen Down = true
 
--- a process of the settled view is needed: a member that has come Up, or a tombstone that is not finished
+-- a process of the settled view is needed: a member that has risen, or a tombstone that is not finished
 abbrev pub is_needed_as : ℕ → ℕ → Standing → Bool
 is_needed_as margin ticks (Member status number) = has_risen status
 is_needed_as margin ticks (Buried confirmed) = not (is_over margin ticks (Some confirmed))

@@ -14,7 +14,7 @@ use Rattle.ak_clock.specs.declared.version.TheConstants.{BOUND}
 use Rattle.ak_clock.specs.Version.{Counts, Covers, covers}
 use Rattle.ak_clock.proofs.VersionLaws.{covers_from_test, test_from_covers, passes_at, all_pass}
 use Rattle.ak_member.specs.declared.status.Status.{Status}
-use Rattle.ak_member.specs.declared.status.Status.TheVariants.{Joining, Up, Leaving, Exiting, Down}
+use Rattle.ak_member.specs.declared.status.Status.TheVariants.{Joining, WeaklyUp, Up, Leaving, Exiting, Down}
 use Rattle.ak_member.specs.Age.{counts}
 use Rattle.ak_promise.specs.Ballot.{BallotModel, ballot_cmp}
 use Rattle.ak_promise.specs.Promise.{PromiseModel, is_some_ballot}
@@ -75,6 +75,7 @@ greater_is Greater = ((λ is. refl), λ is. refl)
 -- ---- the tests of a tick
 counts_is : (status : Status) → Decides (counts status) ((status ≡ Up) ⊎ (status ≡ Leaving))
 counts_is Joining = ((λ is. absurd (true≢false (sym is))), λ any. elim any [ inl is ↦ ap counts is | inr is ↦ ap counts is ])
+counts_is WeaklyUp = ((λ is. absurd (true≢false (sym is))), λ any. elim any [ inl is ↦ ap counts is | inr is ↦ ap counts is ])
 counts_is Up = ((λ is. inl refl), λ any. refl)
 counts_is Leaving = ((λ is. inr refl), λ any. refl)
 counts_is Exiting = ((λ is. absurd (true≢false (sym is))), λ any. elim any [ inl is ↦ ap counts is | inr is ↦ ap counts is ])

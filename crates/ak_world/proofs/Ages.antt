@@ -6,7 +6,7 @@ use Rattle.ak_address.specs.Unique.{UniqueModel}
 use Rattle.ak_clock.specs.Version.{Counts}
 use Rattle.ak_member.specs.declared.effect.Effect.TheVariants.{Rise}
 use Rattle.ak_member.specs.declared.status.Status.{Status}
-use Rattle.ak_member.specs.declared.status.Status.TheVariants.{Joining, Up, Leaving, Exiting, Down}
+use Rattle.ak_member.specs.declared.status.Status.TheVariants.{Joining, WeaklyUp, Up, Leaving, Exiting, Down}
 use Rattle.ak_member.specs.declared.standing.Standing.{Standing}
 use Rattle.ak_member.specs.declared.standing.Standing.TheVariants.{Member, Buried}
 use Rattle.ak_member.specs.Standing.{rank, member_of, tombstone_of}
@@ -26,6 +26,7 @@ ShowsAged o = IsSome (tombstone_of o) ⊎ ((status : Status) × (number : ℕ) �
 
 rank_above : (s t : Status) → s ≢ Joining → rank s ≤ rank t → t ≢ Joining
 rank_above Joining t apart below is = apart refl
+rank_above WeaklyUp t apart below is = let least : rank t ≡ 1 = ap rank is in omega arith
 rank_above Up t apart below is = let least : rank t ≡ 1 = ap rank is in omega arith
 rank_above Leaving t apart below is = let least : rank t ≡ 1 = ap rank is in omega arith
 rank_above Exiting t apart below is = let least : rank t ≡ 1 = ap rank is in omega arith

@@ -8,7 +8,7 @@ use Rattle.ak_clock.specs.Version.{Counts, count}
 use Rattle.ak_member.specs.declared.effect.Effect.{Effect}
 use Rattle.ak_member.specs.declared.effect.Effect.TheVariants.{Joined, Rise, Removed, Observed}
 use Rattle.ak_member.specs.declared.status.Status.{Status}
-use Rattle.ak_member.specs.declared.status.Status.TheVariants.{Joining, Up, Leaving, Exiting, Down}
+use Rattle.ak_member.specs.declared.status.Status.TheVariants.{Joining, WeaklyUp, Up, Leaving, Exiting, Down}
 use Rattle.ak_member.specs.Standing as standing
 use Rattle.ak_member.specs.Standing.{member_of, is_up}
 use Rattle.ak_member.specs.View.{View}
@@ -38,6 +38,7 @@ use Rattle.ak_world.proofs.Rises.{named_back, up_rose}
 
 pub up_is : (status : Status) → is_up status ≡ true → status ≡ Up
 up_is Joining is = absurd (true≢false (sym is))
+up_is WeaklyUp is = absurd (true≢false (sym is))
 up_is Up is = refl
 up_is Leaving is = absurd (true≢false (sym is))
 up_is Exiting is = absurd (true≢false (sym is))
@@ -168,6 +169,7 @@ module _ (settings : SettingsModel) (r : Remembered) (k : Raised settings r) whe
       cause_may : (entry : Entry) → entry.author ≡ me_of n → (x : Effect) → IsCause (given_by e) n.membership entry.effects x → MayDo r size entry (known n).version x
       cause_may entry author (Joined who) cause = tt
       cause_may entry author (Rise who Joining number) cause = cause.1
+      cause_may entry author (Rise who WeaklyUp number) cause = tt
       cause_may entry author (Rise who Up number) cause = (is_named who cause.0, elim cause.1.1 [ inl f ↦ inl (founding_base entry author f) | inr is ↦ inr (settled_base is) ])
       cause_may entry author (Rise who Leaving number) cause =
           let h = status_of is_up (member_of (map.get (known n).view.standings who)) cause.1 in

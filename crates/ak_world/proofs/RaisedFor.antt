@@ -4,7 +4,7 @@ use Rattle.ak_address.specs.Unique.{UniqueModel}
 use Rattle.ak_clock.specs.Version.{Counts}
 use Rattle.ak_member.specs.declared.effect.Effect.{Effect}
 use Rattle.ak_member.specs.declared.effect.Effect.TheVariants.{Joined, Rise, Removed, Observed}
-use Rattle.ak_member.specs.declared.status.Status.TheVariants.{Joining, Up, Leaving, Exiting, Down}
+use Rattle.ak_member.specs.declared.status.Status.TheVariants.{Joining, WeaklyUp, Up, Leaving, Exiting, Down}
 use Rattle.ak_member.specs.View.{View}
 use Rattle.ak_leader.specs.Led.{IsMemberWith}
 use Rattle.ak_history.specs.declared.entry.Entry.{Entry}
@@ -41,6 +41,7 @@ WasUp r base who = (number : ℕ) × Rose r.world.history base who Up number
 abbrev pub MayDo : Remembered → ℕ → Entry → Counts → Effect → Type 0
 MayDo r size entry base (Joined who) = Unit {0}
 MayDo r size entry base (Rise who Joining number) = ⊥
+MayDo r size entry base (Rise who WeaklyUp number) = Unit {0}
 MayDo r size entry base (Rise who Up number) = MayUp r size entry base who
 MayDo r size entry base (Rise who Leaving number) = WasUp r base who
 MayDo r size entry base (Rise who Exiting number) = Unit {0}
@@ -81,6 +82,7 @@ module _ (r s : Remembered) (g : Grows r s) (founders : FoundersStay r s) where
   pub may_then : (size : ℕ) (entry : Entry) (base : Counts) (x : Effect) → IsBounded r.world.history base → MayDo r size entry base x → MayDo s size entry base x
   may_then size entry base (Joined who) bounded may = tt
   may_then size entry base (Rise who Joining number) bounded may = may
+  may_then size entry base (Rise who WeaklyUp number) bounded may = tt
   may_then size entry base (Rise who Up number) bounded may = (
     subst (λ h. IsNamed h base who) (sym g.grown) (named_then g.more r.world.history base who may.0),
     elim may.1 [ inl f ↦ inl (foundation_then entry base bounded f) | inr a ↦ inr (agreed_then r s g size base a) ],

@@ -7,7 +7,7 @@ use Rattle.ak_clock.specs.Version.{Counts, Covers}
 use Rattle.ak_member.specs.declared.effect.Effect.{Effect}
 use Rattle.ak_member.specs.declared.effect.Effect.TheVariants.{Joined, Rise, Removed}
 use Rattle.ak_member.specs.declared.status.Status.{Status}
-use Rattle.ak_member.specs.declared.status.Status.TheVariants.{Joining, Up, Leaving, Exiting, Down}
+use Rattle.ak_member.specs.declared.status.Status.TheVariants.{Joining, WeaklyUp, Up, Leaving, Exiting, Down}
 use Rattle.ak_member.specs.declared.standing.Standing.{Standing}
 use Rattle.ak_member.specs.declared.standing.Standing.TheVariants.{Member, Buried}
 use Rattle.ak_member.specs.Standing.{rank, member_of}
@@ -37,6 +37,7 @@ module _ (history : List Entry) (v : Counts) (who : UniqueModel) where
 
   by_status : (status : Status) → counts status ≡ true → (status ≡ Joining) ⊎ ((number : ℕ) × Rose history v who status number) → HasRisen
   by_status Joining is reached = absurd (true≢false (sym is))
+  by_status WeaklyUp is reached = absurd (true≢false (sym is))
   by_status Up is (inl same) = absurd (true≢false (ap counts same))
   by_status Up is (inr rose) = inl rose
   by_status Leaving is (inl same) = absurd (true≢false (ap counts same))
@@ -52,7 +53,7 @@ module _ (history : List Entry) (v : Counts) (who : UniqueModel) where
 
   -- who is Joining did not rise
   pub joining_not_risen : (number : ℕ) → member_of (map.get (view history v).standings who) ≡ Some (Joining, number) → (up : ℕ) → Rose history v who Up up → ⊥
-  joining_not_risen number at up rose = shown_member (λ status _. rank status ≡ 1 → ⊥) (λ status _ stands is. let most : 2 ≤ rank status = stands.2.greatest Up up rose in omega arith) Joining number at (omega arith)
+  joining_not_risen number at up rose = shown_member (λ status _. rank status ≡ 1 → ⊥) (λ status _ stands is. let most : 3 ≤ rank status = stands.2.greatest Up up rose in omega arith) Joining number at (omega arith)
 
   -- a member that is Up rose to Up
   pub up_rose : (number : ℕ) → member_of (map.get (view history v).standings who) ≡ Some (Up, number) → (up : ℕ) × Rose history v who Up up

@@ -14,4 +14,5 @@ invariant_of-settings c =
       buffer = ranges.limits.buffer;
       threshold = ranges.limits.threshold;
       limit = ranges.limits.limit;
+      weakly = ranges.running.weakly;
     }

@@ -8,34 +8,34 @@ use Rattle.ak_schedule.proofs.HeaderLines.{next_set, next_refused, first_refused
 use Rattle.ak_schedule.proofs.draft.Draft.set_next.Goals as goal
 
 pub returns-in_ok-self-inside-in-0 : goal.returns-in_ok-self-inside-in-0
-returns-in_ok-self-inside-in-0 c = rw (← c.self.view_is) (next_set 0 header.TheVariants.Listed c.args.line.now _ _ c.in-0.is refl c.requires.short (c.in_ok-self-inside-in-0.field-0.items, c.in_ok-self-inside-in-0.ensures, refl) refl)
+returns-in_ok-self-inside-in-0 c = rw (← c.self.view_is) (next_set 0 header.TheVariants.Listed c.args.line.now _ _ c.in-0.is refl c.requires.short (c.in_ok-self-inside-in-0.field-0.items, c.in_ok-self-inside-in-0.ensures, refl) refl refl)
 
 pub returns-in_ok-self-inside-in-1 : goal.returns-in_ok-self-inside-in-1
-returns-in_ok-self-inside-in-1 c = rw (← c.self.view_is) (next_set 1 header.TheVariants.Strategy c.args.line.now _ _ c.in-1.is refl c.requires.short (c.in_ok-self-inside-in-1.field-0, c.in_ok-self-inside-in-1.ensures, refl) refl)
+returns-in_ok-self-inside-in-1 c = rw (← c.self.view_is) (next_set 1 header.TheVariants.Strategy c.args.line.now _ _ c.in-1.is refl c.requires.short (c.in_ok-self-inside-in-1.field-0, c.in_ok-self-inside-in-1.ensures, refl) refl refl)
 
 pub returns-in_ok-self-inside-in-2 : goal.returns-in_ok-self-inside-in-2
-returns-in_ok-self-inside-in-2 c = rw (← c.self.view_is) (next_set 2 header.TheVariants.Margin c.args.line.now _ _ c.in-2.is refl c.requires.short (c.in_ok-self-inside-in-2.field-0, c.in_ok-self-inside-in-2.ensures, refl) refl)
+returns-in_ok-self-inside-in-2 c = rw (← c.self.view_is) (next_set 2 header.TheVariants.Margin c.args.line.now _ _ c.in-2.is refl c.requires.short (c.in_ok-self-inside-in-2.field-0, c.in_ok-self-inside-in-2.ensures, refl) refl refl)
 
 pub returns-in_ok-self-inside-in-3 : goal.returns-in_ok-self-inside-in-3
-returns-in_ok-self-inside-in-3 c = rw (← c.self.view_is) (next_set 3 header.TheVariants.Deadline c.args.line.now _ _ c.in-3.is refl c.requires.short (c.in_ok-self-inside-in-3.field-0, c.in_ok-self-inside-in-3.ensures, refl) refl)
+returns-in_ok-self-inside-in-3 c = rw (← c.self.view_is) (next_set 3 header.TheVariants.Deadline c.args.line.now _ _ c.in-3.is refl c.requires.short (c.in_ok-self-inside-in-3.field-0, c.in_ok-self-inside-in-3.ensures, refl) refl refl)
 
 pub returns-in_ok-self-inside-in-4 : goal.returns-in_ok-self-inside-in-4
-returns-in_ok-self-inside-in-4 c = rw (← c.self.view_is) (next_set 4 header.TheVariants.Stable c.args.line.now _ _ c.in-4.is refl c.requires.short (c.in_ok-self-inside-in-4.field-0, c.in_ok-self-inside-in-4.ensures, refl) refl)
+returns-in_ok-self-inside-in-4 c = rw (← c.self.view_is) (next_set 4 header.TheVariants.Stable c.args.line.now _ _ c.in-4.is refl c.requires.short (c.in_ok-self-inside-in-4.field-0, c.in_ok-self-inside-in-4.ensures, refl) refl refl)
 
 pub returns-in_ok-self-inside-in-5 : goal.returns-in_ok-self-inside-in-5
-returns-in_ok-self-inside-in-5 c = rw (← c.self.view_is) (next_set 5 header.TheVariants.Shards c.args.line.now _ _ c.in-5.is refl c.requires.short (c.in_ok-self-inside-in-5.field-0, c.in_ok-self-inside-in-5.ensures, refl) refl)
+returns-in_ok-self-inside-in-5 c = rw (← c.self.view_is) (next_set 5 header.TheVariants.Shards c.args.line.now _ _ c.in-5.is refl c.requires.short (c.in_ok-self-inside-in-5.field-0, c.in_ok-self-inside-in-5.ensures, refl) refl refl)
 
 pub returns-in_ok-self-inside-in-6 : goal.returns-in_ok-self-inside-in-6
-returns-in_ok-self-inside-in-6 c = rw (← c.self.view_is) (next_set 6 header.TheVariants.Buffer c.args.line.now _ _ c.in-6.is refl c.requires.short (c.in_ok-self-inside-in-6.field-0, c.in_ok-self-inside-in-6.ensures, refl) refl)
+returns-in_ok-self-inside-in-6 c = rw (← c.self.view_is) (next_set 6 header.TheVariants.Buffer c.args.line.now _ _ c.in-6.is refl c.requires.short (c.in_ok-self-inside-in-6.field-0, c.in_ok-self-inside-in-6.ensures, refl) refl refl)
 
 pub returns-in_ok-self-inside-in-7 : goal.returns-in_ok-self-inside-in-7
-returns-in_ok-self-inside-in-7 c = rw (← c.self.view_is) (next_set 7 header.TheVariants.Threshold c.args.line.now _ _ c.in-7.is refl c.requires.short (c.in_ok-self-inside-in-7.field-0, c.in_ok-self-inside-in-7.ensures, refl) refl)
+returns-in_ok-self-inside-in-7 c = rw (← c.self.view_is) (next_set 7 header.TheVariants.Threshold c.args.line.now _ _ c.in-7.is refl c.requires.short (c.in_ok-self-inside-in-7.field-0, c.in_ok-self-inside-in-7.ensures, refl) refl refl)
 
 pub returns-in_ok-self-inside-in_default : goal.returns-in_ok-self-inside-in_default
 returns-in_ok-self-inside-in_default c =
     let read = ap (λ (d : Drafted). d.read) c.self.view_is in
     let at : c.self.inside.read ≡ 8 = grind (arith) in
-    rw (← c.self.view_is) (next_set 8 header.TheVariants.Limit c.args.line.now _ _ at refl c.requires.short (c.in_ok-self-inside-in_default.field-0, c.in_ok-self-inside-in_default.ensures, refl) refl)
+    rw (← c.self.view_is) (next_set 8 header.TheVariants.Limit c.args.line.now _ _ at refl c.requires.short (c.in_ok-self-inside-in_default.field-0, c.in_ok-self-inside-in_default.ensures, refl) refl refl)
 
 pub returns-in_err-self-inside-in-0 : goal.returns-in_err-self-inside-in-0
 returns-in_err-self-inside-in-0 c =
