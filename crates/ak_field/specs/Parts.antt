@@ -18,8 +18,8 @@ use Rattle.ak_field.specs.Spelling.{byte, eight_bytes, process, flag}
 unfoldable pub state_at : List ℕ → Result (ℕ × List ℕ) WireFault
 state_at bytes = checked Range (is_from 1 8) (byte_at bytes)
 
--- the up number of a state: none of those that are joining, weakly up or removed, some of those that are up, leaving or exiting, and
--- some or none of those that are down
+-- the up number of a state: none of those that are joining, weakly up or removed, some of those that are up, leaving or
+-- exiting, and some or none of those that are down
 abbrev pub is_up_number : ℕ → ℕ → Bool
 is_up_number state number =
     if state == 1 || nat_le 6 state then number == 0 else (if state == 5 then nat_le number BOUND else is_from 1 BOUND number)

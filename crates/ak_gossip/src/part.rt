@@ -70,8 +70,8 @@ impl Drop for Indices {
 }
 
 /// One process of a gossip, as it stands in a datagram: what its version counts of it, its state (1 Joining, 2 Up,
-/// 3 Leaving, 4 Exiting, 5 Down, 6 removed, 7 removed and confirmed, 8 WeaklyUp) and up number, whether it has seen the gossip, and
-/// its row as an observer: the number, 0 where there is none, and the indices of the subjects among the parts.
+/// 3 Leaving, 4 Exiting, 5 Down, 6 removed, 7 removed and confirmed, 8 WeaklyUp) and up number, whether it has seen the gossip,
+/// and its row as an observer: the number, 0 where there is none, and the indices of the subjects among the parts.
 #[derive(Drop)]
 pub struct Part {
     pub unique: Unique,

@@ -81,9 +81,9 @@ impl Gossip {
 
 /// Whether the parts keep the ranges and the order of a gossip's parts (this project's choice): at most 128 of them,
 /// their processes ascending; a count at most 4611686018427387904; a state from 1 to 8, an up number that is 0 while
-/// Joining or WeaklyUp and of a tombstone, from 1 to the greatest count of an Up, Leaving or Exiting member, and up to it of one that
-/// is Down; seen by members alone; a row's number at most the count; without a row no subjects, and else indices of parts
-/// that ascend. Takes no memory.
+/// Joining or WeaklyUp and of a tombstone, from 1 to the greatest count of an Up, Leaving or Exiting member, and up to it of
+/// one that is Down; seen by members alone; a row's number at most the count; without a row no subjects, and else indices of
+/// parts that ascend. Takes no memory.
 pub fn parts_valid(parts: &[Part]) -> bool
     ensures { IsTrue result ↔ AreParts parts.now }
 {

@@ -50,8 +50,8 @@ number_after number Leaving = number
 number_after number Exiting = number
 number_after number Down = number
 
--- what the leader makes of one member: who is Joining or WeaklyUp comes Up with the next number, who leaves exits, and who has exited or
--- is Down is removed, once it said that it stops, or where a Down one is unreachable
+-- what the leader makes of one member: who is Joining or WeaklyUp comes Up with the next number, who leaves exits, and who has
+-- exited or is Down is removed, once it said that it stops, or where a Down one is unreachable
 abbrev pub led : UniqueSet → UniqueSet → ℕ → UniqueModel × (Status × ℕ) → List Effect
 led lost confirmed number (who, (Joining, up)) = if has_next number then Rise who Up (number + 1) ∷ [] else []
 led lost confirmed number (who, (WeaklyUp, up)) = if has_next number then Rise who Up (number + 1) ∷ [] else []

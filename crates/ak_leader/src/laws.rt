@@ -13,9 +13,8 @@ ghost use Rattle.ak_reach.specs.Unreachable.{IsUnreachable};
 ghost use Rattle.ak_leader.specs.Leader.{leader, greatest_number, leaders_effects, founding_effects, weak_effects};
 ghost use Rattle.ak_leader.specs.Led.{IsMemberWith, IsWaiting, IsAbout, LedTo};
 
-/// What the effects of a leader come from. Each is about a member, and has its cause; who is made Up was Joining or
-/// WeaklyUp, and
-/// nobody is made Leaving; who is removed as confirmed is among those confirmed to have stopped, and who is removed
+/// What the effects of a leader come from. Each is about a member, and has its cause; who is made Up was Joining or WeaklyUp,
+/// and nobody is made Leaving; who is removed as confirmed is among those confirmed to have stopped, and who is removed
 /// unconfirmed is Down and unreachable; of the leader itself nothing is made, but that it exits where it is Leaving.
 pub fn leaders_effects_have_causes()
     ensures caused { (v : View) (confirmed : UniqueSet) (x : Effect) → Contains (leaders_effects v confirmed) x → (who : UniqueModel) × (status : Status) × IsMemberWith v.standings who status × LedTo v confirmed who status x }
@@ -28,8 +27,8 @@ pub fn leaders_effects_have_causes()
 {}
 
 /// What a leader owes: every Leaving member exits; every Exiting or Down member that is confirmed to have stopped is
-/// removed, and so is every other Down one that is unreachable; and every Joining or WeaklyUp member comes Up, unless the up numbers
-/// of the view come so near to the bound that there may be none left for it.
+/// removed, and so is every other Down one that is unreachable; and every Joining or WeaklyUp member comes Up, unless the up
+/// numbers of the view come so near to the bound that there may be none left for it.
 pub fn leaders_effects_are_all()
     ensures exits { (v : View) (confirmed : UniqueSet) (who : UniqueModel) → IsMemberWith v.standings who Leaving → Contains (leaders_effects v confirmed) (Rise who Exiting 0) }
     ensures confirmed { (v : View) (confirmed : UniqueSet) (who : UniqueModel) → IsMemberWith v.standings who Exiting ⊎ IsMemberWith v.standings who Down → IsTrue (has confirmed who) → Contains (leaders_effects v confirmed) (Removed who true) }

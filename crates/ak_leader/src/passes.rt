@@ -14,8 +14,8 @@ use ak_reach::{Rows, is_unreachable};
 use std::alloc::{AllocError, Global};
 
 /// What the leader makes of a view on which all agree, in one pass in the order of processes: a Joining or WeaklyUp member
-/// comes Up with the next number above all up numbers of the view, from 1 to `BOUND` (past that, it stays as it is); a Leaving one
-/// exits; an Exiting or Down one that is among those confirmed to have stopped is removed as confirmed; any other Down one
+/// comes Up with the next number above all up numbers of the view, from 1 to `BOUND` (past that, it stays as it is); a Leaving
+/// one exits; an Exiting or Down one that is among those confirmed to have stopped is removed as confirmed; any other Down one
 /// that is unreachable is removed unconfirmed (Akka's Cluster Specification, "Leader"; the confirmation is this project's
 /// choice). Only memory can fail, and only where there is an effect.
 pub fn actions(

@@ -14,11 +14,7 @@ use std::alloc::{AllocError, Global};
 
 /// What the leader makes of a view that does not settle: each Joining member that can be reached becomes WeaklyUp, in the order
 /// of processes (Akka's Cluster Specification, "WeaklyUp Members"). Only memory can fail, and only where there is an effect.
-pub fn weak_effects(
-    alloc: Global,
-    members: &Members,
-    rows: &Rows,
-) -> Result<Effects, AllocError>
+pub fn weak_effects(alloc: Global, members: &Members, rows: &Rows) -> Result<Effects, AllocError>
     ensures ok { IfOk result (λ effects. effects ≡ weak_effects (record { standings = members.now; rows = rows.now })) }
     ensures memory { OnErr result (weak_effects (record { standings = members.now; rows = rows.now }) ≢ []) }
 {

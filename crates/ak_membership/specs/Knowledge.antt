@@ -60,8 +60,8 @@ HasMember m who = IsTrue (standing.is_member m.gossip.view.standings who)
 abbrev pub IsFounding : MembershipState → List Effect → Type 0
 IsFounding m effects = IsTrue m.founder × IsTrue (is_member_with is_joining m.gossip.view.standings m.me) × ((number : ℕ) × Contains effects (Rise m.me Up number))
 
--- why a node may raise a member: to WeaklyUp one that is Joining; to Up one that waits, at the founding or in a settled view; to Leaving one that is Up; to
--- Exiting one that is Leaving, in a settled view; to Down any
+-- why a node may raise a member: to WeaklyUp one that is Joining; to Up one that waits, at the founding or in a settled view;
+-- to Leaving one that is Up; to Exiting one that is Leaving, in a settled view; to Down any
 abbrev pub MayRaise : MembershipState → List Effect → UniqueModel → Status → Type 0
 MayRaise m effects who Joining = ⊥
 MayRaise m effects who WeaklyUp = IsTrue (is_member_with is_joining m.gossip.view.standings who)

@@ -1,7 +1,7 @@
 -- What a tick makes of what a node knows: whom it finds silent (Akka's Cluster Specification, "Failure Detector"), what it
--- decides about a partition ("Split Brain Resolver"), the founding, and what the leader does in a settled view ("Leader") and in one
--- that does not settle ("WeaklyUp Members"). That
--- at most one of them is written at a tick, and that only settled views have a leader that acts, are this project's choice.
+-- decides about a partition ("Split Brain Resolver"), the founding, and what the leader does in a settled view ("Leader") and in
+-- one that does not settle ("WeaklyUp Members"). That at most one of them is written at a tick, and that in a view that is not
+-- settled the leader lets members in and does nothing else, are this project's choice.
 use Rattle.std.specs.Prelude.{ℕ, ◌+◌, ◌*◌, ◌%◌, ◌==◌, min, Bool, true, false, ◌&&◌, ◌||◌, not, nat_le, nat_lt, List, [], ◌∷◌, length, map, Option, Some, None, if◌then◌else◌}
 use Rattle.std.specs.List.{list_any}
 use Rattle.std.specs.Ordering.{is_eq}
@@ -139,7 +139,8 @@ welcomes m = lets_in m && has_effect (weak_effects m.gossip.view)
 abbrev pub is_due : MembershipState → Bool
 is_due m = may_count m && (observes m || decides m || founds m || acts m || welcomes m)
 
--- the tick is counted, and for how long the view did not settle; the tombstones of the settled view, and the watched members that are not heard, wait for a tick more
+-- the tick is counted, and for how long the view did not settle; the tombstones of the settled view, and the watched members
+-- that are not heard, wait for a tick more
 abbrev pub counted : ℕ → MembershipState → MembershipState
 counted weak m =
     record m {

@@ -1,5 +1,5 @@
 -- Of each line it can be decided whether it is passed over, which settings it makes, and which event it spells.
-use Rattle.std.proofs.Common.{◌≡◌, ◌≢◌, ℕ, ◌-◌, ◌^◌, ◌<◌, ◌≤◌, ◌⊎◌, Bool, true, false, List, [], ◌∷◌, length, refl, sym, ap, subst, inl, inr, ◌∙◌, suc, codes, arith}
+use Rattle.std.proofs.Common.{◌≡◌, ◌≢◌, ℕ, ◌-◌, ◌^◌, ◌<◌, ◌≤◌, ◌⊎◌, Bool, true, false, List, [], ◌∷◌, length, refl, sym, ap, subst, inl, inr, ◌∙◌, suc, Some, codes, arith}
 use Rattle.std.specs.Bool.{Decides}
 use Rattle.std.specs.List.{AllZip, AllPairs, AllByRecursion, list_all}
 use Rattle.std.specs.Str.{bytes_eq}
@@ -16,13 +16,16 @@ use Rattle.ak_address.specs.Spelling.{SpellsAddress, SpellsUnique, before_byte, 
 use Rattle.ak_address.proofs.SpellingLemmas.{address_read, address_parts, unique_read, unique_parts}
 use Rattle.ak_schedule.specs.declared.event.Event.{Event}
 use Rattle.ak_schedule.specs.declared.event.Event.TheVariants.{Start, Found, Join, Tick, Deliver, Leave, Down, Offer, Stop}
+use Rattle.ak_schedule.specs.declared.draft.Extra.{Extra}
+use Rattle.ak_schedule.specs.declared.draft.Extra.TheVariants.{Weakly}
 use Rattle.ak_schedule.specs.declared.draft.Header as header
 use Rattle.ak_settings.specs.declared.settings.Strategy.{Strategy}
 use Rattle.ak_settings.specs.declared.settings.Strategy.TheVariants.{StaticQuorum, KeepMajority, DownAll}
 use Rattle.ak_schedule.specs.Line.{words, is_comment, most_bytes, IsPassedOver}
 use Rattle.ak_settings.specs.Settings.{SettingsModel, IsListing}
-use Rattle.ak_schedule.specs.Schedule.{SpellsNumber, SpellsSetting, SpellsStrategy, SpellsListing, Sets, SetsHeader, SpellsWords, SpellsEvent}
-use Rattle.ak_schedule.proofs.OneWay.{same_addresses}
+use Rattle.ak_schedule.specs.Schedule.{SpellsNumber, SpellsOption, SpellsSetting, SpellsStrategy, SpellsListing, Sets, SetsExtra, SetsHeader, SpellsWords, SpellsEvent, NamesExtra}
+use Rattle.ak_schedule.specs.Draft.{Drafted, ReadsExtra}
+use Rattle.ak_schedule.proofs.OneWay.{same_addresses, at_index}
 
 -- it holds, or it does not
 abbrev pub Tells : Type 0 → Type 0
@@ -329,6 +332,37 @@ set_header which line old =
     (λ h. (h.1.0, record { short = h.0; words = h.1.1 }))
     (λ s. (s.1.short, (s.0, s.1.words)))
     (both (at_most (length line) most_bytes) (sets which (words line) old))
+
+-- ---- an optional header
+pub named_extra : (ws : List (List ℕ)) → Tells (NamesExtra ws)
+named_extra [] = inr (λ h. cc)
+named_extra (w ∷ ws) = alike (λ is. (Weakly, ws, ap (λ (x : List ℕ). x ∷ ws) is)) first_is (same_bytes w (codes "weakly"))
+  where
+    first_is : NamesExtra (w ∷ ws) → w ≡ codes "weakly"
+    first_is (Weakly, rest, is) = cc
+
+option : (name : List ℕ) (most : ℕ) (ws : List (List ℕ)) → Finds (SpellsOption name most ws)
+option name most ws = one (λ w n. SpellsNumber w 0 most n) (number 0 most) name ws
+
+sets_extra : (which : Extra) (ws : List (List ℕ)) (old : SettingsModel) → Finds (SetsExtra which ws old)
+sets_extra Weakly ws old = put (SpellsOption (codes "weakly") 1000000 ws) (λ x. record old { weakly = x }) (option (codes "weakly") 1000000 ws)
+
+pub set_extra : (line : List ℕ) (old : Drafted) → Finds (ReadsExtra line old)
+set_extra line old =
+    alike
+    (λ h. (
+      record { read = old.read; extra = 1; settings = h.1.1.0 },
+      record { which = Weakly; index = 0; next = refl; later = h.1.0; sets = record { short = h.0; words = h.1.1.1 }; same_read = refl; past = refl },
+    ))
+    (λ s. parts s.0 s.1 s.1.which refl)
+    (both (at_most (length line) most_bytes) (both (at_most old.extra 0) (sets_extra Weakly (words line) old.settings)))
+  where
+    parts : (new : Drafted) (r : ReadsExtra line old new) (which : Extra) → r.which ≡ which
+        → (length line ≤ most_bytes) × ((old.extra ≤ 0) × ((t : SettingsModel) × SetsExtra Weakly (words line) old.settings t))
+    parts new r Weakly is =
+        let at : r.index ≡ 0 = at_index r.index Weakly (r.next ∙ ap Some is) in
+        let later = r.later in
+        (r.sets.short, (omega (arith, at, later), (new.settings, subst (λ (w : Extra). SetsExtra w (words line) old.settings new.settings) is r.sets.words)))
 
 -- ---- a line that is passed over
 no_words : (ws : List (List ℕ)) → Tells (ws ≡ [])

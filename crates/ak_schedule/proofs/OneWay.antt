@@ -1,17 +1,20 @@
 -- A line is read in one way at most.
-use Rattle.std.proofs.Common.{◌≡◌, ℕ, List, [], ◌∷◌, sym, ◌∙◌, ap, subst, refl, codes, arith}
+use Rattle.std.proofs.Common.{◌≡◌, ℕ, ◌+◌, List, [], ◌∷◌, zero, suc, sym, ◌∙◌, ap, subst, refl, codes, arith}
+use Rattle.std.specs.Prelude.{Some, slice_get}
 use Rattle.std.specs.List.{AllZip}
 use Rattle.ak_address.specs.Unique.{AddressModel, UniqueModel}
 use Rattle.ak_address.specs.Spelling.{IsNumber, SpellsAddress, SpellsUnique}
 use Rattle.ak_address.proofs.SpellingLemmas.{number_same, address_same, unique_same}
 use Rattle.ak_schedule.specs.declared.event.Event.{Event}
 use Rattle.ak_schedule.specs.declared.event.Event.TheVariants.{Start, Found, Join, Tick, Deliver, Leave, Down, Offer, Stop}
+use Rattle.ak_schedule.specs.declared.draft.Extra.{Extra}
+use Rattle.ak_schedule.specs.declared.draft.Extra.TheVariants.{Weakly}
 use Rattle.ak_schedule.specs.declared.draft.Header as header
 use Rattle.ak_settings.specs.declared.settings.Strategy.{Strategy}
 use Rattle.ak_settings.specs.declared.settings.Strategy.TheVariants.{StaticQuorum, KeepMajority, DownAll}
 use Rattle.ak_settings.specs.Settings.{SettingsModel}
-use Rattle.ak_schedule.specs.Schedule.{Sets, SetsHeader, SpellsEvent, SpellsWords, SpellsSetting, SpellsStrategy, SpellsListing}
-use Rattle.ak_schedule.specs.Draft.{Drafted, ReadsHeader}
+use Rattle.ak_schedule.specs.Schedule.{Sets, SetsExtra, SetsHeader, SpellsEvent, SpellsWords, SpellsOption, SpellsSetting, SpellsStrategy, SpellsListing, extra_name, extras}
+use Rattle.ak_schedule.specs.Draft.{Drafted, ReadsExtra, ReadsHeader}
 use Rattle.ak_schedule.specs.Line.{words}
 use Rattle.ak_schedule.specs.Kind.{kind_name}
 use Rattle.ak_schedule.proofs.EventWords.{event_kind, named, same_kind}
@@ -145,3 +148,37 @@ one_draft line old one other h g =
     let settings_lists : one.settings ≡ other.settings =
     one_settings g.which line old.settings one.settings other.settings (subst (λ (w : header.Header). SetsHeader w line old.settings one.settings) which h.sets) g.sets in
     (λ i. record { read = (h.count ∙ sym g.count) i; extra = (h.same_extra ∙ sym g.same_extra) i; settings = settings_lists i })
+
+-- ---- an optional header
+same_option : (name : List ℕ) (most : ℕ) (ws : List (List ℕ)) (m n : ℕ) → SpellsOption name most ws m → SpellsOption name most ws n → m ≡ n
+same_option name most ws m n h g = let w : h.0 ≡ g.0 = cc in same_number h.0 g.0 m n w h.2.number g.2.number
+
+same_extra : (which : Extra) (ws : List (List ℕ)) (old one other : SettingsModel) → SetsExtra which ws old one → SetsExtra which ws old other → one ≡ other
+same_extra Weakly ws old one other h g =
+    h.2 ∙ ap (λ (x : ℕ). record old { weakly = x }) (same_option (codes "weakly") 1000000 ws h.0 g.0 h.1 g.1) ∙ sym g.2
+
+-- its first word is its name, and tells which it is
+named_extra : (which : Extra) (ws : List (List ℕ)) (old new : SettingsModel) → SetsExtra which ws old new → (rest : List (List ℕ)) × (ws ≡ extra_name which ∷ rest)
+named_extra Weakly ws old new h = (h.1.0 ∷ [], h.1.1)
+
+told_extra : (one other : Extra) → extra_name one ≡ extra_name other → one ≡ other
+told_extra Weakly Weakly same = refl
+
+-- it stands at one index
+abbrev extra_index : Extra → ℕ
+extra_index Weakly = 0
+
+pub at_index : (index : ℕ) (which : Extra) → slice_get extras index ≡ Some which → index ≡ extra_index which
+at_index zero Weakly is = refl
+at_index (suc index) which is = absurd (cc)
+
+pub one_extra : (line : List ℕ) (old one other : Drafted) → ReadsExtra line old one → ReadsExtra line old other → one ≡ other
+one_extra line old one other h g =
+    let here = named_extra h.which (words line) old.settings one.settings h.sets.words in
+    let there = named_extra g.which (words line) old.settings other.settings g.sets.words in
+    let names : extra_name h.which ≡ extra_name g.which = cc (here.1, there.1) in
+    let which : h.which ≡ g.which = told_extra h.which g.which names in
+    let index : h.index ≡ g.index = at_index h.index h.which h.next ∙ ap extra_index which ∙ sym (at_index g.index g.which g.next) in
+    let settings_lists : one.settings ≡ other.settings =
+    same_extra g.which (words line) old.settings one.settings other.settings (subst (λ (w : Extra). SetsExtra w (words line) old.settings one.settings) which h.sets.words) g.sets.words in
+    (λ i. record { read = (h.same_read ∙ sym g.same_read) i; extra = (h.past ∙ ap (λ (n : ℕ). n + 1) index ∙ sym g.past) i; settings = settings_lists i })

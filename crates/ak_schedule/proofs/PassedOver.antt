@@ -1,16 +1,20 @@
--- A line that is passed over is no event line and no header line.
-use Rattle.std.proofs.Common.{◌≡◌, ℕ, true, false, ◌==◌, List, [], ◌∷◌, ap, refl, arith, inl, inr}
+-- A line that is passed over is no event line and no header line, and no event line begins as an optional header does.
+use Rattle.std.proofs.Common.{◌≡◌, ℕ, true, false, ◌==◌, List, [], ◌∷◌, ap, refl, arith, inl, inr, codes}
 use Rattle.std.specs.Prelude.{filter}
 use Rattle.std.specs.List.{slice_split, onto_first}
 use Rattle.std.proofs.lemmas.Bool.Decides.{nat_tests, Decides-eqb}
 use Rattle.ak_schedule.specs.declared.event.Event.{Event}
 use Rattle.ak_schedule.specs.declared.event.Event.TheVariants.{Start, Found, Join, Tick, Deliver, Leave, Down, Offer, Stop}
+use Rattle.ak_schedule.specs.declared.draft.Extra.TheVariants.{Weakly}
 use Rattle.ak_schedule.specs.declared.draft.Header as header
 use Rattle.ak_settings.specs.declared.settings.Strategy.{Strategy}
 use Rattle.ak_settings.specs.declared.settings.Strategy.TheVariants.{StaticQuorum, KeepMajority, DownAll}
 use Rattle.ak_schedule.specs.Line.{words, begins, is_comment, IsPassedOver}
 use Rattle.ak_settings.specs.Settings.{SettingsModel}
-use Rattle.ak_schedule.specs.Schedule.{SpellsEvent, SpellsWords, SpellsStrategy, Sets, SetsHeader}
+use Rattle.ak_schedule.specs.Schedule.{SpellsEvent, SpellsWords, SpellsStrategy, Sets, SetsHeader, NamesExtra}
+use Rattle.ak_schedule.specs.Kind as kind
+use Rattle.ak_schedule.specs.Kind.{kind_name}
+use Rattle.ak_schedule.proofs.EventWords.{event_kind, named}
 
 -- the first byte of the first word, or 35, a comment's, where there is no word
 abbrev first_byte : List (List ℕ) → ℕ
@@ -66,3 +70,28 @@ no_event line e passed spelt = event_byte (words line) e spelt.words (passed_byt
 
 pub no_header : (which : header.Header) (line : List ℕ) (old new : SettingsModel) → IsPassedOver line → SetsHeader which line old new → ⊥
 no_header which line old new passed sets = header_byte which (words line) old new sets.words (passed_byte line passed)
+
+extra_byte : (ws : List (List ℕ)) → NamesExtra ws → first_byte ws ≡ 35 → ⊥
+extra_byte ws (Weakly, rest, is) same = not_comment 119 (first_byte ws) (ap first_byte is) refl same
+
+pub no_extra : (line : List ℕ) → IsPassedOver line → NamesExtra (words line) → ⊥
+no_extra line passed names = extra_byte (words line) names (passed_byte line passed)
+
+-- ---- the first words of events are those of no optional header
+abbrev byte_of : List ℕ → ℕ
+byte_of [] = 0
+byte_of (b ∷ bs) = b
+
+not_weakly : (k : kind.Kind) → codes "weakly" ≡ kind_name k → ⊥
+not_weakly kind.Start is = let same : 119 ≡ 115 = ap byte_of is in omega (arith, same)
+not_weakly kind.Found is = let same : 119 ≡ 102 = ap byte_of is in omega (arith, same)
+not_weakly kind.Join is = let same : 119 ≡ 106 = ap byte_of is in omega (arith, same)
+not_weakly kind.Tick is = let same : 119 ≡ 116 = ap byte_of is in omega (arith, same)
+not_weakly kind.Deliver is = let same : 119 ≡ 100 = ap byte_of is in omega (arith, same)
+not_weakly kind.Leave is = let same : 119 ≡ 108 = ap byte_of is in omega (arith, same)
+not_weakly kind.Down is = let same : 119 ≡ 100 = ap byte_of is in omega (arith, same)
+not_weakly kind.Offer is = let same : 119 ≡ 111 = ap byte_of is in omega (arith, same)
+not_weakly kind.Stop is = let same : 119 ≡ 115 = ap byte_of is in omega (arith, same)
+
+pub no_named_event : (line : List ℕ) (e : Event) → SpellsEvent line e → NamesExtra (words line) → ⊥
+no_named_event line e spelt (Weakly, rest, is) = not_weakly (event_kind e) (named (words line) rest (codes "weakly") is e spelt.words)

@@ -99,10 +99,10 @@ impl Draft {
         Ok(self.read == HEADERS)
     }
 
-    /// Reads an optional header line: true exactly where the line is one that may still come, false exactly where its first word is
-    /// that of none. Refused as `BadHeader` exactly where it is that of one, and the line is not spelled so, comes twice or comes
-    /// before another that was read. At every error the draft is as it was. The optional headers, their order and their ranges are
-    /// this project's choice. Takes no memory.
+    /// Reads an optional header line: true exactly where the line is one that may still come, false exactly where its first word
+    /// is that of none. Refused as `BadHeader` exactly where it is that of one, and the line is not spelled so, comes twice or
+    /// belongs before another that was read. At every error the draft is as it was. The optional headers, their order and their
+    /// ranges are this project's choice. Takes no memory.
     pub fn extra(&mut self, line: &[u8]) -> Result<bool, LineFault>
         requires read { self.old.read ≡ HEADERS }
         requires short { length line.now ≤ MOST_BYTES }

@@ -1,18 +1,19 @@
 ghost use Rattle.std.specs.Prelude.{◌≡◌, ◌≢◌, ℕ, List, [], ◌∷◌, ◌++◌, All};
-ghost use Rattle.ak_schedule.specs.Draft.{Drafted, ReadsHeader, ReadsHeaders, all_read, first_draft};
+ghost use Rattle.ak_schedule.specs.Draft.{Drafted, ReadsExtra, ReadsHeader, ReadsHeaders, all_read, first_draft};
 ghost use Rattle.ak_schedule.specs.Line.{lines, words, without_cr, IsPassedOver};
 ghost use Rattle.ak_settings.specs.Settings.{SettingsModel};
-ghost use Rattle.ak_schedule.specs.Schedule.{SpellsEvent, SetsHeader, SpellsSettings, IsSpelled, IsEvent, event_text};
+ghost use Rattle.ak_schedule.specs.Schedule.{SpellsEvent, SetsHeader, SpellsSettings, NamesExtra, IsSpelled, IsEvent, event_text};
 
 use crate::draft::Header;
 use crate::event::Event;
 
 /// A line spells one event at most; a header line sets one value
-/// at most, and so the next draft.
+/// at most, and so the next draft, and an optional header line too.
 pub fn lines_are_read_one_way()
     ensures events { (line : List ℕ) (e f : Event) → SpellsEvent line e → SpellsEvent line f → e ≡ f }
     ensures settings { (which : Header) (line : List ℕ) (old one other : SettingsModel) → SetsHeader which line old one → SetsHeader which line old other → one ≡ other }
     ensures drafts { (line : List ℕ) (old one other : Drafted) → ReadsHeader line old one → ReadsHeader line old other → one ≡ other }
+    ensures extras { (line : List ℕ) (old one other : Drafted) → ReadsExtra line old one → ReadsExtra line old other → one ≡ other }
 {}
 
 /// The events that some line spells are those whose parts are in range, and what is printed of them
@@ -22,11 +23,13 @@ pub fn printed_events_are_read()
     ensures canonical { (e : Event) → IsEvent e → SpellsEvent (event_text e) e }
 {}
 
-/// A line that is passed over spells no event and sets no header, so it does not matter which is
-/// asked first.
+/// A line that is passed over spells no event and sets no header, and does not begin with the word of an optional one; nor does an
+/// event line. So it does not matter which is asked first.
 pub fn passed_over_lines_spell_nothing()
     ensures events { (line : List ℕ) (e : Event) → IsPassedOver line → SpellsEvent line e → ⊥ }
     ensures headers { (which : Header) (line : List ℕ) (old new : SettingsModel) → IsPassedOver line → SetsHeader which line old new → ⊥ }
+    ensures extras { (line : List ℕ) → IsPassedOver line → NamesExtra (words line) → ⊥ }
+    ensures apart { (line : List ℕ) (e : Event) → SpellsEvent line e → NamesExtra (words line) → ⊥ }
 {}
 
 /// A line ends with its LF or with the text, and no line begins after a last LF.

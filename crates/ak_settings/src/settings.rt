@@ -40,8 +40,8 @@ pub struct Settings {
     pub threshold: u32,
     /// How many shards may move at the same time, 1 to 1,000.
     pub limit: u32,
-    /// For how many ticks the leader's view does not settle before members that wait are let in as WeaklyUp, 0 to 1,000,000;
-    /// 0: never.
+    /// After how many ticks of a view that does not settle its leader lets Joining members in as WeaklyUp, 0 to 1,000,000; 0 is
+    /// never.
     pub weakly: u32,
 }
 
