@@ -3,7 +3,7 @@ use Rattle.std.proofs.Common.{◌≡◌, ℕ, ◌++◌, Bool, List, length, Opti
 use Rattle.ak_driver.specs.declared.replay.Replay.{Replay}
 use Rattle.ak_driver.specs.declared.replay.Stage.{Stage}
 use Rattle.ak_driver.specs.declared.replay.Stage.TheVariants.{Running}
-use Rattle.ak_driver.specs.ReplayContracts.{IsReady, FinishAnswers, progress, progress_of}
+use Rattle.ak_driver.specs.ReplayContracts.{IsOpened, FinishAnswers, progress, progress_of}
 use Rattle.ak_world.specs.Double.{Doubled, IsFirstDouble}
 use Rattle.ak_world.proofs.DoubleMarks.{one_first}
 use Rattle.ak_world.specs.StepText.{IsSummary, summary_text}
@@ -17,10 +17,10 @@ is_some-doubled None = refl
 is_some-doubled (Some d) = refl
 
 -- there were as many steps as accepted events, and the double that the summary names is the one that the world keeps
-pub finishes : (r : Replay) (w : WorldModel) (before after added : List ℕ) (double : Option Doubled) (doubled : Bool) → r.stage ≡ Running w → IsReady r.stage r.steps → IsSummary w.settings w.events r.steps w.state added
+pub finishes : (r : Replay) (w : WorldModel) (before after added : List ℕ) (double : Option Doubled) (doubled : Bool) → r.stage ≡ Running w → IsOpened r.stage r.steps → IsSummary w.settings w.events r.steps w.state added
     → after ≡ before ++ added → IsFirstDouble w.settings w.events double → doubled ≡ is_some double → FinishAnswers (Ok doubled) (progress_of r) before after
 finishes r w before after added double doubled is ready summary out first doubled_is =
-    let steps : length w.events ≡ r.steps = subst (λ s. IsReady s r.steps) is ready in
+    let steps : length w.events ≡ r.steps = subst (λ s. IsOpened s r.steps) is ready in
     let same : double ≡ summary.1 = one_first w.settings w.events double summary.1 first summary.3 in
     subst (λ (s : Stage). FinishAnswers (Ok doubled) (progress s r.line) before after) (sym is) (
       omega arith,

@@ -10,10 +10,11 @@ use Rattle.ak_outside.specs.declared.status.Status.{Status}
 use Rattle.ak_outside.specs.declared.status.Status.TheVariants as status
 use Rattle.ak_schedule.specs.declared.event.Event.{Event}
 use Rattle.ak_schedule.specs.declared.event.Event.TheVariants.{Start}
+use Rattle.ak_schedule.specs.declared.draft.Extra as extra
 use Rattle.ak_schedule.specs.declared.draft.Header as header
 use Rattle.ak_schedule.specs.Line.{lines, words}
 use Rattle.ak_settings.specs.Settings.{SettingsModel}
-use Rattle.ak_schedule.specs.Schedule.{Sets, SpellsEvent, SpellsWords}
+use Rattle.ak_schedule.specs.Schedule.{Sets, SetsExtra, SpellsEvent, SpellsWords}
 use Rattle.ak_world.specs.declared.margin.Margin.{Margin}
 use Rattle.ak_world.specs.declared.margin.Margin.TheVariants.{Kept}
 use Rattle.ak_world.specs.Double.{Doubled, IsFirstDouble}
@@ -28,7 +29,7 @@ use Rattle.ak_world.proofs.DoubleRuns.{no_double-of_run}
 use Rattle.ak_world.proofs.UidsOfStarts.{uids_of_starts, next_uids}
 use Rattle.ak_driver.specs.Headline.{kept_lines, KeepsEntitiesApart}
 use Rattle.ak_driver.specs.ReplayPromise.{Prints, Promises}
-use Rattle.ak_driver.specs.ReplayText.{Progress, Judgement, Passes, Sets as SetsAll, Steps, Ending, Finished, Stopped, Judged, Replays, ReplaysAs, IsReplay, turn, at_start, ending_text, header_count}
+use Rattle.ak_driver.specs.ReplayText.{Progress, Judgement, Passes, Sets as SetsAll, SetsExtra as SetsMore, Steps, Ending, Finished, Stopped, Judged, Replays, ReplaysAs, IsReplay, turn, at_start, ending_text, header_count}
 use Rattle.ak_driver.proofs.OneReplay.{one_replay}
 
 -- ---- each process that starts has a uid from 1 on
@@ -50,6 +51,9 @@ margin_set header.TheVariants.Buffer ws old new least s = subst (λ (x : Setting
 margin_set header.TheVariants.Threshold ws old new least s = subst (λ (x : SettingsModel). 1 ≤ x.margin) (sym s.2) least
 margin_set header.TheVariants.Limit ws old new least s = subst (λ (x : SettingsModel). 1 ≤ x.margin) (sym s.2) least
 
+margin_kept : (which : extra.Extra) (ws : List (List ℕ)) (old new : SettingsModel) → SetsExtra which ws old new → new.margin ≡ old.margin
+margin_kept extra.TheVariants.Weakly ws old new s = ap (λ (x : SettingsModel). x.margin) s.2
+
 -- ---- of a replay
 record Sound (p : Progress) : Type 0 where
   heading : p.headers < header_count → p.events ≡ []
@@ -64,6 +68,13 @@ turn_sound p line (SetsAll settings) j s =
       heading = λ _. none;
       uids = subst (λ (l : List Event). HaveUids (run settings l)) (sym none) (no_uids settings);
       margin = margin_set j.1.which (words line) p.settings settings s.margin j.1.sets.words;
+    }
+turn_sound p line (SetsMore extra settings) j s =
+    let none = j.0.none_yet in
+    record {
+      heading = λ _. none;
+      uids = subst (λ (l : List Event). HaveUids (run settings l)) (sym none) (no_uids settings);
+      margin = subst (λ (n : ℕ). 1 ≤ n) (sym (margin_kept j.1.which (words line) p.settings settings j.1.sets.words)) s.margin;
     }
 turn_sound p line (Steps event done) j s = record {
   heading = λ few. absurd (let all = j.0.running in omega (arith, few, all));

@@ -3,10 +3,11 @@ use Rattle.std.proofs.Common.{◌≡◌, ℕ, ◌<◌, ◌≤◌, ◌⊎◌, Lis
 use Rattle.std.specs.List.{concat}
 use Rattle.ak_schedule.specs.declared.event.Event.{Event}
 use Rattle.ak_schedule.specs.declared.draft.Header as header
+use Rattle.ak_schedule.specs.Draft.{Drafted}
 use Rattle.ak_schedule.specs.Line.{lines, IsPassedOver}
 use Rattle.ak_settings.specs.Settings.{SettingsModel}
 use Rattle.ak_schedule.specs.Schedule.{SetsHeader, SpellsEvent}
-use Rattle.ak_schedule.proofs.OneWay.{one_event, one_settings}
+use Rattle.ak_schedule.proofs.OneWay.{one_event, one_extra, one_settings}
 use Rattle.ak_driver.specs.declared.replay.Code.{Code}
 use Rattle.ak_driver.specs.declared.replay.Code.TheVariants.{Malformed, BadHeader, PastLimit, Invalid}
 use Rattle.ak_world.specs.declared.world.Reason.{Reason}
@@ -16,7 +17,7 @@ use Rattle.ak_world.specs.declared.margin.Margin.{Margin}
 use Rattle.ak_world.proofs.MarginRuns.{one_margin}
 use Rattle.ak_world.specs.Double.{Doubled}
 use Rattle.ak_world.proofs.DoubleMarks.{one_first}
-use Rattle.ak_driver.specs.ReplayText.{Progress, Judgement, Passes, Sets, Steps, Ending, Finished, Stopped, Judged, IsRefused, WantsHeader, WantsEvent, HasRoom, SetsNext, EndsAs, Replays, ReplaysAs, IsReplay, turn, at_start, ending_text, ending_status, most_lines, most_events, header_count}
+use Rattle.ak_driver.specs.ReplayText.{Progress, Judgement, Passes, Sets, SetsExtra, Steps, Ending, Finished, Stopped, Judged, IsRefused, WantsHeader, WantsExtra, WantsEvent, HasRoom, SetsNext, SetsLater, EndsAs, Replays, ReplaysAs, IsReplay, turn, at_start, ending_text, ending_status, most_lines, most_events, header_count}
 
 -- ---- what a line is, from which its judgement or its code follows
 data Finding : Type 0 where
@@ -24,6 +25,8 @@ data Finding : Type 0 where
   Passed : Finding
   Header : SettingsModel → Finding
   NoHeader : Finding
+  Extra : ℕ → SettingsModel → Finding
+  NoExtra : Finding
   Full : Finding
   NoEvent : Finding
   Happens : Event → Result Done Reason → Finding
@@ -33,6 +36,8 @@ Found p line Over = most_lines < p.line
 Found p line Passed = (p.line ≤ most_lines) × IsPassedOver line
 Found p line (Header settings) = WantsHeader p line × SetsNext p line settings
 Found p line NoHeader = WantsHeader p line × ((settings : SettingsModel) → SetsNext p line settings → ⊥)
+Found p line (Extra extra settings) = WantsExtra p line × SetsLater p line extra settings
+Found p line NoExtra = WantsExtra p line × ((extra : ℕ) (settings : SettingsModel) → SetsLater p line extra settings → ⊥)
 Found p line Full = WantsEvent p line × (most_events ≤ length p.events)
 Found p line NoEvent = WantsEvent p line × HasRoom p × ((event : Event) → SpellsEvent line event → ⊥)
 Found p line (Happens event result) = WantsEvent p line × HasRoom p × SpellsEvent line event × (happens p.settings event p.world ≡ result)
@@ -47,6 +52,8 @@ verdict Over = Refuses PastLimit
 verdict Passed = Accepts Passes
 verdict (Header settings) = Accepts (Sets settings)
 verdict NoHeader = Refuses BadHeader
+verdict (Extra extra settings) = Accepts (SetsExtra extra settings)
+verdict NoExtra = Refuses BadHeader
 verdict Full = Refuses PastLimit
 verdict NoEvent = Refuses Malformed
 verdict (Happens event (Ok done)) = Accepts (Steps event done)
@@ -61,7 +68,8 @@ Finds p line v = (finding : Finding) × Found p line finding × (v ≡ verdict f
 
 refusal : (p : Progress) (line : List ℕ) (code : Code) → IsRefused p line code → Finds p line (Refuses code)
 refusal p line Malformed j = (NoEvent, j, refl)
-refusal p line BadHeader j = (NoHeader, j, refl)
+refusal p line BadHeader (inl j) = (NoHeader, j, refl)
+refusal p line BadHeader (inr j) = (NoExtra, j, refl)
 refusal p line PastLimit (inl over) = (Over, over, refl)
 refusal p line PastLimit (inr full) = (Full, full, refl)
 refusal p line (Invalid why) j = (Happens j.2 (Err why), (j.0, j.1, j.3, j.4), refl)
@@ -69,6 +77,7 @@ refusal p line (Invalid why) j = (Happens j.2 (Err why), (j.0, j.1, j.3, j.4), r
 finds : (p : Progress) (line : List ℕ) (v : Verdict) → Is p line v → Finds p line v
 finds p line (Accepts Passes) j = (Passed, j, refl)
 finds p line (Accepts (Sets settings)) j = (Header settings, j, refl)
+finds p line (Accepts (SetsExtra extra settings)) j = (Extra extra settings, j, refl)
 finds p line (Accepts (Steps event done)) j = (Happens event (Ok done), j, refl)
 finds p line (Refuses code) j = refusal p line code j
 
@@ -77,6 +86,17 @@ same_header : (p : Progress) (line : List ℕ) (one other : SettingsModel) → S
 same_header p line one other h g =
     let same : h.which ≡ g.which = cc (h.next, g.next) in
     one_settings g.which line p.settings one other (subst (λ (w : header.Header). SetsHeader w line p.settings one) same h.sets) g.sets
+
+-- an optional header is wanted, or an event
+unlike : (p : Progress) (line : List ℕ) → WantsExtra p line → WantsEvent p line → ⊥
+unlike p line extra event = event.no_extra extra.none_yet extra.short extra.named
+
+-- how far a draft has come with an optional header
+abbrev later : Progress → ℕ → SettingsModel → Drafted
+later p extra settings = record { read = p.headers; extra = extra; settings = settings }
+
+same_extra : (p : Progress) (line : List ℕ) (m n : ℕ) (one other : SettingsModel) → SetsLater p line m one → SetsLater p line n other → later p m one ≡ later p n other
+same_extra p line m n one other h g = one_extra line (later p p.extra p.settings) (later p m one) (later p n other) h g
 
 one_finding : (p : Progress) (line : List ℕ) (one other : Finding) → Found p line one → Found p line other → one ≡ other
 one_finding p line Over Over h g = refl
@@ -89,6 +109,24 @@ one_finding p line (Header settings) (Header other) h g = ap Header (same_header
 one_finding p line (Header settings) NoHeader h g = absurd (g.1 settings h.1)
 one_finding p line NoHeader (Header settings) h g = absurd (h.1 settings g.1)
 one_finding p line NoHeader NoHeader h g = refl
+one_finding p line (Extra extra settings) (Extra other_extra other) h g =
+    let same = same_extra p line extra other_extra settings other h.1 g.1 in
+    (λ i. Extra ((same i).extra) ((same i).settings))
+one_finding p line (Extra extra settings) NoExtra h g = absurd (g.1 extra settings h.1)
+one_finding p line NoExtra (Extra extra settings) h g = absurd (h.1 extra settings g.1)
+one_finding p line NoExtra NoExtra h g = refl
+one_finding p line (Extra extra settings) Full h g = absurd (unlike p line h.0 g.0)
+one_finding p line (Extra extra settings) NoEvent h g = absurd (unlike p line h.0 g.0)
+one_finding p line (Extra extra settings) (Happens event result) h g = absurd (unlike p line h.0 g.0)
+one_finding p line NoExtra Full h g = absurd (unlike p line h.0 g.0)
+one_finding p line NoExtra NoEvent h g = absurd (unlike p line h.0 g.0)
+one_finding p line NoExtra (Happens event result) h g = absurd (unlike p line h.0 g.0)
+one_finding p line Full (Extra extra settings) h g = absurd (unlike p line g.0 h.0)
+one_finding p line NoEvent (Extra extra settings) h g = absurd (unlike p line g.0 h.0)
+one_finding p line (Happens event result) (Extra extra settings) h g = absurd (unlike p line g.0 h.0)
+one_finding p line Full NoExtra h g = absurd (unlike p line g.0 h.0)
+one_finding p line NoEvent NoExtra h g = absurd (unlike p line g.0 h.0)
+one_finding p line (Happens event result) NoExtra h g = absurd (unlike p line g.0 h.0)
 one_finding p line Full Full h g = refl
 one_finding p line NoEvent NoEvent h g = refl
 one_finding p line NoEvent (Happens event result) h g = absurd (h.2 event g.2)
@@ -168,6 +206,9 @@ turn_run : (p : Progress) (line : List ℕ) (judgement : Judgement) → Judged p
 turn_run p line Passes j r = record { heading = r.heading; is_run = r.is_run }
 turn_run p line (Sets settings) j r =
     let none = r.heading j.0.heading in
+    record { heading = λ _. none; is_run = r.is_run ∙ ap (run p.settings) none ∙ ap (run settings) (sym none) }
+turn_run p line (SetsExtra extra settings) j r =
+    let none = j.0.none_yet in
     record { heading = λ _. none; is_run = r.is_run ∙ ap (run p.settings) none ∙ ap (run settings) (sym none) }
 turn_run p line (Steps event done) j r = record {
   heading = λ few. absurd (let all = j.0.running in omega arith);

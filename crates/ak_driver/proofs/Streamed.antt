@@ -21,7 +21,7 @@ use Rattle.ak_driver.specs.declared.replay.Stage.TheVariants.{Heading}
 use Rattle.ak_driver.specs.declared.replay.Stop.{Stop}
 use Rattle.ak_driver.specs.declared.replay.Stop.TheVariants.{Refused}
 use Rattle.ak_outside.specs.Endings.{Written, read_line}
-use Rattle.ak_driver.specs.ReplayText.{Progress, Judgement, Passes, Sets, Steps, Judged, IsRefused, Accepts, IsTextOfEnded, Stopped, Replays, turn, at_start, most_lines}
+use Rattle.ak_driver.specs.ReplayText.{Progress, Judgement, Passes, Sets, SetsExtra, Steps, Judged, IsRefused, Accepts, IsTextOfEnded, Stopped, Replays, turn, at_start, most_lines}
 use Rattle.ak_driver.specs.ReplayPromise.{Prints, Promises}
 use Rattle.ak_driver.specs.ReplayContracts.{Turns, TurnAnswers, Flushes, EndsWith, Ended, progress_of}
 use Rattle.ak_driver.proofs.ReplayLoop.{Along, along_start, along_turn, along_flush, along_fails, along_stop, along_refusal, along_finish, progress_line}
@@ -173,11 +173,13 @@ follows_line (Some bytes) coming after was at_end old now p q line out grown tex
 accepted_within : (p : Progress) (line : List ℕ) (judgement : Judgement) → Judged p line judgement → p.line ≤ most_lines
 accepted_within p line Passes j = j.0
 accepted_within p line (Sets settings) j = j.0.in_limit
+accepted_within p line (SetsExtra extra settings) j = j.0.in_limit
 accepted_within p line (Steps event done) j = j.0.in_limit
 
 next_number : (p : Progress) (judgement : Judgement) → (turn p judgement).0.line ≡ p.line + 1
 next_number p Passes = refl
 next_number p (Sets settings) = refl
+next_number p (SetsExtra extra settings) = refl
 next_number p (Steps event done) = refl
 
 pub fewer_lines : (r s : Replay) (line text : List ℕ) → Turns (progress_of r) line (progress_of s) text → 200002 - s.line < 200002 - r.line

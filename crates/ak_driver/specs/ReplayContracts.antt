@@ -1,9 +1,10 @@
 -- Words of the contracts of a replay's calls.
 use Rattle.std.specs.Prelude.{◌≡◌, ◌≢◌, ℕ, ◌+◌, ◌<◌, ◌≤◌, ◌⊎◌, ◌↔◌, Option, is_some, List, [], ◌∷◌, ◌++◌, Bool, true, false, IsTrue, length, Result, Ok, Err}
 use Rattle.std.specs.List.{concat}
-use Rattle.ak_schedule.specs.Draft.{Drafted, ReadsHeader}
-use Rattle.ak_schedule.specs.Line.{IsPassedOver}
-use Rattle.ak_schedule.specs.Schedule.{SpellsEvent}
+use Rattle.ak_settings.specs.Settings.{SettingsModel}
+use Rattle.ak_schedule.specs.Draft.{Drafted, ReadsExtra, ReadsHeader}
+use Rattle.ak_schedule.specs.Line.{words, most_bytes, IsPassedOver}
+use Rattle.ak_schedule.specs.Schedule.{SpellsEvent, NamesExtra, extras}
 use Rattle.ak_schedule.specs.declared.event.Event.{Event}
 use Rattle.ak_world.specs.declared.world.Refused as refused
 use Rattle.ak_driver.specs.declared.replay.Code.{Code}
@@ -23,7 +24,7 @@ use Rattle.ak_outside.specs.declared.status.Status as status
 use Rattle.ak_world.specs.declared.margin.Margin.{Margin}
 use Rattle.ak_world.specs.Margin.{IsMargin}
 use Rattle.ak_world.specs.Double.{Doubled, IsFirstDouble}
-use Rattle.ak_driver.specs.ReplayText.{Progress, Judgement, Judged, IsRefused, WantsEvent, HasRoom, Finished, turn, header_count, most_events, ending_text, refusal_text}
+use Rattle.ak_driver.specs.ReplayText.{Progress, Judgement, Judged, IsRefused, WantsEvent, HasRoom, Finished, turn, header_count, most_lines, most_events, ending_text, refusal_text}
 use Rattle.ak_outside.specs.Endings.{Written, memory_line}
 use Rattle.ak_world.specs.StepText.{step_text}
 
@@ -32,34 +33,67 @@ abbrev pub stop_of : refused.Refused → Stop
 stop_of (refused.TheVariants.Invalid why) = Refused (Invalid why)
 stop_of (refused.TheVariants.NoMemory _) = NoMemory
 
--- a header is still wanted, or the world has accepted as many events as there were steps
+-- no event was applied while headers are read, and as many as there were steps, one at least, after that
 abbrev pub IsReady : Stage → ℕ → Type 0
-IsReady (Heading draft) steps = (draft.read < 9) × (steps ≡ 0)
-IsReady (Running world) steps = length world.events ≡ steps
+IsReady (Heading draft) steps = steps ≡ 0
+IsReady (Running world) steps = (length world.events ≡ steps) × (1 ≤ steps)
 
--- all headers are read
-abbrev pub IsWhole : Stage → Type 0
-IsWhole (Heading draft) = draft.read ≡ 9
-IsWhole (Running world) = ⊥
+-- a header is missing, or the world has begun
+abbrev pub IsOpened : Stage → ℕ → Type 0
+IsOpened (Heading draft) steps = draft.read < header_count
+IsOpened (Running world) steps = length world.events ≡ steps
 
--- the world begins
-abbrev pub opened : Stage → Stage
-opened (Heading draft) = Running (record { settings = draft.settings; state = empty_world; events = []; spent = false })
-opened (Running world) = Running world
+-- the world of these settings, before its first event
+abbrev pub world_of : SettingsModel → WorldModel
+world_of settings = record { settings = settings; state = empty_world; events = []; spent = false }
+
+-- the world begins where all headers are read
+abbrev pub Opens : Stage → Stage → Type 0
+Opens (Heading draft) new =
+    ((draft.read ≡ header_count) × (new ≡ Running (world_of draft.settings))) ⊎ ((draft.read < header_count) × (new ≡ Heading draft))
+Opens (Running world) new = new ≡ Running world
 
 -- how far a replay has come at a stage, by the number of the next line
 abbrev pub progress : Stage → ℕ → Progress
-progress (Heading draft) line = record { line = line; headers = draft.read; settings = draft.settings; events = []; world = empty_world }
-progress (Running world) line = record { line = line; headers = header_count; settings = world.settings; events = world.events; world = world.state }
+progress (Heading draft) line = record { line = line; headers = draft.read; extra = draft.extra; settings = draft.settings; events = []; world = empty_world }
+progress (Running world) line = record { line = line; headers = header_count; extra = length extras; settings = world.settings; events = world.events; world = world.state }
 
 abbrev pub progress_of : Replay → Progress
 progress_of r = progress r.stage r.line
 
--- what one line does while headers are read: it is passed over, or is the next header; memory runs out at the first one alone
+-- the line is for this world, which p has reached: an event was applied, or the line is no optional header and is not passed over
+pub record IsFor (p : Progress) (world : WorldModel) (line : List ℕ) : Type 0 where
+  pub same : p ≡ record { line = p.line; headers = header_count; extra = p.extra; settings = world.settings; events = world.events; world = world.state }
+  pub in_limit : p.line ≤ most_lines
+  pub no_extra : world.events ≡ [] → length line ≤ most_bytes → NamesExtra (words line) → ⊥
+  pub passed : IsPassedOver line → (p.extra ≡ length extras) × (1 ≤ length world.events)
+
+-- the same of the world of a replay
+abbrev pub Stands : Progress → Replay → List ℕ → Type 0
+Stands p r line = (world : WorldModel) × (r.stage ≡ Running world) × (p.line ≡ r.line) × IsFor p world line
+
+-- what one line does after the ninth header and before the first event, where it is not passed over
+abbrev pub OptionalAnswers : Result Bool Stop → List ℕ → Drafted → Drafted → Type 0
+OptionalAnswers (Ok true) line old new = ReadsExtra line old new
+OptionalAnswers (Ok false) line old new = (new ≡ old) × (NamesExtra (words line) → ⊥)
+OptionalAnswers (Err (Refused BadHeader)) line old new = (new ≡ old) × NamesExtra (words line) × ((next : Drafted) → ReadsExtra line old next → ⊥)
+OptionalAnswers (Err (Refused Malformed)) line old new = ⊥
+OptionalAnswers (Err (Refused PastLimit)) line old new = ⊥
+OptionalAnswers (Err (Refused (Invalid why))) line old new = ⊥
+OptionalAnswers (Err NoMemory) line old new = ⊥
+
+-- what one line does while headers are read: it is passed over, or is the next header, or an optional one; or it is for the world.
+-- Memory runs out at the first header alone.
 abbrev pub HeadingAnswers : Result Bool Stop → List ℕ → Drafted → Drafted → Type 0
-HeadingAnswers (Ok whole) line old new =
-    (IsPassedOver line × (new ≡ old) × (whole ≡ false)) ⊎ ((IsPassedOver line → ⊥) × ReadsHeader line old new × (IsTrue whole ↔ (new.read ≡ 9)))
-HeadingAnswers (Err (Refused BadHeader)) line old new = (new ≡ old) × (IsPassedOver line → ⊥) × ((next : Drafted) → ReadsHeader line old next → ⊥)
+HeadingAnswers (Ok true) line old new =
+    (IsPassedOver line × (new ≡ old))
+    ⊎ ((IsPassedOver line → ⊥) × (old.read < header_count) × ReadsHeader line old new)
+    ⊎ ((IsPassedOver line → ⊥) × (old.read ≡ header_count) × ReadsExtra line old new)
+HeadingAnswers (Ok false) line old new = (IsPassedOver line → ⊥) × (old.read ≡ header_count) × (new ≡ old) × (NamesExtra (words line) → ⊥)
+HeadingAnswers (Err (Refused BadHeader)) line old new =
+    (new ≡ old) × (IsPassedOver line → ⊥)
+    × (((old.read < header_count) × ((next : Drafted) → ReadsHeader line old next → ⊥))
+    ⊎ ((old.read ≡ header_count) × NamesExtra (words line) × ((next : Drafted) → ReadsExtra line old next → ⊥)))
 HeadingAnswers (Err (Refused Malformed)) line old new = ⊥
 HeadingAnswers (Err (Refused PastLimit)) line old new = ⊥
 HeadingAnswers (Err (Refused (Invalid why))) line old new = ⊥

@@ -4,7 +4,7 @@ use Rattle.std.specs.List.{concat, slice_split}
 use Rattle.std.specs.Fmt.{decimal}
 use Rattle.ak_schedule.specs.Line.{lines, words, most_bytes, without_cr, IsPassedOver}
 use Rattle.ak_settings.specs.Settings.{SettingsModel}
-use Rattle.ak_schedule.specs.Schedule.{SpellsEvent, NamesExtra}
+use Rattle.ak_schedule.specs.Schedule.{SpellsEvent, NamesExtra, extras}
 use Rattle.ak_schedule.specs.Draft.{first_draft, ReadsHeader, ReadsExtra}
 use Rattle.ak_schedule.specs.declared.event.Event.{Event}
 use Rattle.ak_world.specs.declared.world.Reason.{Reason}
@@ -31,7 +31,7 @@ header_count = 9
 pub record Progress : Type 0 where
   -- the number of the next line, from 1 on
   pub line : ℕ
-  -- how many headers were read, the first optional header that may still come, and what they set
+  -- how many headers were read, the index of the first optional header that may still come, and what they set
   pub headers : ℕ
   pub extra : ℕ
   pub settings : SettingsModel
@@ -112,9 +112,8 @@ Judged p line (Sets settings) = WantsHeader p line × SetsNext p line settings
 Judged p line (SetsExtra extra settings) = WantsExtra p line × SetsLater p line extra settings
 Judged p line (Steps event done) = WantsEvent p line × HasRoom p × SpellsEvent line event × (happens p.settings event p.world ≡ Ok done)
 
--- a line is refused with this code: it spells no event; it is not the next header, or begins with the
--- word of an optional one and is none that may still come; it comes after the last that may be; or it
--- spells an event that the world refuses
+-- a line is refused with this code: it spells no event; it is not the next header, or begins with the word of an optional one and
+-- is none that may still come; it comes after the last that may be; or it spells an event that the world refuses
 abbrev pub IsRefused : Progress → List ℕ → Code → Type 0
 IsRefused p line Malformed = WantsEvent p line × HasRoom p × ((event : Event) → SpellsEvent line event → ⊥)
 IsRefused p line BadHeader =
@@ -123,13 +122,14 @@ IsRefused p line BadHeader =
 IsRefused p line PastLimit = (most_lines < p.line) ⊎ (WantsEvent p line × (most_events ≤ length p.events))
 IsRefused p line (Invalid why) = WantsEvent p line × HasRoom p × (event : Event) × SpellsEvent line event × (happens p.settings event p.world ≡ Err why)
 
--- what an accepted line makes of a replay: how far it has come then, and the text of the step that it adds
+-- what an accepted line makes of a replay: how far it has come then, and the text of the step that it adds; after an event no
+-- header may come
 abbrev pub turn : Progress → Judgement → Progress × List (List ℕ)
 turn p Passes = (record p { line = p.line + 1 }, [])
 turn p (Sets settings) = (record p { line = p.line + 1; headers = p.headers + 1; settings = settings }, [])
 turn p (SetsExtra extra settings) = (record p { line = p.line + 1; extra = extra; settings = settings }, [])
 turn p (Steps event done) = (
-  record p { line = p.line + 1; events = p.events ++ event ∷ []; world = done.world },
+  record p { line = p.line + 1; extra = length extras; events = p.events ++ event ∷ []; world = done.world },
   step_text (length p.world.packets + 1) (length p.events + 1) event done ∷ [],
 )
 

@@ -7,8 +7,8 @@ ghost use Rattle.ak_schedule.specs.Draft.{first_draft};
 ghost use Rattle.ak_driver.specs.Headline.{KeepsEntitiesApart};
 ghost use Rattle.ak_driver.specs.ReplayPromise.{Promises, EndsSource, IsCompleted};
 ghost use Rattle.ak_schedule.specs.Line.{most_bytes};
-ghost use Rattle.ak_driver.specs.ReplayText.{refusal_text, code_text, reason_text, IsRefused};
-ghost use Rattle.ak_driver.specs.ReplayContracts.{stop_of, IsReady, IsWhole, opened, progress_of, HeadingAnswers, RunningAnswers, PassesOver, TurnAnswers, FinishAnswers, Flushes, finished_status, Ended, EndsWith};
+ghost use Rattle.ak_driver.specs.ReplayText.{Progress, refusal_text, code_text, reason_text, IsRefused};
+ghost use Rattle.ak_driver.specs.ReplayContracts.{stop_of, IsReady, IsOpened, Opens, Stands, progress_of, HeadingAnswers, OptionalAnswers, RunningAnswers, PassesOver, TurnAnswers, FinishAnswers, Flushes, finished_status, Ended, EndsWith};
 ghost use Rattle.ak_outside.specs.Endings.{Written, memory_line};
 ghost use Rattle.ak_driver.specs.StatusContracts.{ReplayCause};
 ghost use Rattle.ak_outside.specs.declared.status.Status.TheVariants.{Schedule, Memory};
@@ -105,7 +105,7 @@ fn stop_of(why: Refused) -> Stop
     }
 }
 
-// Headers are read, and then events are applied.
+// Headers are read, the optional ones too, and then events are applied: the world begins with the first of them, or at the end.
 #[derive(Drop)]
 enum Stage {
     Heading(Draft),
@@ -140,7 +140,8 @@ impl Replay {
         out: &mut Vec<u8>,
         notes: &mut N,
     ) -> Result<(), Stop>
-        requires { IsReady self.old.stage self.old.steps }
+        requires ready { IsReady self.old.stage self.old.steps }
+        requires short { length line.now ≤ most_bytes }
         ensures ready { OnOk result (IsReady self.new.stage self.new.steps) }
         ensures line { OnErr result (self.new.line ≡ self.old.line) }
         ensures turn { TurnAnswers result line.now (progress_of self.old) (progress_of self.new) out.old.items out.new.items }
@@ -152,11 +153,32 @@ impl Replay {
         match &mut self.stage {
             Stage::Heading(draft) => {
                 if heading(alloc, draft, line)? {
-                    self.open(alloc, notes);
+                    self.line += 1;
+                    return Ok(());
                 }
-                self.line += 1;
-                Ok(())
+                self.open(alloc, notes);
+                self.run(alloc, line, text, out)
             }
+            Stage::Running(_) => self.run(alloc, line, text, out),
+        }
+    }
+
+    // What one line does in the world.
+    fn run(
+        &mut self,
+        alloc: Global,
+        line: &[u8],
+        text: &mut Vec<u8>,
+        out: &mut Vec<u8>,
+    ) -> Result<(), Stop>
+        requires opened { IsOpened self.old.stage self.old.steps }
+        requires limit { self.old.line ≤ MOST_LINES }
+        ensures ready { (p : Progress) → Stands p self.old line.now → OnOk result (IsReady self.new.stage self.new.steps) }
+        ensures line { OnErr result (self.new.line ≡ self.old.line) }
+        ensures turn { (p : Progress) → Stands p self.old line.now → TurnAnswers result line.now p (progress_of self.new) out.old.items out.new.items }
+    {
+        match &mut self.stage {
+            Stage::Heading(_) => Err(Stop::Refused(Code::BadHeader)),
             Stage::Running(world) => {
                 if running(alloc, world, self.steps, line, text, out)? {
                     self.steps += 1;
@@ -167,21 +189,25 @@ impl Replay {
         }
     }
 
-    // The headers are whole: the world begins.
+    // Where all nine headers are read, the world begins.
     fn open<N: Notes>(&mut self, alloc: Global, notes: &mut N)
-        requires { IsWhole self.old.stage }
-        ensures { self.new ≡ record { stage = opened self.old.stage; line = self.old.line; steps = self.old.steps } }
+        ensures stage { Opens self.old.stage self.new.stage }
+        ensures line { self.new.line ≡ self.old.line }
+        ensures steps { self.new.steps ≡ self.old.steps }
     {
         // The stage is taken out first, since the draft is used up by its settings.
         let stage = mem::replace(&mut self.stage, Stage::Heading(Draft::new(alloc)));
         self.stage = match stage {
-            Stage::Heading(draft) => match draft.finish() {
-                Ok(settings) => {
-                    warn_of_quorum(alloc, notes, &settings);
-                    Stage::Running(World::new(alloc, settings))
+            Stage::Heading(draft) => {
+                draft.invariant();
+                match draft.finish() {
+                    Ok(settings) => {
+                        warn_of_quorum(alloc, notes, &settings);
+                        Stage::Running(World::new(alloc, settings))
+                    }
+                    Err(draft) => Stage::Heading(draft),
                 }
-                Err(draft) => Stage::Heading(draft),
-            },
+            }
             Stage::Running(world) => Stage::Running(world),
         };
     }
@@ -194,19 +220,19 @@ impl Replay {
         if self.line > u64::from(MOST_LINES) {
             return Code::PastLimit;
         }
-        match &self.stage {
-            Stage::Heading(_) => Code::BadHeader,
-            Stage::Running(_) => {
-                if self.steps >= MOST_EVENTS {
-                    return Code::PastLimit;
-                }
-                Code::Malformed
-            }
+        if self.headers_read() < MOST_HEADERS {
+            return Code::BadHeader;
         }
+        if self.steps >= MOST_EVENTS {
+            return Code::PastLimit;
+        }
+        Code::Malformed
     }
 
     // How many headers were read.
-    fn headers_read(&self) -> u32 {
+    fn headers_read(&self) -> u32
+        ensures { result ≡ (progress_of self.now).headers }
+    {
         match &self.stage {
             Stage::Heading(draft) => draft.headers_read(),
             Stage::Running(_) => MOST_HEADERS,
@@ -215,17 +241,18 @@ impl Replay {
 
     // After the last line: the summary is written, or a header is missing.
     fn ends<W: Sink, N: Notes>(
-        &self,
+        &mut self,
         alloc: Global,
         out: &mut Vec<u8>,
         output: &mut W,
         notes: &mut N,
     ) -> Status
-        requires { IsReady self.now.stage self.now.steps }
+        requires { IsReady self.old.stage self.old.steps }
         ensures count { W.faults output.old ≤ W.faults output.new }
         ensures cause { ReplayCause result 0 0 (W.faults output.old) (W.faults output.new) }
-        ensures ends { EndsWith (progress_of self.now) out.old.items result (W.faults output.old) (W.faults output.new) (W.written output.old) (W.written output.new) }
+        ensures ends { EndsWith (progress_of self.old) out.old.items result (W.faults output.old) (W.faults output.new) (W.written output.old) (W.written output.new) }
     {
+        self.open(alloc, notes);
         let end = self.finish(alloc, out);
         if let Err(stop) = &end {
             explain(alloc, stop, self.headers_read(), self.line, &[], notes);
@@ -253,7 +280,7 @@ impl Replay {
 
     // After the last line: the summary, and whether there is a double; or a header is missing.
     fn finish(&self, alloc: Global, out: &mut Vec<u8>) -> Result<bool, Stop>
-        requires { IsReady self.now.stage self.now.steps }
+        requires { IsOpened self.now.stage self.now.steps }
         ensures { FinishAnswers result (progress_of self.now) out.old.items out.new.items }
     {
         match &self.stage {
@@ -266,16 +293,34 @@ impl Replay {
     }
 }
 
-// One line while headers are read; true where it was the last of them.
+// One line while headers are read; false where it is for the world, since it is none.
 fn heading(alloc: Global, draft: &mut Draft, line: &[u8]) -> Result<bool, Stop>
-    requires { draft.old.read < 9 }
+    requires { length line.now ≤ most_bytes }
     ensures { HeadingAnswers result line.now draft.old draft.new }
 {
     if is_passed_over(line) {
-        return Ok(false);
+        return Ok(true);
+    }
+    draft.invariant();
+    if draft.headers_read() == MOST_HEADERS {
+        return optional(draft, line);
     }
     match draft.header(alloc, line) {
-        Ok(whole) => Ok(whole),
+        Ok(_) => Ok(true),
+        Err(LineFault::Malformed) => Err(Stop::Refused(Code::Malformed)),
+        Err(LineFault::BadHeader) => Err(Stop::Refused(Code::BadHeader)),
+        Err(LineFault::NoMemory(error)) => Err(error.into()),
+    }
+}
+
+// One line after the ninth header and before the first event, which is not passed over; false where it is no optional header.
+fn optional(draft: &mut Draft, line: &[u8]) -> Result<bool, Stop>
+    requires read { draft.old.read ≡ MOST_HEADERS }
+    requires short { length line.now ≤ most_bytes }
+    ensures { OptionalAnswers result line.now draft.old draft.new }
+{
+    match draft.extra(line) {
+        Ok(read) => Ok(read),
         Err(LineFault::Malformed) => Err(Stop::Refused(Code::Malformed)),
         Err(LineFault::BadHeader) => Err(Stop::Refused(Code::BadHeader)),
         Err(LineFault::NoMemory(error)) => Err(error.into()),

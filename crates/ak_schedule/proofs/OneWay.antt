@@ -158,8 +158,8 @@ same_extra Weakly ws old one other h g =
     h.2 ∙ ap (λ (x : ℕ). record old { weakly = x }) (same_option (codes "weakly") 1000000 ws h.0 g.0 h.1 g.1) ∙ sym g.2
 
 -- its first word is its name, and tells which it is
-named_extra : (which : Extra) (ws : List (List ℕ)) (old new : SettingsModel) → SetsExtra which ws old new → (rest : List (List ℕ)) × (ws ≡ extra_name which ∷ rest)
-named_extra Weakly ws old new h = (h.1.0 ∷ [], h.1.1)
+pub begins_extra : (which : Extra) (ws : List (List ℕ)) (old new : SettingsModel) → SetsExtra which ws old new → (rest : List (List ℕ)) × (ws ≡ extra_name which ∷ rest)
+begins_extra Weakly ws old new h = (h.1.0 ∷ [], h.1.1)
 
 told_extra : (one other : Extra) → extra_name one ≡ extra_name other → one ≡ other
 told_extra Weakly Weakly same = refl
@@ -174,8 +174,8 @@ at_index (suc index) which is = absurd (cc)
 
 pub one_extra : (line : List ℕ) (old one other : Drafted) → ReadsExtra line old one → ReadsExtra line old other → one ≡ other
 one_extra line old one other h g =
-    let here = named_extra h.which (words line) old.settings one.settings h.sets.words in
-    let there = named_extra g.which (words line) old.settings other.settings g.sets.words in
+    let here = begins_extra h.which (words line) old.settings one.settings h.sets.words in
+    let there = begins_extra g.which (words line) old.settings other.settings g.sets.words in
     let names : extra_name h.which ≡ extra_name g.which = cc (here.1, there.1) in
     let which : h.which ≡ g.which = told_extra h.which g.which names in
     let index : h.index ≡ g.index = at_index h.index h.which h.next ∙ ap extra_index which ∙ sym (at_index g.index g.which g.next) in
