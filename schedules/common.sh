@@ -1,5 +1,10 @@
 # What sketch, show, picture and tour share; they source it, and it is no command.
 
+# The first words of the optional headers, in their order: lines that may stand after the nine headers and before the first
+# event. (shellcheck does not see that who sources this file reads it.)
+# shellcheck disable=SC2034
+optional_headers='weakly'
+
 # complain TEXT: says on standard error what is wrong, in the name of the command, and ends with status 1.
 complain() {
     echo "schedules/${0##*/}: $1" >&2

@@ -64,6 +64,20 @@ refused_sketches() {
     only_refuses "line 2: the program refuses it as S2: $header" ''
 }
 
+# A header that may follow the nine ones is no event, and what is wrong with it is told of such a header.
+refused_optional_headers() {
+    local once='after the nine headers it may stand once, in its order, with a value in its range'
+    sketch_refuses "line 10: the program refuses \"weakly\" as S2: $once" 'weakly'
+    sketch_refuses "line 10: the program refuses \"weakly 1000001\" as S2: $once" 'weakly 1000001' 'start a:1#1' 'deliver all'
+    sketch_refuses "line 12: the program refuses \" weakly  2\" as S2: $once" 'weakly 2' '# again' ' weakly  2' 'tick all 0'
+    sketch_refuses 'line 12: the program refuses "weakly 2" as S1: it is a header, and may stand before the first event alone' \
+        'weakly 2' 'start a:1#1' 'weakly 2'
+    sketch_refuses 'line 11: the program refuses "weaker 2" as S1: this is no line of a sketch or of a schedule' \
+        'weakly 2' 'weaker 2'
+    only_refuses "line 1: the program refuses \"weakly 2\" as S2: the next header, with a value in its range, is wanted here" \
+        'weakly 2' 'listed a:1'
+}
+
 # A sketch with everything: its comments, its repeats, and what is lost.
 a_sketch() {
     {
@@ -76,6 +90,26 @@ a_sketch() {
     } >"$work/wanted"
     schedules/sketch "$work/right.sketch" "$program" >"$work/actual"
     compare "a sketch with everything" "$?" 0 "$work/wanted"
+}
+
+# A sketch with a header more than nine: what is sent by then is known as without it.
+a_sketch_with_an_optional_header() {
+    {
+        printf '%s\n' "${headers[@]}" '# more' ' weakly 2' 'start a:1#1' 'start b:1#1' 'found a:1#1' 'repeat 2' \
+            'join b:1#1 a:1' 'end' 'deliver all' 'tick all 7' 'deliver last'
+    } >"$work/right.sketch"
+    {
+        printf '%s\n' "${headers[@]}" '# more' ' weakly 2' 'start a:1#1' 'start b:1#1' 'found a:1#1' 'join b:1#1 a:1' \
+            'join b:1#1 a:1' 'deliver 1' 'deliver 2' 'deliver 3' 'deliver 4' 'deliver 5' 'deliver 6' 'tick a:1#1 7' \
+            'tick b:1#1 7' 'deliver 8'
+    } >"$work/wanted"
+    schedules/sketch "$work/right.sketch" "$program" >"$work/actual"
+    compare "a sketch with an optional header" "$?" 0 "$work/wanted"
+    # (and again with the schedule beside it, by which replays are saved)
+    cp -- "$work/wanted" "$work/right.schedule" || exit 1
+    schedules/sketch "$work/right.sketch" "$program" >"$work/actual"
+    compare "a sketch with an optional header and its schedule" "$?" 0 "$work/wanted"
+    rm -- "$work/right.schedule"
 }
 
 # A sketch beside which no schedule stands yet gives the same: what is expected of a packet saves replays, and decides nothing.
@@ -105,10 +139,41 @@ TEXT
     compare "a picture of packet_to_nobody" "$?" 0 "$work/wanted"
 }
 
+# A picture of a member that is let in.
+a_picture_of_let_in() {
+    cat >"$work/wanted" <<'TEXT'
+sequenceDiagram
+    participant p1 as a:1
+    participant p2 as b:1
+    participant p3 as c:1
+    p3->>p1: 5 join
+    Note over p1: update 4 joined c:1
+    p1-xp3: 6 welcome
+    Note over p1: tick 2<br/>update 5 weakly-up c:1
+    p1-xp2: 9 gossip
+    Note over p1: sees at the end<br/>version a:1=5<br/>members a:1 up 1, b:1 up 2, c:1 weakly-up
+    Note over p2: sees at the end<br/>version a:1=2<br/>members a:1 joining, b:1 joining
+TEXT
+    schedules/picture --steps 11-12 --without heartbeat schedules/weakly_up/let_in.schedule "$program" >"$work/actual"
+    compare "a picture of let_in" "$?" 0 "$work/wanted"
+}
+
+# Under a header stands no step, also under one that may follow the nine ones.
+shown_under_headers() {
+    {
+        printf '> %s\n' "${headers[@]}" 'weakly 2' 'start a:1#1'
+        printf '%s\n' '1 start a:1#1' '> weakly 2' 'error 4 S1 line 12'
+    } >"$work/wanted"
+    printf '%s\n' "${headers[@]}" 'weakly 2' 'start a:1#1' 'weakly 2' >"$work/headers.schedule"
+    schedules/show "$work/headers.schedule" "$program" >"$work/actual"
+    compare "schedules/show of an optional header" "$?" 0 "$work/wanted"
+}
+
 # What schedules/show prints is the schedule after "> ", and between its lines the output as it is.
 shown() {
     local name status
-    for name in joining/first_join joining/spaces_comments_and_zeros refusals/unknown_event; do
+    for name in joining/first_join joining/spaces_comments_and_zeros refusals/unknown_event refusals/weakly_twice \
+        weakly_up/let_in; do
         schedules/show "schedules/$name.schedule" "$program" >"$work/shown"
         status=$?
         grep -v '^> ' "$work/shown" >"$work/actual"
@@ -201,9 +266,13 @@ tour() {
 
 check_scenarios() {
     refused_sketches
+    refused_optional_headers
     a_sketch
+    a_sketch_with_an_optional_header
     a_new_sketch
     shown
+    shown_under_headers
     a_picture
+    a_picture_of_let_in
     tour
 }
