@@ -1,6 +1,8 @@
 -- What one line does to a replay, from what its calls answer.
 use Rattle.std.proofs.Common.{◌≡◌, ◌≢◌, ℕ, ◌+◌, ◌<◌, ◌≤◌, Bool, true, false, List, [], ◌∷◌, ◌++◌, if◌then◌else◌, Result, Ok, Err, OnOk, length, refl, sym, ap, subst, ◌∙◌, arith, append-nil, length-append, inl, inr}
-use Rattle.ak_schedule.specs.Draft.{Drafted, ReadsExtra, ReadsHeader}
+use Rattle.ak_schedule.specs.declared.fault.LineFault.{LineFault}
+use Rattle.ak_schedule.specs.declared.fault.LineFault as fault
+use Rattle.ak_schedule.specs.Draft.{Drafted, ReadsExtra, ReadsHeader, ExtraAnswers, HeaderAnswers}
 use Rattle.ak_schedule.specs.Line.{words, most_bytes, IsPassedOver}
 use Rattle.ak_schedule.specs.Schedule.{NamesExtra, extras}
 use Rattle.ak_schedule.proofs.OneWay.{begins_extra}
@@ -15,7 +17,7 @@ use Rattle.ak_world.specs.StepText.{step_text}
 use Rattle.ak_world.specs.World.{empty_world}
 use Rattle.ak_world.specs.WorldContracts.{WorldModel}
 use Rattle.ak_driver.specs.ReplayText.{Progress, Passes, Sets, SetsExtra, Steps, most_lines, header_count}
-use Rattle.ak_driver.specs.ReplayContracts.{progress, progress_of, world_of, IsReady, IsOpened, Opens, IsFor, Stands, Turns, TurnAnswers, HeadingAnswers, RunningAnswers, FinishAnswers}
+use Rattle.ak_driver.specs.ReplayContracts.{progress, progress_of, world_of, IsReady, IsOpened, Opens, IsFor, Stands, Turns, TurnAnswers, HeaderLineAnswers, HeadingAnswers, RunningAnswers, FinishAnswers}
 
 -- a line that is passed over changes nothing but its number
 passed_turn : (line before after : List ℕ) (p : Progress) → p.line ≤ most_lines → IsPassedOver line → after ≡ before
@@ -25,6 +27,19 @@ passed_turn line before after p few passed same = (
   record { judgement = Passes; judged = (few, passed); next = refl; text_is = refl },
   same ∙ sym (append-nil before),
 )
+
+-- ---- what is read of a line while headers are
+pub of_extra : (r : Result Bool LineFault) (line : List ℕ) (old new : Drafted) → old.read ≡ header_count → ExtraAnswers r line old new → HeaderLineAnswers r line old new
+of_extra (Ok true) line old new all h = inr (all, h)
+of_extra (Ok false) line old new all h = (all, h.0, h.1)
+of_extra (Err fault.TheVariants.Malformed) line old new all h = h
+of_extra (Err fault.TheVariants.BadHeader) line old new all h = (h.0, inr (all, h.1, h.2))
+of_extra (Err (fault.TheVariants.NoMemory error)) line old new all h = absurd h
+
+pub of_header : (e : LineFault) (line : List ℕ) (old new : Drafted) → old.read < header_count → HeaderAnswers (Err e) line old new → HeaderLineAnswers (Err e) line old new
+of_header fault.TheVariants.Malformed line old new few h = h
+of_header fault.TheVariants.BadHeader line old new few h = (h.0, inl (few, h.1))
+of_header (fault.TheVariants.NoMemory error) line old new few h = h
 
 -- ---- a line while headers are read
 -- the next header
@@ -68,8 +83,8 @@ heading_turn line before after old new n (inl h) few same =
     (λ (d : Drafted). (text : List ℕ) × Turns (progress (Heading old) n) line (progress (Heading d) (n + 1)) text × (after ≡ before ++ text))
     (sym h.1)
     (passed_turn line before after (progress (Heading old) n) few h.0 same)
-heading_turn line before after old new n (inr (inl h)) few same = ([], header_turn line old new n h.0 h.1 h.2 few, same ∙ sym (append-nil before))
-heading_turn line before after old new n (inr (inr h)) few same = ([], extra_turn line old new n h.0 h.1 h.2 few, same ∙ sym (append-nil before))
+heading_turn line before after old new n (inr (wanted, inl h)) few same = ([], header_turn line old new n wanted h.0 h.1 few, same ∙ sym (append-nil before))
+heading_turn line before after old new n (inr (wanted, inr h)) few same = ([], extra_turn line old new n wanted h.0 h.1 few, same ∙ sym (append-nil before))
 
 -- a line that is no header, or none that may come
 heading_refused : (e : Stop) (line before after : List ℕ) (old new : Drafted) (q : Progress) (n : ℕ) → HeadingAnswers (Err e) line old new → length line ≤ most_bytes
@@ -236,7 +251,7 @@ pub stands_opened : (stage : Stage) (old new : Drafted) (r : Replay) (line : Lis
     → Opens (Heading new) r.stage → r.line ≡ n → n ≤ most_lines → Stands (progress stage n) r line
 stands_opened stage old new r line n is h opens at few =
     subst (λ (s : Stage). Stands (progress s n) r line) (sym is)
-    (first (subst (λ (d : Drafted). Opens (Heading d) r.stage) h.2 opens))
+    (first (subst (λ (d : Drafted). Opens (Heading d) r.stage) h.1.1 opens))
   where
     first : Opens (Heading old) r.stage → Stands (progress (Heading old) n) r line
     first (inl o) = (
@@ -244,13 +259,13 @@ stands_opened stage old new r line n is h opens at few =
       o.1,
       sym at,
       record {
-        same = (λ i. record { line = n; headers = h.1 i; extra = old.extra; settings = old.settings; events = []; world = empty_world });
+        same = (λ i. record { line = n; headers = h.1.0 i; extra = old.extra; settings = old.settings; events = []; world = empty_world });
         in_limit = few;
-        no_extra = λ none short. h.3;
+        no_extra = λ none short. h.1.2;
         passed = λ passed. absurd (h.0 passed);
       },
     )
-    first (inr o) = absurd (omega (arith, o.0, h.1))
+    first (inr o) = absurd (let all = h.1.0 in omega (arith, o.0, all))
 
 -- it has begun, and an event was applied
 pub stands_running : (r : Replay) (w : WorldModel) (line : List ℕ) → r.stage ≡ Running w → IsReady r.stage r.steps → r.line ≤ most_lines → Stands (progress_of r) r line

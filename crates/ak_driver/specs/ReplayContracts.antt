@@ -6,6 +6,8 @@ use Rattle.ak_schedule.specs.Draft.{Drafted, ReadsExtra, ReadsHeader}
 use Rattle.ak_schedule.specs.Line.{words, most_bytes, IsPassedOver}
 use Rattle.ak_schedule.specs.Schedule.{SpellsEvent, NamesExtra, extras}
 use Rattle.ak_schedule.specs.declared.event.Event.{Event}
+use Rattle.ak_schedule.specs.declared.fault.LineFault.{LineFault}
+use Rattle.ak_schedule.specs.declared.fault.LineFault as fault
 use Rattle.ak_world.specs.declared.world.Refused as refused
 use Rattle.ak_driver.specs.declared.replay.Code.{Code}
 use Rattle.ak_driver.specs.declared.replay.Code.TheVariants.{Malformed, BadHeader, PastLimit, Invalid}
@@ -72,28 +74,33 @@ pub record IsFor (p : Progress) (world : WorldModel) (line : List ℕ) : Type 0 
 abbrev pub Stands : Progress → Replay → List ℕ → Type 0
 Stands p r line = (world : WorldModel) × (r.stage ≡ Running world) × (p.line ≡ r.line) × IsFor p world line
 
--- what one line does after the ninth header and before the first event, where it is not passed over
-abbrev pub OptionalAnswers : Result Bool Stop → List ℕ → Drafted → Drafted → Type 0
-OptionalAnswers (Ok true) line old new = ReadsExtra line old new
-OptionalAnswers (Ok false) line old new = (new ≡ old) × (NamesExtra (words line) → ⊥)
-OptionalAnswers (Err (Refused BadHeader)) line old new = (new ≡ old) × NamesExtra (words line) × ((next : Drafted) → ReadsExtra line old next → ⊥)
-OptionalAnswers (Err (Refused Malformed)) line old new = ⊥
-OptionalAnswers (Err (Refused PastLimit)) line old new = ⊥
-OptionalAnswers (Err (Refused (Invalid why))) line old new = ⊥
-OptionalAnswers (Err NoMemory) line old new = ⊥
+-- the line is the next header, or an optional one that may still come
+abbrev pub IsHeading : List ℕ → Drafted → Drafted → Type 0
+IsHeading line old new = ((old.read < header_count) × ReadsHeader line old new) ⊎ ((old.read ≡ header_count) × ReadsExtra line old new)
 
--- what one line does while headers are read: it is passed over, or is the next header, or an optional one; or it is for the world.
--- Memory runs out at the first header alone.
+-- the line is none: it is not the next one, or it begins with the word of an optional one and is none that may still come
+abbrev pub IsNoHeading : List ℕ → Drafted → Type 0
+IsNoHeading line old =
+    ((old.read < header_count) × ((next : Drafted) → ReadsHeader line old next → ⊥))
+    ⊎ ((old.read ≡ header_count) × NamesExtra (words line) × ((next : Drafted) → ReadsExtra line old next → ⊥))
+
+-- all headers are read, and the line begins with the word of no optional one
+abbrev pub IsAfterHeadings : List ℕ → Drafted → Drafted → Type 0
+IsAfterHeadings line old new = (old.read ≡ header_count) × (new ≡ old) × (NamesExtra (words line) → ⊥)
+
+-- what is read of a line while headers are; memory runs out at the first header alone
+abbrev pub HeaderLineAnswers : Result Bool LineFault → List ℕ → Drafted → Drafted → Type 0
+HeaderLineAnswers (Ok true) line old new = IsHeading line old new
+HeaderLineAnswers (Ok false) line old new = IsAfterHeadings line old new
+HeaderLineAnswers (Err fault.TheVariants.Malformed) line old new = ⊥
+HeaderLineAnswers (Err fault.TheVariants.BadHeader) line old new = (new ≡ old) × IsNoHeading line old
+HeaderLineAnswers (Err (fault.TheVariants.NoMemory _)) line old new = (new ≡ old) × (old.read ≡ 0)
+
+-- what one line does while headers are read: it is passed over, or it is a header; or it is for the world
 abbrev pub HeadingAnswers : Result Bool Stop → List ℕ → Drafted → Drafted → Type 0
-HeadingAnswers (Ok true) line old new =
-    (IsPassedOver line × (new ≡ old))
-    ⊎ ((IsPassedOver line → ⊥) × (old.read < header_count) × ReadsHeader line old new)
-    ⊎ ((IsPassedOver line → ⊥) × (old.read ≡ header_count) × ReadsExtra line old new)
-HeadingAnswers (Ok false) line old new = (IsPassedOver line → ⊥) × (old.read ≡ header_count) × (new ≡ old) × (NamesExtra (words line) → ⊥)
-HeadingAnswers (Err (Refused BadHeader)) line old new =
-    (new ≡ old) × (IsPassedOver line → ⊥)
-    × (((old.read < header_count) × ((next : Drafted) → ReadsHeader line old next → ⊥))
-    ⊎ ((old.read ≡ header_count) × NamesExtra (words line) × ((next : Drafted) → ReadsExtra line old next → ⊥)))
+HeadingAnswers (Ok true) line old new = (IsPassedOver line × (new ≡ old)) ⊎ ((IsPassedOver line → ⊥) × IsHeading line old new)
+HeadingAnswers (Ok false) line old new = (IsPassedOver line → ⊥) × IsAfterHeadings line old new
+HeadingAnswers (Err (Refused BadHeader)) line old new = (new ≡ old) × (IsPassedOver line → ⊥) × IsNoHeading line old
 HeadingAnswers (Err (Refused Malformed)) line old new = ⊥
 HeadingAnswers (Err (Refused PastLimit)) line old new = ⊥
 HeadingAnswers (Err (Refused (Invalid why))) line old new = ⊥

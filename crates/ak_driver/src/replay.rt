@@ -8,7 +8,7 @@ ghost use Rattle.ak_driver.specs.Headline.{KeepsEntitiesApart};
 ghost use Rattle.ak_driver.specs.ReplayPromise.{Promises, EndsSource, IsCompleted};
 ghost use Rattle.ak_schedule.specs.Line.{most_bytes};
 ghost use Rattle.ak_driver.specs.ReplayText.{Progress, refusal_text, code_text, reason_text, IsRefused};
-ghost use Rattle.ak_driver.specs.ReplayContracts.{stop_of, IsReady, IsOpened, Opens, Stands, progress_of, HeadingAnswers, OptionalAnswers, RunningAnswers, PassesOver, TurnAnswers, FinishAnswers, Flushes, finished_status, Ended, EndsWith};
+ghost use Rattle.ak_driver.specs.ReplayContracts.{stop_of, IsReady, IsOpened, Opens, Stands, progress_of, HeadingAnswers, HeaderLineAnswers, RunningAnswers, PassesOver, TurnAnswers, FinishAnswers, Flushes, finished_status, Ended, EndsWith};
 ghost use Rattle.ak_outside.specs.Endings.{Written, memory_line};
 ghost use Rattle.ak_driver.specs.StatusContracts.{ReplayCause};
 ghost use Rattle.ak_outside.specs.declared.status.Status.TheVariants.{Schedule, Memory};
@@ -301,30 +301,25 @@ fn heading(alloc: Global, draft: &mut Draft, line: &[u8]) -> Result<bool, Stop>
     if is_passed_over(line) {
         return Ok(true);
     }
-    draft.invariant();
-    if draft.headers_read() == MOST_HEADERS {
-        return optional(draft, line);
-    }
-    match draft.header(alloc, line) {
-        Ok(_) => Ok(true),
+    match read_header(alloc, draft, line) {
+        Ok(read) => Ok(read),
         Err(LineFault::Malformed) => Err(Stop::Refused(Code::Malformed)),
         Err(LineFault::BadHeader) => Err(Stop::Refused(Code::BadHeader)),
         Err(LineFault::NoMemory(error)) => Err(error.into()),
     }
 }
 
-// One line after the ninth header and before the first event, which is not passed over; false where it is no optional header.
-fn optional(draft: &mut Draft, line: &[u8]) -> Result<bool, Stop>
-    requires read { draft.old.read ≡ MOST_HEADERS }
-    requires short { length line.now ≤ most_bytes }
-    ensures { OptionalAnswers result line.now draft.old draft.new }
+// The next header, or once all are read an optional one; false where the line begins as none of these.
+fn read_header(alloc: Global, draft: &mut Draft, line: &[u8]) -> Result<bool, LineFault>
+    requires { length line.now ≤ most_bytes }
+    ensures { HeaderLineAnswers result line.now draft.old draft.new }
 {
-    match draft.extra(line) {
-        Ok(read) => Ok(read),
-        Err(LineFault::Malformed) => Err(Stop::Refused(Code::Malformed)),
-        Err(LineFault::BadHeader) => Err(Stop::Refused(Code::BadHeader)),
-        Err(LineFault::NoMemory(error)) => Err(error.into()),
+    draft.invariant();
+    if draft.headers_read() == MOST_HEADERS {
+        return draft.extra(line);
     }
+    draft.header(alloc, line)?;
+    Ok(true)
 }
 
 // One line after the headers, when so many events were applied: its event is read, applied and printed, whole or not at all, by way

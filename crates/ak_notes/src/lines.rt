@@ -59,6 +59,13 @@ static HEADERS: [Form; 9] = [
     },
 ];
 
+// The optional headers.
+static OPTIONAL: [Form; 1] = [Form {
+    name: b"weakly",
+    values: b"0 to 1000000 ticks",
+    example: b"weakly 20",
+}];
+
 static EVENTS: [Form; 9] = [
     Form {
         name: b"start",
@@ -108,19 +115,29 @@ static EVENTS: [Form; 9] = [
 ];
 
 /// Says which header was wanted in this line, which has this number and comes after so many headers, or that the line is too long.
-/// Past the headers nothing is said.
+/// Past the ninth it says how the optional header is written that the line's first word names.
 pub fn say_header<N: Notes>(alloc: Global, notes: &mut N, headers: u32, line: &[u8], number: u64) {
     if line.len() > MOST_BYTES {
         return say_too_long(alloc, notes, number);
     }
     if let Some(form) = HEADERS.get(headers as usize) {
-        say_wanted(
+        return say_wanted(
             alloc,
             notes,
             number,
             b"the header ",
             form,
             b" was wanted, as in: ",
+        );
+    }
+    if let Some(form) = form_of(&OPTIONAL, line) {
+        say_wanted(
+            alloc,
+            notes,
+            number,
+            b"the optional header ",
+            form,
+            b" stands once at most, as in: ",
         );
     }
 }
@@ -140,19 +157,29 @@ pub fn word_at(line: &[u8], index: usize) -> &[u8] {
     }
 }
 
-/// Says why this line is no event: by the event that its first word names, or by all there are.
+/// Says why this line is no event: by the event that its first word names, or the optional header, or by all events there are.
 pub fn say_event<N: Notes>(alloc: Global, notes: &mut N, line: u64, text: &[u8]) {
     if text.len() > MOST_BYTES {
         return say_too_long(alloc, notes, line);
     }
-    match form_of(text) {
-        Some(form) => say_wanted(
+    if let Some(form) = form_of(&EVENTS, text) {
+        return say_wanted(
             alloc,
             notes,
             line,
             b"the event ",
             form,
             b" is written as in: ",
+        );
+    }
+    match form_of(&OPTIONAL, text) {
+        Some(form) => say_wanted(
+            alloc,
+            notes,
+            line,
+            b"the optional header ",
+            form,
+            b" stands before the first event, as in: ",
         ),
         None => say_of_line(
             alloc,
@@ -190,10 +217,10 @@ pub fn say_of_line<'a, N: Notes>(
     );
 }
 
-// The event whose name the line's first word is.
-fn form_of(text: &[u8]) -> Option<&'static Form> {
+// The one of these forms whose name the line's first word is.
+fn form_of<'a>(forms: &'a [Form], text: &[u8]) -> Option<&'a Form> {
     let word = word_at(text, 0);
-    EVENTS.iter().find(|form| form.name == word)
+    forms.iter().find(|form| form.name == word)
 }
 
 fn say_wanted<'a, N: Notes>(
