@@ -6,6 +6,8 @@ use std::test::Fail;
 
 const JOINING: Standing = Standing::Member(Status::Joining, 0);
 
+const WEAKLY_UP: Standing = Standing::Member(Status::WeaklyUp, 0);
+
 const UP: Standing = Standing::Member(Status::Up, 1);
 
 const UNCONFIRMED: Standing = Standing::Buried(false);
@@ -91,7 +93,7 @@ static COUNTED: [Line; 8] = [
     (Turn::Tick, 0, b"ab", b"c"),
     (Turn::Tick, 0, b"ab", b"c"),
     (
-        Turn::Note(2, &[UP, UNCONFIRMED, CONFIRMED, UP, UNCONFIRMED]),
+        Turn::Note(2, &[UP, UNCONFIRMED, CONFIRMED, WEAKLY_UP, UNCONFIRMED]),
         0,
         b"abde",
         b"c",

@@ -255,6 +255,46 @@ fn a_range_comes_before_an_order(rt: HostRuntime) -> Result<(), Fail> {
     Ok(())
 }
 
+// The state of a process in a gossip, its up number, whether it has seen the gossip, and the fault.
+type State = (u8, u8, u8, u8);
+
+static STATES: [State; 9] = [
+    (1, 0, 1, 0),
+    (2, 1, 1, 0),
+    (5, 0, 1, 0),
+    (6, 0, 1, 7),
+    (7, 0, 0, 0),
+    (8, 0, 0, 0),
+    (8, 0, 1, 0),
+    (8, 1, 0, 7),
+    (9, 0, 0, 7),
+];
+
+fn push_state(state: &State, out: &mut Vec<u8>) -> Result<(), AllocError> {
+    push_head(3, out)?;
+    out.push(1)?;
+    out.extend_from_slice(&A)?;
+    out.extend_from_slice(&ONE)?;
+    out.push(state.0)?;
+    out.extend_from_slice(&[0, 0, 0, 0, 0, 0, 0, state.1])?;
+    out.push(state.2)?;
+    out.extend_from_slice(&ZERO)
+}
+
+fn state_comes_to(alloc: Global, state: &State) -> Result<bool, AllocError> {
+    let mut out = Vec::new(alloc);
+    push_state(state, &mut out)?;
+    Ok(outcome(alloc, &out) == state.3 && (state.3 > 0 || comes_back(alloc, &out)))
+}
+
+#[test]
+fn each_state_has_its_number(rt: HostRuntime) -> Result<(), Fail> {
+    for state in &STATES {
+        assert!(rt; state_comes_to(rt.alloc(), state)?, "{}", state.0);
+    }
+    Ok(())
+}
+
 fn heartbeat(from: Unique, to: Address) -> Envelope {
     Envelope {
         from,

@@ -214,6 +214,81 @@ fn settings_are_those_of_the_lines(rt: HostRuntime) -> Result<(), Fail> {
     Ok(())
 }
 
+// Optional headers after the nine, what came of the last one, and how long a member waits then.
+type Later = (&'static [&'static str], Read, u32);
+
+// What comes of a line after the ninth header.
+#[derive(Clone, Copy, PartialEq, Eq)]
+enum Read {
+    // It is an optional header.
+    Header,
+    // It is none.
+    None,
+    Refused,
+}
+
+static LATER: [Later; 11] = [
+    (&["weakly 3"], Read::Header, 3),
+    (&["weakly 0"], Read::Header, 0),
+    (&["  weakly  0001000000 "], Read::Header, 1000000),
+    (&["weakly 1000001"], Read::Refused, 0),
+    (&["weakly -1"], Read::Refused, 0),
+    (&["weakly"], Read::Refused, 0),
+    (&["weakly 3 3"], Read::Refused, 0),
+    (&["weakly 3", "weakly 4"], Read::Refused, 3),
+    (&["weakly 3", "weaklyup 4"], Read::None, 3),
+    (&["limit 2"], Read::None, 0),
+    (&["start n1:1#1"], Read::None, 0),
+];
+
+// Nothing is asked of a draft without its nine headers, or of a line that is too long.
+fn read_later(draft: &mut Draft, line: &str) -> Read {
+    let line = line.as_bytes();
+    if draft.headers_read() != 9 || line.len() > 4096 {
+        return Read::None;
+    }
+    match draft.extra(line) {
+        Ok(true) => Read::Header,
+        Ok(false) => Read::None,
+        Err(_) => Read::Refused,
+    }
+}
+
+fn whole_draft(alloc: Global) -> Result<Draft, LineFault> {
+    let mut draft = Draft::new(alloc);
+    'headers: for line in &HEADER_LINES {
+        if draft.headers_read() < 9 {
+            draft.header(alloc, line.as_bytes())?;
+        }
+    }
+    Ok(draft)
+}
+
+fn last_read(draft: &mut Draft, lines: &[&str]) -> Read {
+    let mut last = Read::None;
+    'lines: for line in lines {
+        last = read_later(draft, line);
+    }
+    last
+}
+
+fn goes_on(alloc: Global, later: &Later) -> Result<bool, Fail> {
+    let mut draft = whole_draft(alloc)?;
+    let last = last_read(&mut draft, later.0);
+    match draft.finish() {
+        Ok(settings) => Ok(last == later.1 && settings.weakly == later.2),
+        Err(_) => Ok(false),
+    }
+}
+
+#[test]
+fn optional_headers_come_after_the_ninth(rt: HostRuntime) -> Result<(), Fail> {
+    for (index, later) in LATER.iter().enumerate() {
+        assert!(rt; goes_on(rt.alloc(), later)?, "{index}");
+    }
+    Ok(())
+}
+
 #[test]
 fn a_draft_without_its_lines_is_not_finished(rt: HostRuntime) {
     assert!(rt; Draft::new(rt.alloc()).finish().is_err());

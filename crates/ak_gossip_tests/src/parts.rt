@@ -141,13 +141,14 @@ pub(crate) fn seen(uid: u32, state: u8) -> Line {
     }
 }
 
-fn lines() -> [Line; 5] {
+fn lines() -> [Line; 6] {
     [
         observer(1, 2, &[1, 3]),
         plain(2, 6, 0),
         plain(3, 7, 0),
         seen(4, 1),
         counted(5, 0),
+        plain(6, 8, 0),
     ]
 }
 
@@ -204,7 +205,8 @@ fn parts_come_back(rt: HostRuntime) -> Result<(), Fail> {
 
 fn has_the_members(gossip: &Gossip) -> bool {
     let first = member(gossip, 0) == Some((Status::Up, 1));
-    first && member(gossip, 1) == Some((Status::Joining, 0))
+    let second = member(gossip, 1) == Some((Status::Joining, 0));
+    first && second && member(gossip, 3) == Some((Status::WeaklyUp, 0))
 }
 
 fn has_the_tombstones(gossip: &Gossip) -> bool {
@@ -250,7 +252,7 @@ fn a_gossip_is_made_of_parts(rt: HostRuntime) -> Result<(), Fail> {
     assert!(rt; has_the_tombstones(&gossip));
     assert!(rt; first_row(&gossip) == (2, 2, 4, 2));
     assert!(rt; has_the_seen_set(&gossip));
-    assert!(rt; gossip.version().len() == 4 && gossip.rows().len() == 1);
+    assert!(rt; gossip.version().len() == 5 && gossip.rows().len() == 1);
     Ok(())
 }
 
@@ -269,6 +271,7 @@ fn valid_states_are_accepted(rt: HostRuntime) -> Result<(), Fail> {
         [plain(1, 2, 1), plain(2, 1, 0)],
         [plain(1, 3, 9), plain(2, 4, 9)],
         [plain(1, 5, 0), plain(2, 5, 4611686018427387904)],
+        [plain(1, 8, 0), seen(2, 8)],
     ];
     assert!(rt; all_valid(rt.alloc(), &cases)?);
     Ok(())
@@ -300,7 +303,8 @@ fn none_valid(alloc: Global, seconds: &[Line]) -> Result<bool, AllocError> {
 fn other_states_are_refused(rt: HostRuntime) -> Result<(), Fail> {
     let seconds = [
         plain(2, 0, 0),
-        plain(2, 8, 0),
+        plain(2, 8, 1),
+        plain(2, 9, 0),
         plain(2, 2, 0),
         plain(2, 2, 4611686018427387905),
         plain(2, 1, 1),

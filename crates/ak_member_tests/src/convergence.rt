@@ -7,7 +7,7 @@ use std::alloc::Global;
 use std::test::Fail;
 
 // One member of each status, and a second Up one at the address of the first.
-static MEMBERS: [Known; 7] = [
+static MEMBERS: [Known; 8] = [
     ("a:1#1", Standing::Member(Status::Up, 0)),
     ("a:1#2", Standing::Member(Status::Up, 0)),
     ("b:1#1", Standing::Member(Status::Leaving, 0)),
@@ -15,6 +15,7 @@ static MEMBERS: [Known; 7] = [
     ("d:1#1", Standing::Member(Status::Exiting, 0)),
     ("e:1#1", Standing::Member(Status::Down, 0)),
     ("f:1#1", Standing::Buried(true)),
+    ("g:1#1", Standing::Member(Status::WeaklyUp, 0)),
 ];
 
 type Answers = (bool, bool, bool);
@@ -59,9 +60,11 @@ fn who_must_have_seen(rt: HostRuntime) -> Result<(), Fail> {
 }
 
 // A row, and whether they agree in spite of it.
-static WHO_IS_UNREACHABLE: [(Seen, bool); 5] = [
+static WHO_IS_UNREACHABLE: [(Seen, bool); 7] = [
     (("a:1#1", 1, "b:1#1"), false),
     (("d:1#1", 1, "c:1#1"), false),
+    (("a:1#1", 1, "g:1#1"), false),
+    (("g:1#1", 1, "b:1#1"), false),
     (("e:1#1", 1, "b:1#1"), true),
     (("a:1#1", 1, "d:1#1"), true),
     (("a:1#1", 1, "e:1#1"), true),

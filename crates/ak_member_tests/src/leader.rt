@@ -1,6 +1,6 @@
 use crate::build::{Known, Seen, letter, members_of, rows_of, set_of};
 use ak_clock::BOUND;
-use ak_leader::{actions, founding, leader};
+use ak_leader::{actions, founding, leader, weak_effects};
 use ak_member::{Effect, Effects, Members, Standing, Status};
 use ak_reach::Rows;
 use std::alloc::Global;
@@ -86,16 +86,16 @@ static ALL_KINDS: [Known; 8] = [
     ("e:1#1", Standing::Member(Status::Down, 5)),
     ("f:1#1", Standing::Member(Status::Down, 0)),
     ("g:1#1", Standing::Member(Status::Down, 6)),
-    ("h:1#1", Standing::Member(Status::Joining, 0)),
+    ("h:1#1", Standing::Member(Status::WeaklyUp, 0)),
 ];
 
 static MOVED_ON: [Found; 6] = [
-    (b'a', 2, 8),
-    (b'b', 4, 0),
+    (b'a', 3, 8),
+    (b'b', 5, 0),
     (b'c', 0, 1),
     (b'e', 0, 1),
     (b'f', 0, 0),
-    (b'h', 2, 9),
+    (b'h', 3, 9),
 ];
 
 #[test]
@@ -107,11 +107,11 @@ fn a_leader_moves_members_on(rt: HostRuntime) -> Result<(), Fail> {
 static NEAR_THE_BOUND: [Known; 4] = [
     ("a:1#1", Standing::Member(Status::Joining, 0)),
     ("b:1#1", Standing::Member(Status::Up, BOUND - 1)),
-    ("c:1#1", Standing::Member(Status::Joining, 0)),
+    ("c:1#1", Standing::Member(Status::WeaklyUp, 0)),
     ("d:1#1", Standing::Member(Status::Leaving, 1)),
 ];
 
-static ONE_NUMBER_LEFT: [Found; 2] = [(b'a', 2, BOUND), (b'd', 4, 0)];
+static ONE_NUMBER_LEFT: [Found; 2] = [(b'a', 3, BOUND), (b'd', 5, 0)];
 
 #[test]
 fn numbers_end_at_the_bound(rt: HostRuntime) -> Result<(), Fail> {
@@ -125,7 +125,7 @@ static FOUNDERS: [Known; 3] = [
     ("c:1#1", Standing::Member(Status::Joining, 0)),
 ];
 
-static FOUNDED: [Found; 2] = [(b'b', 2, 1), (b'c', 2, 2)];
+static FOUNDED: [Found; 2] = [(b'b', 3, 1), (b'c', 3, 2)];
 
 fn founds(alloc: Global, members: &Members, wanted: &[Found]) -> Result<bool, Fail> {
     let effects = founding(alloc, members)?;
@@ -136,5 +136,30 @@ fn founds(alloc: Global, members: &Members, wanted: &[Found]) -> Result<bool, Fa
 fn a_founding_counts_from_one(rt: HostRuntime) -> Result<(), Fail> {
     let members = members_of(rt.alloc(), &FOUNDERS)?;
     assert!(rt; founds(rt.alloc(), &members, &FOUNDED)?);
+    Ok(())
+}
+
+// f is unreachable.
+static LET_IN: [Known; 6] = [
+    ("a:1#1", Standing::Member(Status::Joining, 0)),
+    ("b:1#1", Standing::Member(Status::Up, 1)),
+    ("c:1#1", Standing::Member(Status::WeaklyUp, 0)),
+    ("d:1#1", Standing::Member(Status::Down, 0)),
+    ("f:1#1", Standing::Member(Status::Joining, 0)),
+    ("g:1#1", Standing::Member(Status::Joining, 0)),
+];
+
+static WHO_IS_LET_IN: [Found; 2] = [(b'a', 2, 0), (b'g', 2, 0)];
+
+fn lets_in(alloc: Global, members: &Members, wanted: &[Found]) -> Result<bool, Fail> {
+    let rows = rows_of(alloc, &[("b:1#1", 1, "f:1#1")])?;
+    let effects = weak_effects(alloc, members, &rows)?;
+    Ok(are(&effects, wanted))
+}
+
+#[test]
+fn whoever_is_joining_and_reached_is_let_in(rt: HostRuntime) -> Result<(), Fail> {
+    let members = members_of(rt.alloc(), &LET_IN)?;
+    assert!(rt; lets_in(rt.alloc(), &members, &WHO_IS_LET_IN)?);
     Ok(())
 }

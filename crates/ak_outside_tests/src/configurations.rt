@@ -80,7 +80,7 @@ static WHOLE: [(&str, &str, &str); 27] = [
 ];
 
 // What follows the needed keys, and the first fault then.
-static FURTHER: [(&str, &str, &str); 44] = [
+static FURTHER: [(&str, &str, &str); 50] = [
     ("quorum = 0", "C5", "quorum"),
     ("quorum = 33", "C5", "quorum"),
     ("quorum = \"3\"", "C4", "quorum"),
@@ -121,6 +121,12 @@ static FURTHER: [(&str, &str, &str); 44] = [
     ("join = \"a\"", "C6", "join"),
     ("join = \"c:65535\"", "", ""),
     ("join = \"c:65536\"", "C6", "join"),
+    ("weakly = 0", "", ""),
+    ("weakly = 1000000", "", ""),
+    ("weakly = 1000001", "C5", "weakly"),
+    ("weakly = -1", "C5", "weakly"),
+    ("weakly = true", "C4", "weakly"),
+    ("weakly = true\njoin = \"a\"", "C6", "join"),
     ("limit = 0\nmargin = 0", "C5", "margin"),
     ("limit = true\nmargin = 0", "C5", "margin"),
     ("margin = 0\nlimits = 1", "C3", "limits"),
@@ -246,7 +252,7 @@ fn has_defaults(config: &Config) -> bool {
     let settings = &config.settings;
     let times = settings.margin == 20 && settings.deadline == 5 && settings.stable == 20;
     let sizes = settings.shards == 1000 && settings.buffer == 100_000;
-    let moves = settings.threshold == 1 && settings.limit == 3;
+    let moves = settings.threshold == 1 && settings.limit == 3 && settings.weakly == 0;
     times && sizes && moves
 }
 
@@ -264,13 +270,13 @@ fn what_is_not_said_has_its_default(rt: HostRuntime) -> Result<(), Fail> {
 }
 
 const ALL_SAID: &str =
-    "self = \"b:2\"\nuid = 7\nlisted = [\"a:1\", \"b:2\"]\nstrategy = \"static-quorum\"\nquorum = 2\nmargin = 11\ndeadline = 12\nstable = 13\nshards = 14\nbuffer = 15\nthreshold = 16\nlimit = 17\ntick-ms = 50\nseed = 0\nfound = true\njoin = \"a:1\"\n";
+    "self = \"b:2\"\nuid = 7\nlisted = [\"a:1\", \"b:2\"]\nstrategy = \"static-quorum\"\nquorum = 2\nmargin = 11\ndeadline = 12\nstable = 13\nshards = 14\nbuffer = 15\nthreshold = 16\nlimit = 17\ntick-ms = 50\nseed = 0\nfound = true\njoin = \"a:1\"\nweakly = 18\n";
 
 fn has_numbers(config: &Config) -> bool {
     let settings = &config.settings;
     let times = settings.margin == 11 && settings.deadline == 12 && settings.stable == 13;
     let sizes = settings.shards == 14 && settings.buffer == 15;
-    let moves = settings.threshold == 16 && settings.limit == 17;
+    let moves = settings.threshold == 16 && settings.limit == 17 && settings.weakly == 18;
     times && sizes && moves
 }
 
