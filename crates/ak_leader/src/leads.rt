@@ -10,8 +10,8 @@ use ak_member::{Members, Standing};
 use ak_reach::{Rows, is_unreachable};
 
 /// The leader: of the reachable Up and Leaving members the first in the order of processes; none exactly where there is
-/// none (Akka's Cluster Specification, "Leader"; that Joining, Exiting and Down members never lead is this project's
-/// choice). Takes no memory.
+/// none (Akka's Cluster Specification, "Leader"; that members of every other status never lead is this project's choice).
+/// Takes no memory.
 pub fn leader<'a>(members: &'a Members, rows: &Rows) -> Option<&'a Unique>
     ensures value { option_copied result ≡ leader (record { standings = members.now; rows = rows.now }) }
     ensures meaning { IsLeader (record { standings = members.now; rows = rows.now }) (option_copied result) }
