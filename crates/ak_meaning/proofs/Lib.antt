@@ -24,4 +24,5 @@ pub mod MovedWorlds
 pub mod MovedRun
 pub mod WeakSteps
 pub mod WeakRuns
+pub mod PlainMembers
 pub mod WaitingLaws

@@ -1,20 +1,30 @@
 -- Whether a waiting member is Joining or WeaklyUp makes no difference to who counts, who is unreachable, whether a view is converged
--- and who leads.
-use Rattle.std.proofs.Common.{◌≡◌, ◌≢◌, ℕ, ◌⊎◌, inl, inr, true, false, IsTrue, ◌↔◌, Option, Some, None, is_some, refl, sym, ap, ◌∙◌, true≢false}
+-- or settled, who leads, and what the resolver decides and whom it downs.
+use Rattle.std.proofs.Common.{◌≡◌, ℕ, ◌*◌, ◌⊎◌, inl, inr, nat_lt, nat_le, true, not, ◌&&◌, if◌then◌else◌, IsTrue, ◌↔◌, List, length, Option, Some, None, is_some, option_map, refl, sym, ap, ◌∙◌, true≢false}
 use Rattle.std.proofs.lemmas.Option.{same_Some}
+use Rattle.std.specs.Prelude as list
 use Rattle.std.specs.FinMap as map
+use Rattle.std.specs.List.{filter, list_all}
+use Rattle.ak_address.specs.Distinct.{distinct}
 use Rattle.ak_address.specs.Unique.{UniqueModel}
-use Rattle.ak_address.specs.Uniques.{UniqueSet}
-use Rattle.ak_converge.specs.Convergence.{IsOut, IsConverged}
+use Rattle.ak_address.specs.Uniques.{UniqueSet, set_of}
+use Rattle.ak_converge.specs.Convergence.{IsOut, IsConverged, agrees, is_converged, is_settled}
+use Rattle.ak_downing.specs.declared.decision.Decision.{Decision}
+use Rattle.ak_downing.specs.declared.decision.Decision.TheVariants as decision
+use Rattle.ak_downing.specs.Downing.{is_beside, counted_beside, counted_apart, reachable_addresses, by_quorum, by_first, by_majority, decide, is_against, all_downed, downs}
 use Rattle.ak_leader.specs.Leader.{MayLead, IsLeader}
 use Rattle.ak_leader.proofs.LedLaws.{waiting_not_counted}
 use Rattle.ak_member.specs.declared.status.Status.{Status}
 use Rattle.ak_member.specs.declared.status.Status.TheVariants.{Exiting, Down}
-use Rattle.ak_member.specs.Age.{counts, IsCounted}
-use Rattle.ak_member.specs.Standing.{member_of, is_waiting, is_member}
+use Rattle.ak_member.specs.Age.{counted_pairs, counted_addresses, IsCounted}
+use Rattle.ak_member.specs.Standing.{member_of, members_of, is_waiting, is_member, members_with, all_members}
 use Rattle.ak_member.specs.View.{View, RowTable}
-use Rattle.ak_reach.specs.Unreachable.{IsUnreachable}
-use Rattle.ak_meaning.specs.Waiting.{WaitsInBoth, AreAlikeBut}
+use Rattle.ak_reach.specs.Reach.{unreachable}
+use Rattle.ak_reach.specs.Unreachable.{observes, unreachable_members, IsUnreachable}
+use Rattle.ak_settings.specs.declared.settings.Strategy.{Strategy}
+use Rattle.ak_settings.specs.declared.settings.Strategy.TheVariants.{StaticQuorum, KeepMajority, DownAll}
+use Rattle.ak_meaning.specs.Waiting.{AreAlikeBut}
+use Rattle.ak_meaning.proofs.PlainMembers.{plain_member, plain_waiting, plain_pairs, plain_members, plain_counted, plain_uniques, plain_observers, plain_agree, plain_downed, same_plain_members}
 
 pub turned : (v w : View) → AreAlikeBut v w → AreAlikeBut w v
 turned v w a = record {
@@ -101,3 +111,67 @@ module _ (v w : View) (a : AreAlikeBut v w) where
 
 pub lead_alike : (v w : View) → AreAlikeBut v w → (o : Option UniqueModel) → IsLeader v o ↔ IsLeader w o
 lead_alike v w a o = (leader_there v w a o, leader_there w v (turned v w a) o)
+
+-- ---- what is computed from the lists of the members
+module _ (v w : View) (a : AreAlikeBut v w) where
+  same_members : plain_members v.standings ≡ plain_members w.standings
+  same_members = same_plain_members v.standings w.standings (λ who. elim (a.each who) [
+    | inl same ↦ ap (option_map plain_member) same
+    | inr b ↦ ap (option_map plain_member) b.one_is ∙ (λ i. Some ((plain_waiting b.one b.one_waits ∙ sym (plain_waiting b.other b.other_waits)) i, b.number)) ∙ sym (ap (option_map plain_member) b.other_is)
+  ])
+
+  -- what is the same of a view's members when each WeaklyUp one is shown as Joining, is the same of both
+  of_members : {X : Type 0} (f : List (UniqueModel × (Status × ℕ)) → X) → ((ms : List (UniqueModel × (Status × ℕ))) → f (plain_pairs ms) ≡ f ms) → f (members_of v.standings) ≡ f (members_of w.standings)
+  of_members f plainly = sym (plainly (members_of v.standings)) ∙ ap f same_members ∙ plainly (members_of w.standings)
+
+  same_pairs : counted_pairs (members_of v.standings) ≡ counted_pairs (members_of w.standings)
+  same_pairs = of_members counted_pairs plain_counted
+
+  same_all : all_members v.standings ≡ all_members w.standings
+  same_all = ap set_of (of_members (list.map (λ (m : UniqueModel × (Status × ℕ)). m.0)) plain_uniques)
+
+  same_observers : members_with observes v.standings ≡ members_with observes w.standings
+  same_observers = ap set_of (of_members (λ ms. list.map (λ (m : UniqueModel × (Status × ℕ)). m.0) (filter (λ (m : UniqueModel × (Status × ℕ)). observes m.1.0) ms)) plain_observers)
+
+  same_lost : unreachable_members v ≡ unreachable_members w
+  same_lost = λ i. unreachable (a.rows i) (same_observers i) (same_all i)
+
+  same_addresses : counted_addresses v.standings ≡ counted_addresses w.standings
+  same_addresses = ap (list.map (λ (pair : UniqueModel × ℕ). pair.0.address)) same_pairs
+
+  same_converged : (seen : UniqueSet) → is_converged v seen ≡ is_converged w seen
+  same_converged seen = of_members (list_all (agrees (unreachable_members v) seen)) (plain_agree (unreachable_members v) seen) ∙ ap (λ lost. list_all (agrees lost seen) (members_of w.standings)) same_lost
+
+  pub settle_alike : (quorum : ℕ) (seen : UniqueSet) → is_settled quorum v seen ≡ is_settled quorum w seen
+  settle_alike quorum seen = λ i. same_converged seen i && nat_le quorum (distinct (same_addresses i))
+
+  -- ---- the resolver
+  same_beside : (me : UniqueModel) → counted_beside v me ≡ counted_beside w me
+  same_beside me = λ i. filter (λ (pair : UniqueModel × ℕ). is_beside (same_lost i) me pair.0) (same_pairs i)
+
+  same_apart : (me : UniqueModel) → counted_apart v me ≡ counted_apart w me
+  same_apart me = λ i. filter (λ (pair : UniqueModel × ℕ). not (is_beside (same_lost i) me pair.0)) (same_pairs i)
+
+  same_reachable : (me : UniqueModel) → reachable_addresses v me ≡ reachable_addresses w me
+  same_reachable me = ap (λ pairs. distinct (list.map (λ (pair : UniqueModel × ℕ). pair.0.address) pairs)) (same_beside me)
+
+  quorum_alike : (quorum : ℕ) (me : UniqueModel) → by_quorum quorum v me ≡ by_quorum quorum w me
+  quorum_alike quorum me = λ i.
+      if nat_le (2 * quorum) (distinct (same_addresses i)) then decision.DownAll
+      else (if nat_le quorum (same_reachable me i) then decision.DownUnreachable else decision.DownReachable)
+
+  majority_alike : (me : UniqueModel) → by_majority v me ≡ by_majority w me
+  majority_alike me = λ i.
+      if nat_lt (length (same_apart me i)) (length (same_beside me i)) then decision.DownUnreachable
+      else (if nat_lt (length (same_beside me i)) (length (same_apart me i)) then decision.DownReachable
+      else by_first (same_lost i) me (same_pairs i))
+
+  pub decide_alike : (strategy : Strategy) (me : UniqueModel) → decide strategy v me ≡ decide strategy w me
+  decide_alike (StaticQuorum quorum) me = quorum_alike quorum me
+  decide_alike KeepMajority me = majority_alike me
+  decide_alike DownAll me = refl
+
+  pub down_alike : (decided : Decision) (me : UniqueModel) → downs decided v me ≡ downs decided w me
+  down_alike decided me =
+      of_members (all_downed (is_against decided (unreachable_members v) me)) (plain_downed (is_against decided (unreachable_members v) me))
+      ∙ ap (λ lost. all_downed (is_against decided lost me) (members_of w.standings)) same_lost

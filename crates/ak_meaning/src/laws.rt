@@ -3,10 +3,11 @@ ghost use Rattle.std.specs.FinMap as map;
 ghost use Rattle.ak_address.specs.Counters.{Counters};
 ghost use Rattle.ak_address.specs.Unique.{UniqueModel};
 ghost use Rattle.ak_address.specs.Uniques.{UniqueSet, has};
-ghost use Rattle.ak_converge.specs.Convergence.{IsConverged};
+ghost use Rattle.ak_converge.specs.Convergence.{IsConverged, is_settled};
 ghost use Rattle.ak_detector.specs.Detector.{silent, watch_ring, watching};
+ghost use Rattle.ak_downing.specs.declared.decision.Decision.{Decision};
 ghost use Rattle.ak_downing.specs.declared.decision.Decision.TheVariants.{DownAll, DownUnreachable};
-ghost use Rattle.ak_downing.specs.Downing.{decide};
+ghost use Rattle.ak_downing.specs.Downing.{decide, downs};
 ghost use Rattle.ak_gossip.specs.declared.gossip.GossipFault.{GossipFault};
 ghost use Rattle.ak_gossip.specs.declared.gossip.Received.{Received};
 ghost use Rattle.ak_gossip.specs.Gossip.{GossipState, is_known, receive};
@@ -117,14 +118,20 @@ pub fn a_member_is_let_in_after_a_wait()
     ensures { (settings : SettingsModel) (events : List Event) (index time : ℕ) → LetsInAt settings events index time → StoodUnsettled settings events index time }
 {}
 
-/// A WeaklyUp member counts for nothing. Take two views that have the same rows and show the same members, but that some who wait are
-/// Joining in one and WeaklyUp in the other. The same members count in both, the same are unreachable, both are converged for the
-/// same who have seen them, or neither is, and both have the same leader (Akka's Cluster Specification, "WeaklyUp Members").
-pub fn waiting_members_count_for_nothing()
+/// Whether a member that waits is Joining or WeaklyUp makes no difference to the rest. Take two views that have the same rows and
+/// show the same members, but that some who wait are Joining in one and WeaklyUp in the other. The same members count in both, and the
+/// same are unreachable; both are converged for the same who have seen them, or neither is, and so with settled; both have the same
+/// leader; and in both the resolver decides the same, and downs the same members in the same order. It is not said that a waiting
+/// member makes no difference at all: while it is unreachable no view converges, and a member that it has in its row is unreachable
+/// (Akka's Cluster Specification, "WeaklyUp Members"; Split Brain Resolver).
+pub fn joining_or_weakly_up_is_the_same_to_the_rest()
     ensures counted { (v w : View) → AreAlikeBut v w → (who : UniqueModel) (number : ℕ) → IsCounted v.standings who number ↔ IsCounted w.standings who number }
     ensures reached { (v w : View) → AreAlikeBut v w → (who : UniqueModel) → IsUnreachable v who ↔ IsUnreachable w who }
     ensures converged { (v w : View) → AreAlikeBut v w → (seen : UniqueSet) → IsConverged v seen ↔ IsConverged w seen }
+    ensures settled { (v w : View) → AreAlikeBut v w → (quorum : ℕ) (seen : UniqueSet) → is_settled quorum v seen ≡ is_settled quorum w seen }
     ensures leader { (v w : View) → AreAlikeBut v w → (o : Option UniqueModel) → IsLeader v o ↔ IsLeader w o }
+    ensures decision { (v w : View) → AreAlikeBut v w → (strategy : Strategy) (me : UniqueModel) → decide strategy v me ≡ decide strategy w me }
+    ensures downed { (v w : View) → AreAlikeBut v w → (decided : Decision) (me : UniqueModel) → downs decided v me ≡ downs decided w me }
 {}
 
 /// A gossip that is received without refusal leaves the version that is the merge of both, whatever the result; the receiver is
