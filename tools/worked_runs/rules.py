@@ -2,7 +2,7 @@
 
 import copy
 import shards
-RANK = {'Joining': 1, 'Up': 2, 'Leaving': 3, 'Exiting': 4, 'Down': 5}
+RANK = {'Joining': 1, 'WeaklyUp': 2, 'Up': 3, 'Leaving': 4, 'Exiting': 5, 'Down': 6}
 COUNTS = {'Up', 'Leaving'}
 
 def addr(u):
@@ -10,14 +10,15 @@ def addr(u):
 
 class Sim:
 
-    def __init__(s, quorum, listed, many_shards=10, buffer=2):
+    def __init__(s, quorum, listed, many_shards=10, buffer=2, weakly=0):
         s.q = quorum
         s.listed = listed
         s.many_shards = many_shards
         s.buffer = buffer
+        s.weakly = weakly
 
     def started(s, me):
-        return dict(me=me, gossip=dict(version={}, standings={}, seen=[]), shown={}, founder=False, target=None, ticks=0, stable=0, moved=False, detector={}, confirmed=[], settled=None, promise=dict(last=None, released=False, floor={}), phase='Younger', live=None, granted=[], floor={}, table=None, slots=[shards.slot() for _ in range(s.many_shards)], messages=[], most=s.buffer, entities=[], active_entities=frozenset(), runs=True, steps=0)
+        return dict(me=me, gossip=dict(version={}, standings={}, seen=[]), shown={}, founder=False, target=None, ticks=0, stable=0, weak=0, weakly=s.weakly, moved=False, detector={}, confirmed=[], settled=None, promise=dict(last=None, released=False, floor={}), phase='Younger', live=None, granted=[], floor={}, table=None, slots=[shards.slot() for _ in range(s.many_shards)], messages=[], most=s.buffer, entities=[], active_entities=frozenset(), runs=True, steps=0)
 
 def members(st):
     return {u: v for u, v in sorted(st.items()) if v[0] == 'M'}
@@ -95,28 +96,33 @@ def mtick(n, q):
     st = n['gossip']['standings']
     eff = None
     joining = [u for u, v in members(st).items() if v[1] == 'Joining']
+    leads = [u for u, v in members(st).items() if v[1] in COUNTS][:1] == [n['me']]
+    waited = 0 if settled_now(n, q) else min(n['weak'] + 1, n['weakly'])
     if n['founder'] and st[n['me']][:2] == ('M', 'Joining') and all((v[1] not in COUNTS or u in n['gossip']['seen'] for u, v in members(st).items())) and (len({addr(u) for u in joining}) >= q):
         eff = []
         k = 0
         for u in joining:
             k += 1
             eff.append(('Rise', u, 'Up', k))
-    elif settled_now(n, q) and [u for u, v in members(st).items() if v[1] in COUNTS][:1] == [n['me']]:
+    elif settled_now(n, q) and leads:
         num = max((v[2] for v in members(st).values()))
         eff = []
         for u, v in members(st).items():
-            if v[1] == 'Joining':
+            if v[1] in ('Joining', 'WeaklyUp'):
                 eff.append(('Rise', u, 'Up', num + 1))
                 num += 1
             elif v[1] == 'Leaving':
                 eff.append(('Rise', u, 'Exiting', 0))
             elif v[1] in ('Exiting', 'Down') and u in n['confirmed']:
                 eff.append(('Removed', u, True))
+    elif leads and n['weakly'] and waited == n['weakly']:
+        eff = [('Rise', u, 'WeaklyUp', 0) for u in joining]
     if eff:
         k = update(n, eff)
         ch = (k, eff)
     n['ticks'] += 1
     n['stable'] = min(n['stable'] + 1, 9)
+    n['weak'] = waited
     n['detector'] = {u: min(c + 1, 10) for u, c in n['detector'].items()}
     return ch
 

@@ -36,14 +36,14 @@ MESSAGES = set()
 
 class Gen:
 
-    def __init__(s, settings, quorum, nodes, many_shards=10, buffer=2):
+    def __init__(s, settings, quorum, nodes, many_shards=10, buffer=2, weakly=0):
         s.settings = settings
         s.q = quorum
         s.nodes = nodes
         s.known = {}
         s.out = []
         s.world = []
-        s.st = [Sim(quorum, [], many_shards, buffer).started(x) for x in nodes]
+        s.st = [Sim(quorum, [], many_shards, buffer, weakly).started(x) for x in nodes]
         s.nm = ['started %s %s' % (u(x), settings) for x in nodes]
         s.packets = []
         s.pnames = {}
@@ -105,7 +105,7 @@ class Gen:
         if a[0] in ('Active', 'Ended'):
             return '%s %d' % (a[0], a[1])
         return ' '.join(str(part) for part in a)
-    MEM = [('gossip', lambda s, n: s.gossip(n['gossip'])), ('shown', lambda s, n: 'table ' + counts(n['shown'])), ('founder', lambda s, n: str(n['founder']).lower()), ('target', lambda s, n: 'Some at_%s' % n['target'] if n['target'] else 'None'), ('ticks', lambda s, n: str(n['ticks'])), ('stable', lambda s, n: str(n['stable'])), ('moved', lambda s, n: str(n['moved']).lower()), ('detector', lambda s, n: 'table ' + counts(n['detector'])), ('confirmed', lambda s, n: 'set ' + procs(n['confirmed'])), ('settled', lambda s, n: s.settled(n['settled']))]
+    MEM = [('gossip', lambda s, n: s.gossip(n['gossip'])), ('shown', lambda s, n: 'table ' + counts(n['shown'])), ('founder', lambda s, n: str(n['founder']).lower()), ('target', lambda s, n: 'Some at_%s' % n['target'] if n['target'] else 'None'), ('ticks', lambda s, n: str(n['ticks'])), ('stable', lambda s, n: str(n['stable'])), ('weak', lambda s, n: str(n['weak'])), ('moved', lambda s, n: str(n['moved']).lower()), ('detector', lambda s, n: 'table ' + counts(n['detector'])), ('confirmed', lambda s, n: 'set ' + procs(n['confirmed'])), ('settled', lambda s, n: s.settled(n['settled']))]
     SIN = [('phase', lambda s, n: 'phase.' + n['phase']), ('live', lambda s, n: some(n['live'], ballot)), ('granted', lambda s, n: 'set ' + procs(n['granted'])), ('floor', lambda s, n: 'table ' + counts(n['floor']))]
 
     def mem(s, old, new):

@@ -19,10 +19,10 @@ use Rattle.ak_world.proofs.WorkedWorlds.{done_15, done_33, comes_15, comes_33}
 use Rattle.ak_meaning.specs.Instances.{IsSaid, KnowsMember, KnowsRemoved, RunsSettled, NotesGrow}
 
 -- what stands in the world that a run comes to
-at_world : (settings : SettingsModel) (events : List Event) (w : WorldState) (index : ℕ) (n : State) → Comes settings events w → slice_get w.nodes index ≡ Some n → slice_get (run settings events).nodes index ≡ Some n
+pub at_world : (settings : SettingsModel) (events : List Event) (w : WorldState) (index : ℕ) (n : State) → Comes settings events w → slice_get w.nodes index ≡ Some n → slice_get (run settings events).nodes index ≡ Some n
 at_world settings events w index n c at = ap (λ (v : WorldState). slice_get v.nodes index) c.run_is ∙ at
 
-in_world : (settings : SettingsModel) (events : List Event) (w : WorldState) (index : ℕ) (entry : Entry) → Comes settings events w → slice_get w.history index ≡ Some entry → Contains (run settings events).history entry
+pub in_world : (settings : SettingsModel) (events : List Event) (w : WorldState) (index : ℕ) (entry : Entry) → Comes settings events w → slice_get w.history index ≡ Some entry → Contains (run settings events).history entry
 in_world settings events w index entry c at = subst (λ (v : WorldState). Contains v.history entry) (sym c.run_is) (contains_at w.history index entry at)
 
 pub comes_up : KnowsMember three (take 15 passing) 0 b_1 Up

@@ -22,6 +22,9 @@ pub mod MovedFirst
 pub mod MovedSecond
 pub mod MovedWorlds
 pub mod MovedRun
+pub mod LetInSteps
+pub mod LetInWorlds
+pub mod LetInRun
 pub mod WeakSteps
 pub mod WeakRuns
 pub mod PlainMembers

@@ -2,6 +2,7 @@ pub mod Broken
 pub mod Causes
 pub mod Counting
 pub mod Instances
+pub mod LetIn
 pub mod Listening
 pub mod Moved
 pub mod Receiving

@@ -15,6 +15,7 @@ ghost use Rattle.ak_history.specs.declared.entry.Entry.{Entry};
 ghost use Rattle.ak_meaning.specs.Broken.{breaking, two};
 ghost use Rattle.ak_meaning.specs.Causes.{IsCaused, WasToldToFound};
 ghost use Rattle.ak_meaning.specs.Instances.{IsHome, IsNoHome, IsSaid, KnowsMember, KnowsRemoved, NotesGrow, RunsSettled};
+ghost use Rattle.ak_meaning.specs.LetIn.{lenient, letting_in};
 ghost use Rattle.ak_meaning.specs.Listening.{SilentSince};
 ghost use Rattle.ak_meaning.specs.Moved.{cart, moving, spread};
 ghost use Rattle.ak_meaning.specs.Receiving.{AreMerged};
@@ -29,7 +30,7 @@ ghost use Rattle.ak_member.specs.Age.{IsCounted};
 ghost use Rattle.ak_reach.specs.Unreachable.{IsUnreachable};
 ghost use Rattle.ak_member.specs.declared.effect.Effect.{Effect};
 ghost use Rattle.ak_member.specs.declared.effect.Effect.TheVariants.{Removed, Rise};
-ghost use Rattle.ak_member.specs.declared.status.Status.TheVariants.{Up};
+ghost use Rattle.ak_member.specs.declared.status.Status.TheVariants.{Up, WeaklyUp};
 ghost use Rattle.ak_member.specs.Standing.{Standings, is_member};
 ghost use Rattle.ak_member.specs.View.{View};
 ghost use Rattle.ak_node.specs.declared.node.NodeEvent.TheVariants.{Packet};
@@ -190,4 +191,20 @@ pub fn a_shard_can_move()
     ensures first { IsHome spread (take 22 moving) 0 a_1 0 cart }
     ensures second { IsHome spread moving 2 c_1 0 cart }
     ensures left { IsNoHome spread moving 0 a_1 0 cart }
+{}
+
+/// A member can be let in, and come Up. With three listed addresses, a static quorum of two, a wait of one tick, and the margin
+/// kept: after 9 of 14 events a runs, and with no settled view; after 10 it knows c as WeaklyUp, and the history says that c rose to
+/// that; after 13 a runs with a settled view; and after all of them it knows c as Up, and the history says that c rose to that, with
+/// number 3 (Akka's Cluster Specification, "WeaklyUp Members").
+pub fn a_member_can_be_let_in_and_come_up()
+    ensures kept { IsMargin lenient letting_in Kept }
+    ensures node { HasNumber (run lenient letting_in).nodes 0 a_1 }
+    ensures runs { Runs (run lenient (take 9 letting_in)).nodes a_1 }
+    ensures unsettled { ¬ RunsSettled lenient (take 9 letting_in) 0 }
+    ensures weakly { KnowsMember lenient (take 10 letting_in) 0 c_1 WeaklyUp }
+    ensures let_in { IsSaid lenient (take 10 letting_in) (Rise c_1 WeaklyUp 0) }
+    ensures settled { RunsSettled lenient (take 13 letting_in) 0 }
+    ensures up { KnowsMember lenient letting_in 0 c_1 Up }
+    ensures rose { IsSaid lenient letting_in (Rise c_1 Up 3) }
 {}
