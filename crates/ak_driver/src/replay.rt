@@ -198,16 +198,13 @@ impl Replay {
         // The stage is taken out first, since the draft is used up by its settings.
         let stage = mem::replace(&mut self.stage, Stage::Heading(Draft::new(alloc)));
         self.stage = match stage {
-            Stage::Heading(draft) => {
-                draft.invariant();
-                match draft.finish() {
-                    Ok(settings) => {
-                        warn_of_quorum(alloc, notes, &settings);
-                        Stage::Running(World::new(alloc, settings))
-                    }
-                    Err(draft) => Stage::Heading(draft),
+            Stage::Heading(draft) => match draft.finish() {
+                Ok(settings) => {
+                    warn_of_quorum(alloc, notes, &settings);
+                    Stage::Running(World::new(alloc, settings))
                 }
-            }
+                Err(draft) => Stage::Heading(draft),
+            },
             Stage::Running(world) => Stage::Running(world),
         };
     }
@@ -314,7 +311,6 @@ fn read_header(alloc: Global, draft: &mut Draft, line: &[u8]) -> Result<bool, Li
     requires { length line.now ≤ most_bytes }
     ensures { HeaderLineAnswers result line.now draft.old draft.new }
 {
-    draft.invariant();
     if draft.headers_read() == MOST_HEADERS {
         return draft.extra(line);
     }

@@ -124,7 +124,8 @@ impl Draft {
 
     /// How many headers were read, at most nine.
     pub fn headers_read(&self) -> u32
-        ensures { result ≡ self.now.read }
+        ensures count { result ≡ self.now.read }
+        ensures most { result ≤ HEADERS }
     {
         self.read
     }
@@ -133,7 +134,7 @@ impl Draft {
     pub fn finish(self) -> Result<Settings, Draft>
         ensures { MatchResult result
             (λ settings. (self.read ≡ HEADERS) × (settings ≡ self.settings))
-            (λ draft. (self.read ≢ HEADERS) × (draft ≡ self)) }
+            (λ draft. (self.read < HEADERS) × (draft ≡ self)) }
     {
         if self.read != HEADERS {
             return Err(self);
