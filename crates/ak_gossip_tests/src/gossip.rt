@@ -234,3 +234,18 @@ fn findings_are_rows(rt: HostRuntime) -> Result<(), Fail> {
     assert!(rt; observes(&gossip, 0) == (1, 4) && observes(&gossip, 1) == (0, 0));
     Ok(())
 }
+
+// Who has seen an equal version and is no member here does not join the seen set.
+#[test]
+fn strangers_do_not_join_the_seen(rt: HostRuntime) -> Result<(), Fail> {
+    let own = [counted(1, 1)];
+    let stranger = Line {
+        seen: true,
+        ..counted(2, 0)
+    };
+    let incoming = [counted(1, 1), stranger];
+    assert!(rt; answer(rt.alloc(), &own, 1, &incoming) == Ok(Received::Same));
+    let gossip = after(rt.alloc(), &own, 1, &incoming).map_err(|_| "the gossip is refused")?;
+    assert!(rt; saw(&gossip, 0) == 1 && saw(&gossip, 1) == 0 && gossip.uniques() == 1);
+    Ok(())
+}

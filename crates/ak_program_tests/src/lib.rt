@@ -10,7 +10,11 @@ mod driver;
 #[cfg(test)]
 mod ends;
 #[cfg(test)]
+mod hostile;
+#[cfg(test)]
 mod node;
+#[cfg(test)]
+mod reads;
 #[cfg(test)]
 mod report;
 #[cfg(test)]
