@@ -56,6 +56,7 @@ fn print_effect(me: &Unique, effect: &Effect, text: &mut Vec<u8>) -> Result<(), 
 fn rise_text(status: Status) -> &'static [u8] {
     match status {
         Status::Joining => b" joining",
+        Status::WeaklyUp => b" weakly up",
         Status::Up => b" up",
         Status::Leaving => b" leaving",
         Status::Exiting => b" exiting",
