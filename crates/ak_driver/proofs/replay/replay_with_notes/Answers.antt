@@ -1,6 +1,7 @@
-use Rattle.std.proofs.Common.{ℕ, List, Err, lit<, refl, sym, ap, subst, ◌∙◌}
+use Rattle.std.proofs.Common.{ℕ, ◌≤◌, List, Err, length, refl, sym, ap, subst, ◌∙◌, arith}
 use Rattle.ak_outside.specs.Lines.{LineState, to_come}
 use Rattle.ak_outside.specs.declared.lines.Next.TheVariants.{Line, TooLong, End, Failed}
+use Rattle.ak_schedule.specs.Line.{most_bytes}
 use Rattle.ak_driver.specs.declared.replay.Replay.{Replay}
 use Rattle.ak_driver.specs.ReplayContracts.{IsReady, Turns, TurnAnswers, progress_of}
 use Rattle.ak_driver.specs.StatusContracts.{ReplayCause}
@@ -13,7 +14,7 @@ use Rattle.ak_driver.proofs.replay.replay_with_notes.Goals as goal
 
 pub lines-init : goal.lines-init
 lines-init g c = (
-  subst (λ (r : Replay). IsReady r.stage r.steps) (sym c.new-replay.ensures) (lit< tt, refl),
+  subst (λ (r : Replay). IsReady r.stage r.steps) (sym c.new-replay.ensures) refl,
   refl,
   refl,
   λ is. absurd (not_both _ is (ap (λ (s : LineState). s.ended) c.new-reader.ensures)),
@@ -118,6 +119,17 @@ returns-in-Some-TooLong-clause-complete g c =
     completed (g.S.Source.remaining c.args.input.now) c.stops.result (g.S.Source.faults c.args.input.now) (g.S.Source.faults c.next_line.new.input)
     (g.W.Sink.faults c.args.output.now) (g.W.Sink.faults c.stops.new.output) (g.W.Sink.written c.args.output.now) (g.W.Sink.written c.stops.new.output)
     (caused c.stops.result _ _ _ _ (asked ∙ c.lines.invariant.1) cause) (g.S.Source.remaining c.next_line.new.input) (returns-in-Some-TooLong-clause-promise g c) bytes is reads writes
+
+pub turn-requires-clause-ready : goal.turn-requires-clause-ready
+turn-requires-clause-ready g c = c.lines.invariant.0
+
+-- a line that was given whole is short enough
+pub turn-requires-clause-short : goal.turn-requires-clause-short
+turn-requires-clause-short g c =
+    let coming = to_come c.lines.reader (g.S.Source.remaining c.lines.input) in
+    let after = to_come c.next_line.new.reader (g.S.Source.remaining c.next_line.new.input) in
+    let given = gives_as c.in-Some-Line.field-0 (Line c.in-Some-Line.field-0-0) c.next_line.new.reader coming after c.in-Some-Line.field-0-is c.in-Some-Line.ensures.next.0 in
+    subst (λ (l : List ℕ). length l ≤ most_bytes) (sym c.line-in-Some-Line.ensures) (let same = given.0 in let within = given.1 in omega (arith, same, within))
 
 pub returns-in-Err-clause-promise : goal.returns-in-Err-clause-promise
 returns-in-Err-clause-promise g c =
