@@ -1,2 +1,4 @@
+mod FoundNames
 pub mod HeardPackets
 pub mod Longest
+mod Retries

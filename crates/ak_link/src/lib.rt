@@ -1,7 +1,9 @@
 //! Envelopes over a link: as they are spelled, and a link over the system's UDP socket.
 #![tactic(auto)]
 
+mod calls;
 mod laws;
+mod names;
 mod received;
 mod sending;
 mod udp;

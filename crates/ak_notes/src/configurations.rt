@@ -1,7 +1,7 @@
 // Why there is no configuration, and what is odd about one.
 use crate::notes::Notes;
 use crate::sentence::{Piece, say};
-use ak_address::Text;
+use ak_address::{Address, Text};
 use ak_settings::{Settings, Strategy};
 use std::alloc::Global;
 
@@ -45,6 +45,21 @@ pub fn warn_of_quorum<N: Notes>(alloc: Global, notes: &mut N, settings: &Setting
             Piece::Text(b", and "),
             Piece::Number(listed),
             Piece::Text(b" addresses are listed: such a cluster can never be founded\n"),
+        ],
+    );
+}
+
+/// Warns of an address whose name was not found.
+pub fn warn_of_name<N: Notes>(alloc: Global, notes: &mut N, at: &Address) {
+    say(
+        alloc,
+        notes,
+        &[
+            Piece::Text(b"warning: the name of "),
+            Piece::Address(at),
+            Piece::Text(
+                b" was not found: packets to it are lost until the node is started again\n",
+            ),
         ],
     );
 }

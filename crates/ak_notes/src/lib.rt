@@ -9,7 +9,7 @@ mod sentence;
 mod standard;
 mod statuses;
 
-pub use configurations::{say_of, warn_of_quorum};
+pub use configurations::{say_of, warn_of_name, warn_of_quorum};
 pub use lines::{say_event, say_header, say_of_line, word_at};
 pub use notes::{NoNotes, Notes, SinkNotes};
 pub use sentence::{Piece, say};

@@ -27,7 +27,7 @@ pub fn say_status<N: Notes>(notes: &mut N, status: Status) {
         Status::Write => notes.say(b"standard output could not be written\n"),
         Status::Memory => notes.say(b"memory ran out\n"),
         Status::Link => notes.say(
-            b"the address could not be taken, as where another program has it, or a receive failed\n",
+            b"the address could not be taken, as where another program has it or its name is not found, or a receive failed\n",
         ),
         Status::Turns => notes.say(
             b"the clock stands still: 10000000 turns in a row made no tick\n",

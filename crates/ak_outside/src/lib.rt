@@ -30,7 +30,7 @@ pub use clock::{Clock, MemoryClock};
 pub use ending::{out_of_memory, written};
 pub use folder::{Folder, Loaded, MemoryFile};
 pub use lines::{LineReader, Next};
-pub use link::{Bound, Heard, Link, Sent, Taken};
+pub use link::{Bound, Heard, Link, Looked, Sent, Taken};
 pub use memory::{MemorySink, MemorySource};
 pub use memory_folder::MemoryFolder;
 pub use memory_link::MemoryLink;

@@ -5,6 +5,15 @@ ghost use Rattle.ak_outside.specs.Link.{Sends, BindCause, SendCause, HearCause, 
 
 use ak_address::{Address, Text};
 
+/// The answer of a look-up.
+#[derive(Clone, Copy, Debug, PartialEq, Eq)]
+pub enum Looked {
+    /// The link knows where the address is, and can send there.
+    Known,
+    /// It does not: a packet to this address is lost.
+    Unknown,
+}
+
 /// The answer of a bind.
 #[derive(Clone, Copy, Debug, PartialEq, Eq)]
 pub enum Bound {
@@ -61,7 +70,16 @@ pub trait Link {
     /// How often a send has failed. It never falls; kept as a `u64` it stays at 2^64 - 1 once there.
     ghost losses: { Self → ℕ };
 
-    /// Takes an address, or any free port on loopback. `Failed` comes only where the count of faults rose in this call, or
+    /// Looks up where an address is, for the packets that are sent to it later; this may take long, and changes nothing else. A
+    /// link that asks a name server asks it here, and at a bind, and never where it sends or receives.
+    fn look_up(&mut self, at: &Address) -> Looked
+        ensures faults { faults self.new ≡ faults self.old }
+        ensures losses { losses self.new ≡ losses self.old }
+        ensures bound { bound self.new ≡ bound self.old }
+        ensures sends { sends self.new ≡ sends self.old }
+        ensures coming { coming self.new ≡ coming self.old };
+
+    /// Takes an address, or any free port. `Failed` comes only where the count of faults rose in this call, or
     /// stands at 2^64 - 1 after it.
     fn bind(&mut self, at: Option<&Address>) -> Bound
         ensures count { faults self.old ≤ faults self.new }

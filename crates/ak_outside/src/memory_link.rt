@@ -6,7 +6,7 @@ ghost use Rattle.ak_outside.specs.Link.{BindCause, SendCause, HearCause, Binds, 
 ghost use Rattle.ak_outside.specs.MemoryLink.{fails_next, known_sends, BindDone, BindFailed, SendDone, SendFailed, ReceiveDone, ReceiveFailed, taken_at};
 
 use crate::calls::Calls;
-use crate::link::{Bound, Heard, Link, Sent, Taken};
+use crate::link::{Bound, Heard, Link, Looked, Sent, Taken};
 use ak_address::{Address, Text};
 use std::alloc::{AllocError, Global};
 use std::marker::Model;
@@ -151,6 +151,19 @@ impl Link for MemoryLink {
     ghost faults = { λ s. s.faults };
 
     ghost losses = { λ s. s.losses };
+
+    /// Knows every address, and keeps none: it is as it was.
+    fn look_up(&mut self, _at: &Address) -> Looked
+        ensures faults { self.new.faults ≡ self.old.faults }
+        ensures losses { self.new.losses ≡ self.old.losses }
+        ensures bound { Some self.new.bound ≡ Some self.old.bound }
+        ensures sends { known_sends self.new ≡ known_sends self.old }
+        ensures coming { Some self.new.coming ≡ Some self.old.coming }
+        ensures known { result ≡ Looked.Known }
+        ensures kept { self.new ≡ self.old }
+    {
+        Looked::Known
+    }
 
     /// Fails where the number of the call is listed, or where there is no memory for the address, which `starved` counts.
     fn bind(&mut self, at: Option<&Address>) -> Bound

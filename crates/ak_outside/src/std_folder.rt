@@ -15,6 +15,9 @@ use std::io::ErrorKind;
 use std::rt::Files;
 use std::{fs, io};
 
+// So often an open that was interrupted is tried again.
+const MOST_RETRIES: u64 = 100;
+
 /// The files of the system, by their paths. None are known.
 #[derive(Drop)]
 pub struct StdFolder<'a, R: Files> {
@@ -47,7 +50,7 @@ impl<'a, R: Files> Folder for StdFolder<'a, R> {
     ghost faults = { λ s. s.fault_count };
 
     /// Opens the file and reads it to its end, or past `most` bytes. A name that is not UTF-8 is no file's. An interrupted call is
-    /// tried again; another that fails is counted.
+    /// tried again, an open at most 100 times; another that fails is counted.
     fn load(&mut self, alloc: Global, name: &Text, most: usize) -> Loaded {
         let answer = load_file(self.runtime, alloc, name, most);
         if has_failed(&answer) {
@@ -82,9 +85,9 @@ fn load_file<R: Files>(rt: &R, alloc: Global, name: &Text, most: usize) -> Loade
     }
 }
 
-// Opens until the call is not interrupted.
+// Opens until the call is not interrupted, or has been tried again so often.
 fn open<R: Files>(rt: &R, path: &str) -> io::Result<R::File> {
-    'tries: for _ in 1..u64::MAX {
+    'tries: for _ in 0..MOST_RETRIES {
         match fs::open(rt, path) {
             Ok(file) => return Ok(file),
             Err(e) => {

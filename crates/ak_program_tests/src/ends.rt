@@ -41,7 +41,7 @@ pub(crate) fn coming(alloc: Global, packets: &[&[u8]]) -> Result<Vec<Option<Text
     Ok(all)
 }
 
-fn files(alloc: Global, config: &[u8]) -> Result<Vec<MemoryFile>, AllocError> {
+pub(crate) fn files(alloc: Global, config: &[u8]) -> Result<Vec<MemoryFile>, AllocError> {
     let name = Text::from_bytes(alloc, b"f")?;
     let bytes = Text::from_bytes(alloc, config)?;
     let mut all = Vec::new(alloc);

@@ -82,8 +82,8 @@ fn ask_and_answer<W: Sink, L: Link>(
     }
 }
 
-/// Asks the node at an address one thing: takes any free port, sends one packet, and writes `sent`, or `lost` where the send
-/// failed. That the packet arrives is not said.
+/// Asks the node at an address one thing: has the link look it up, takes any free port, sends one packet, and writes `sent`, or
+/// `lost` where the send failed, as it does where the address is not found. That the packet arrives is not said.
 ///
 /// Answers `Done` after that line; `Link` where no port could be had, after a line that says so; `Memory` after a line that
 /// says so; and `Write` where the sink failed.
@@ -99,6 +99,7 @@ pub fn run_ctl<W: Sink, L: Link>(
     ensures cause { ControlCause result (W.faults output.old) (W.faults output.new) (L.faults link.old) (L.faults link.new) }
     ensures controls { Controls result to say (sink (W.written output.old) (W.faults output.old)) (sink (W.written output.new) (W.faults output.new)) (wire (L.bound link.old) (L.sends link.old) (L.losses link.old) (L.coming link.old)) (wire (L.bound link.new) (L.sends link.new) (L.losses link.new) (L.coming link.new)) }
 {
+    let _known = link.look_up(&to);
     match link.bind(None) {
         Bound::Ready => ask_and_answer(alloc, to, say, output, link),
         Bound::Failed => written(output, b"error 8 link\n", Status::Link),

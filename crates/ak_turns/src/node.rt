@@ -9,12 +9,13 @@ use crate::end::End;
 use crate::explain::explain;
 use crate::process::Process;
 use crate::turns::take_turns;
-use ak_address::{Text, print_number, print_wide_number};
+use ak_address::{Address, Text, print_number, print_wide_number};
 use ak_config::{Config, ConfigFault, read_config};
 use ak_node::Node;
-use ak_notes::{Notes, warn_of_quorum};
-use ak_outside::{Bound, Clock, Folder, Link, Loaded, Sink, Status, written};
+use ak_notes::{Notes, warn_of_name, warn_of_quorum};
+use ak_outside::{Bound, Clock, Folder, Link, Loaded, Looked, Sink, Status, written};
 use ak_report::print_bytes;
+use ak_settings::contains_address;
 use std::alloc::{AllocError, Global};
 
 // A configuration may have this many bytes.
@@ -221,16 +222,43 @@ fn run_config<W: Sink, L: Link, C: Clock>(
     }
 }
 
-/// Runs one node until it has made so many ticks: it loads the configuration of this name, takes its address, starts, founds and
-/// joins where the configuration says so, and takes turns. In a turn it receives once, and takes the step of what came; then it
-/// reads the clock, and ticks where it is due. Each packet is sent at once, and each step is written when it is taken.
+// Has the link look an address up, and says so where it is not found.
+fn look_up<L: Link, N: Notes>(alloc: Global, at: &Address, link: &mut L, notes: &mut N)
+    ensures faults { L.faults link.new ≡ L.faults link.old }
+    ensures wire { wire (L.bound link.new) (L.sends link.new) (L.losses link.new) (L.coming link.new) ≡ wire (L.bound link.old) (L.sends link.old) (L.losses link.old) (L.coming link.old) }
+{
+    if link.look_up(at) == Looked::Unknown {
+        warn_of_name(alloc, notes, at);
+    }
+}
+
+// Has the link look up the addresses to which a node of this configuration may have to send.
+fn look_up_all<L: Link, N: Notes>(alloc: Global, config: &Config, link: &mut L, notes: &mut N)
+    ensures faults { L.faults link.new ≡ L.faults link.old }
+    ensures wire { wire (L.bound link.new) (L.sends link.new) (L.losses link.new) (L.coming link.new) ≡ wire (L.bound link.old) (L.sends link.old) (L.losses link.old) (L.coming link.old) }
+{
+    'listed: for at in &config.settings.listed {
+        look_up(alloc, at, link, notes);
+    }
+    if let Some(target) = &config.join {
+        if !contains_address(&config.settings.listed, target) {
+            look_up(alloc, target, link, notes);
+        }
+    }
+}
+
+/// Runs one node until it has made so many ticks: it loads the configuration of this name, has the link look up each listed address
+/// and the one that it joins through, takes its own, starts, founds and joins where the configuration says so, and takes turns. In
+/// a turn it receives once, and takes the step of what came; then it reads the clock, and ticks where it is due. Each packet is sent
+/// at once, and each step is written when it is taken.
 ///
 /// Answers `Done` after its ticks; `Configuration` where there is none or it is refused; `Read` where the folder failed; `Link`
 /// where the address could not be taken, or a receive failed; `Turns` after 10,000,000 turns in a row that made no tick; `Write`
 /// where the sink failed, and nothing else is written then; and `Memory`, after whole steps. A send that fails is none of these: it
 /// is printed as lost.
 ///
-/// The notes are told what is wrong with the configuration, and are warned of a quorum that cannot be reached.
+/// The notes are told what is wrong with the configuration, and are warned of a quorum that cannot be reached and of each address
+/// that is not found.
 ///
 /// Nothing is said of members or entities: a network may give anything.
 pub fn run_node<F: Folder, W: Sink, L: Link, C: Clock, N: Notes>(
@@ -253,6 +281,8 @@ pub fn run_node<F: Folder, W: Sink, L: Link, C: Clock, N: Notes>(
     match load(alloc, config, folder) {
         Ok(config) => {
             warn_of_quorum(alloc, notes, &config.settings);
+            // Before the bind: what comes while a name server is waited for would be old.
+            look_up_all(alloc, &config, link, notes);
             run_config(alloc, &config, ticks, output, link, clock)
         }
         Err(why) => {

@@ -15,7 +15,7 @@ fn main(rt: HostRuntime) -> ExitCode {
         &mut StdFolder::new(&rt),
         &mut StdSource::new(&rt),
         &mut StdSink::new(&rt),
-        &mut UdpLink::new(&rt),
+        &mut UdpLink::new(&rt, rt.alloc()),
         &mut StdClock::new(&rt),
         &mut StdNotes::new(&rt, rt.stderr()),
     ))
