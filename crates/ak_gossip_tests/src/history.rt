@@ -198,7 +198,7 @@ fn shows_members(
 fn versions_show_what_they_cover(rt: HostRuntime) -> Result<(), Fail> {
     let history = three_entries(rt.alloc())?;
     assert!(rt; shows_members(rt.alloc(), &history, (2, 0), 1)?);
-    assert!(rt; shows_members(rt.alloc(), &history, (2, 1), 5)?);
+    assert!(rt; shows_members(rt.alloc(), &history, (2, 1), 6)?);
     Ok(())
 }
 
