@@ -87,6 +87,21 @@ apart_inside (l ∷ listed) xs ys none = by_case (among listed l) (among xs l) (
     by_case false false true false rest none = let le = rest refl in omega arith
     by_case false false false false rest none = let le = rest refl in omega arith
 
+-- so of addresses that are all listed there are no more different ones
+pub distinct_within : (listed xs : List AddressModel) → ((a : AddressModel) → Contains xs a → Contains listed a) → distinct xs ≤ distinct listed
+distinct_within listed xs each =
+    let le = apart_inside listed xs [] (none_both listed) in
+    let first = distinct_inside listed xs (λ a there. any_there (tied a) listed a (each a there) (tied_self a)) in
+    omega arith
+  where
+    never : (a b : Bool) → b ≡ false → ((a && false) || b) ≡ false
+    never true b is = is
+    never false b is = is
+
+    none_both : (ls : List AddressModel) → list_any (λ l. among xs l && among [] l) ls ≡ false
+    none_both [] = refl
+    none_both (l ∷ ls) = never (among xs l) _ (none_both ls)
+
 pub shared_address : (listed one other : List AddressModel) (quorum : ℕ) → ((a : AddressModel) → Contains one a → Contains listed a) → ((a : AddressModel) → Contains other a → Contains listed a)
     → distinct listed < 2 * quorum → quorum ≤ distinct one → quorum ≤ distinct other → (a : AddressModel) × Contains one a × Contains other a
 shared_address listed one other quorum in_one in_other few enough_one enough_other = by_case (list_any (λ l. among one l && among other l) listed) refl

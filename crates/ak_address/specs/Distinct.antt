@@ -11,6 +11,10 @@ abbrev pub distinct : List AddressModel → ℕ
 distinct [] = 0
 distinct (a ∷ rest) = if list_any (λ b. is_eq (address_cmp a b)) rest then distinct rest else distinct rest + 1
 
+-- an address is one of these
+abbrev pub is_among : List AddressModel → AddressModel → Bool
+is_among list a = list_any (λ b. is_eq (address_cmp b a)) list
+
 -- where the processes are reached
 abbrev pub addresses_of : List UniqueModel → List AddressModel
 addresses_of = list.map (λ (who : UniqueModel). who.address)

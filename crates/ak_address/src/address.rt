@@ -1,7 +1,7 @@
-ghost use Rattle.std.specs.Prelude.{◌≡◌, ◌↔◌, ◌++◌, IfOk, OnOk, OnErr, IsTrue, option_copied};
+ghost use Rattle.std.specs.Prelude.{◌≡◌, ◌↔◌, ◌++◌, IfOk, OnOk, OnErr, IsTrue, Contains, option_copied};
 ghost use Rattle.std.specs.Ordering.{is_eq};
 ghost use Rattle.ak_address.specs.Unique.{address_cmp, unique_cmp};
-ghost use Rattle.ak_address.specs.Distinct.{is_at_address};
+ghost use Rattle.ak_address.specs.Distinct.{is_among, is_at_address};
 ghost use Rattle.ak_address.specs.Spelling.{address_text, unique_text};
 
 use crate::print::{print_address, print_unique};
@@ -141,4 +141,18 @@ pub(crate) fn shares_address(first: Option<&Unique>, second: &Unique) -> bool
         Some(first) => first.address.is(&second.address),
         None => false,
     }
+}
+
+/// True exactly where the address is one of these. Takes no memory.
+pub fn contains_address(list: &[Address], at: &Address) -> bool
+    ensures value { result ≡ is_among list.now at.now }
+    ensures meaning { IsTrue result ↔ Contains list.now at.now }
+{
+    is_among(list, at)
+}
+
+fn is_among(list: &[Address], at: &Address) -> bool
+    ensures { result ≡ is_among list.now at.now }
+{
+    list.iter().any(|each| each.is(at))
 }

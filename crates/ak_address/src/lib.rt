@@ -13,7 +13,7 @@ mod text;
 mod uniques;
 mod values;
 
-pub use address::{Address, Unique};
+pub use address::{Address, Unique, contains_address};
 pub use counting::AddressCount;
 pub use laws::{
     merges_are_pointwise, orders_are_total, quorums_share_an_address, spellings_are_words,

@@ -1,5 +1,5 @@
 -- What a call that reads a configuration answers.
-use Rattle.std.specs.Prelude.{◌≡◌, ◌<◌, ◌≤◌, ◌^◌, IsTrue, List, length, Result, Ok, Err}
+use Rattle.std.specs.Prelude.{◌≡◌, ◌<◌, ◌≤◌, ◌^◌, IsTrue, List, length, Option, Some, Result, Ok, Err}
 use Rattle.std.specs.List.{AllByRecursion}
 use Rattle.ak_address.specs.Unique.{AddressModel, IsAddress}
 use Rattle.ak_settings.specs.Settings.{IsWithin, IsStrategy, is_listed}
@@ -8,7 +8,7 @@ use Rattle.ak_config.specs.declared.entries.Entries.{Entries}
 use Rattle.ak_config.specs.declared.entries.Limits.{Limits}
 use Rattle.ak_config.specs.declared.entries.Running.{Running}
 use Rattle.ak_config.specs.declared.fault.ConfigFault.{ConfigFault}
-use Rattle.ak_config.specs.Configuration.{EntriesModel}
+use Rattle.ak_config.specs.Configuration.{EntriesModel, may_stand}
 use Rattle.ak_config.specs.declared.fault.ConfigFault.TheVariants.{NotToml, Missing, Unknown, WrongType, Range, BadAddress, SelfUnlisted, Repeated, NoMemory}
 
 -- a call's fault is the first one, unless memory ran out
@@ -51,9 +51,13 @@ pub record IsRunning (r : Running) : Type 0 where
   pub seed : r.seed < 2 ^ 63
   pub weakly : r.weakly ≤ 1000000
 
+-- each of them may stand in the list
+abbrev pub MayStand : Option (List AddressModel) → List AddressModel → Type 0
+MayStand among some = AllByRecursion (λ a. IsTrue (may_stand among a)) some
+
 -- entries as a document says them
 abbrev pub entries_view : Entries → EntriesModel
-entries_view e = record { me = e.me; listed = e.listed.items; strategy = e.strategy; limits = e.limits; running = e.running }
+entries_view e = record { me = e.me; listed = e.listed.items; strategy = e.strategy; limits = e.limits; running = e.running; role = e.role.items }
 
 -- each entry is in its range
 pub record AreEntries (e : EntriesModel) : Type 0 where
@@ -61,6 +65,8 @@ pub record AreEntries (e : EntriesModel) : Type 0 where
   pub strategy : IsStrategy e.strategy
   pub limits : AreLimits e.limits
   pub running : IsRunning e.running
+  pub role : IsList e.role
+  pub among : MayStand (Some e.listed) e.role
 
 -- the node's own address is listed, and its numbers are in their ranges
 pub record IsConfig (c : Config) : Type 0 where

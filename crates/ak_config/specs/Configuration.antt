@@ -9,7 +9,7 @@ use Rattle.toml.specs.Data.{Data, Items, no_items, item, Members, no_members, me
 use Rattle.toml.specs.Parse.{parse_document}
 use Rattle.ak_address.specs.Unique.{AddressModel, UniqueModel}
 use Rattle.ak_settings.specs.declared.settings.Strategy.{Strategy}
-use Rattle.ak_settings.specs.declared.settings.Strategy.TheVariants.{StaticQuorum, KeepMajority, DownAll}
+use Rattle.ak_settings.specs.declared.settings.Strategy.TheVariants.{StaticQuorum, KeepMajority, KeepOldest, DownAll}
 use Rattle.ak_settings.specs.Settings.{is_listed, all_different, default_shards, default_buffer, default_threshold, default_limit}
 use Rattle.ak_config.specs.declared.config.Config.{Config}
 use Rattle.ak_config.specs.declared.fault.ConfigFault.{ConfigFault}
@@ -25,6 +25,7 @@ pub record EntriesModel : Type 0 where
   pub strategy : Strategy
   pub limits : Limits
   pub running : Running
+  pub role : List AddressModel
 
 -- first the one, and then what is made of it; the first fault ends it
 infixl 10 ◌>>=◌
@@ -35,8 +36,8 @@ abbrev pub ◌>>=◌ : {A B : Type 0} → Result A ConfigFault → (A → Result
 -- the keys that a configuration may have
 abbrev pub keys : List (List ℕ)
 keys =
-    codes "self" ∷ codes "uid" ∷ codes "listed" ∷ codes "strategy" ∷ codes "quorum" ∷ codes "margin" ∷ codes "deadline" ∷ codes "stable" ∷ codes "shards"
-    ∷ codes "buffer" ∷ codes "threshold" ∷ codes "limit" ∷ codes "tick-ms" ∷ codes "seed" ∷ codes "found" ∷ codes "join" ∷ codes "weakly" ∷ []
+    codes "self" ∷ codes "uid" ∷ codes "listed" ∷ codes "strategy" ∷ codes "quorum" ∷ codes "down-if-alone" ∷ codes "margin" ∷ codes "deadline" ∷ codes "stable" ∷ codes "shards"
+    ∷ codes "buffer" ∷ codes "threshold" ∷ codes "limit" ∷ codes "tick-ms" ∷ codes "seed" ∷ codes "found" ∷ codes "join" ∷ codes "weakly" ∷ codes "role" ∷ []
 
 abbrev pub is_key : List ℕ → Bool
 is_key name = list_any (λ key. pointwise nat_eq key name) keys
@@ -129,35 +130,67 @@ abbrev pub item_count : Items → ℕ
 item_count no_items = 0
 item_count (item value others) = suc (item_count others)
 
--- an address for each item
-abbrev pub addresses_in : List ℕ → Items → Result (List AddressModel) ConfigFault
-addresses_in key no_items = Ok []
-addresses_in key (item value others) = do
-  first ← address_in key value
-  rest ← addresses_in key others
+-- an address may stand in a list: it is one of these, where some are given
+abbrev pub may_stand : Option (List AddressModel) → AddressModel → Bool
+may_stand None a = true
+may_stand (Some among) a = is_listed among a
+
+-- an address that may stand there
+unfoldable pub address_among : List ℕ → Option (List AddressModel) → Data → Result AddressModel ConfigFault
+address_among key among value = do
+  address ← address_in key value
+  if may_stand among address then Ok address else Err (Range key)
+
+-- an address for each item, from the left
+abbrev pub addresses_in : List ℕ → Option (List AddressModel) → Items → Result (List AddressModel) ConfigFault
+addresses_in key among no_items = Ok []
+addresses_in key among (item value others) = do
+  first ← address_among key among value
+  rest ← addresses_in key among others
   Ok (first ∷ rest)
 
--- the items are strings, then they are 1 to 32, then each spells an address
-unfoldable pub listing_in : List ℕ → Items → Result (List AddressModel) ConfigFault
-listing_in key items =
+-- the items are strings, then they are 1 to 32, then each spells an address that may stand there
+unfoldable pub listing_in : List ℕ → Option (List AddressModel) → Items → Result (List AddressModel) ConfigFault
+listing_in key among items =
     if are_texts items
-    then (if nat_le 1 (item_count items) && nat_le (item_count items) 32 then addresses_in key items else Err (Range key))
+    then (if nat_le 1 (item_count items) && nat_le (item_count items) 32 then addresses_in key among items else Err (Range key))
     else Err (WrongType key)
+
+unfoldable pub listing_of : List ℕ → Option (List AddressModel) → Data → Result (List AddressModel) ConfigFault
+listing_of key among value = do
+  items ← or_fault (WrongType key) (as_array value)
+  listing_in key among items
 
 unfoldable pub listing_at : List ℕ → Members → Result (List AddressModel) ConfigFault
 listing_at key t = do
   value ← required key t
-  items ← or_fault (WrongType key) (as_array value)
-  listing_in key items
+  listing_of key None value
 
--- a strategy that has no quorum
+-- the addresses that have the role, each of them listed: all that are listed, where the key is not there
+abbrev pub role_or : List AddressModel → Option Data → Result (List AddressModel) ConfigFault
+role_or listed None = Ok listed
+role_or listed (Some value) = listing_of (codes "role") (Some listed) value
+
+unfoldable pub role_at : List AddressModel → Members → Result (List AddressModel) ConfigFault
+role_at listed t = role_or listed (get_member (codes "role") t)
+
+-- a strategy that has no quorum; one that has a flag has it set
 abbrev pub bare_strategy : List ℕ → Option Strategy
 bare_strategy name =
     if pointwise nat_eq name (codes "keep-majority") then Some KeepMajority
+    else if pointwise nat_eq name (codes "keep-oldest") then Some (KeepOldest true)
     else if pointwise nat_eq name (codes "down-all") then Some DownAll
     else None
 
--- the quorum of a static quorum is required; that of another strategy is in its range where it is there, and not used
+-- the strategy with this flag, if it has one
+abbrev pub with_flag : Bool → Strategy → Strategy
+with_flag alone (StaticQuorum quorum) = StaticQuorum quorum
+with_flag alone KeepMajority = KeepMajority
+with_flag alone (KeepOldest _) = KeepOldest alone
+with_flag alone DownAll = DownAll
+
+-- a strategy without its flag: the quorum of a static quorum is required; that of another one is in its range where it is there,
+-- and not used
 unfoldable pub strategy_named : List ℕ → Members → Result Strategy ConfigFault
 strategy_named name t =
     if pointwise nat_eq name (codes "static-quorum")
@@ -168,7 +201,9 @@ unfoldable pub strategy_at : Members → Result Strategy ConfigFault
 strategy_at t = do
   value ← required (codes "strategy") t
   name ← text_in (codes "strategy") value
-  strategy_named name t
+  strategy ← strategy_named name t
+  alone ← flag_at (codes "down-if-alone") true t
+  Ok (with_flag alone strategy)
 
 unfoldable pub process_at : Members → Result UniqueModel ConfigFault
 process_at t = do
@@ -204,7 +239,8 @@ entries_at t = do
   strategy ← strategy_at t
   limits ← limits_at t
   running ← running_at t
-  Ok (record { me = me; listed = listed; strategy = strategy; limits = limits; running = running })
+  role ← role_at listed t
+  Ok (record { me = me; listed = listed; strategy = strategy; limits = limits; running = running; role = role })
 
 abbrev pub config_of : EntriesModel → Config
 config_of e =
@@ -221,6 +257,7 @@ config_of e =
         threshold = e.limits.threshold;
         limit = e.limits.limit;
         weakly = e.running.weakly;
+        role = e.role;
       };
       tick_ms = e.running.tick_ms;
       seed = e.running.seed;
@@ -232,7 +269,9 @@ config_of e =
 unfoldable pub agreed : EntriesModel → Result Config ConfigFault
 agreed e =
     if all_different e.listed
+    then (if all_different e.role
     then (if is_listed e.listed e.me.address then Ok (config_of e) else Err (SelfUnlisted (codes "self")))
+    else Err (Repeated (codes "role")))
     else Err (Repeated (codes "listed"))
 
 -- the configuration that the values of a document are, or the first fault

@@ -9,8 +9,8 @@ use crate::entries::{Entries, Limits, Running, entries_at};
 use crate::fault::ConfigFault;
 use crate::keys::known_keys;
 use crate::values::name;
-use ak_address::{Address, Unique};
-use ak_settings::{Settings, all_different, contains_address};
+use ak_address::{Address, Unique, contains_address};
+use ak_settings::{Settings, all_different};
 use std::alloc::{AllocError, Global};
 use toml::Table;
 
@@ -33,9 +33,9 @@ pub struct Config {
 
 /// The configuration that these bytes are. Where they are none it answers the first fault, in this order: that they are no TOML
 /// document; the least key that a configuration may not have; then key by key, in the order self, uid, listed, strategy, quorum,
-/// margin, deadline, stable, shards, buffer, threshold, limit, tick-ms, seed, found, join, that it is missing, of another type,
-/// out of its range or no address; that an address is listed twice; that the node's own is not listed. That memory ran out says
-/// nothing of the bytes.
+/// down-if-alone, margin, deadline, stable, shards, buffer, threshold, limit, tick-ms, seed, found, join, weakly, role, that it
+/// is missing, of another type, out of its range or no address; that an address is listed twice; that one has the role twice;
+/// that the node's own is not listed. That memory ran out says nothing of the bytes.
 #[tactic(auto, using(crate::proofs::Steps::fails_first), unfolding(crate::specs::Configuration::read, crate::specs::Configuration::configuration))]
 pub fn read_config(alloc: Global, bytes: &[u8]) -> Result<Config, ConfigFault>
     ensures gives { Gives result (spec.read bytes.now) }
@@ -73,6 +73,9 @@ fn agreed(alloc: Global, entries: Entries) -> Result<Config, ConfigFault>
     if !all_different(&entries.listed) {
         return Err(ConfigFault::Repeated(name(alloc, "listed")?));
     }
+    if !all_different(&entries.role) {
+        return Err(ConfigFault::Repeated(name(alloc, "role")?));
+    }
     if !contains_address(&entries.listed, &entries.me.address) {
         return Err(ConfigFault::SelfUnlisted(name(alloc, "self")?));
     }
@@ -81,7 +84,8 @@ fn agreed(alloc: Global, entries: Entries) -> Result<Config, ConfigFault>
 
 fn config_of(entries: Entries) -> Config
     requires ranges { AreEntries (entries_view entries) }
-    requires different { all_different entries.listed.items ≡ true }
+    requires listed { all_different entries.listed.items ≡ true }
+    requires role { all_different entries.role.items ≡ true }
     ensures { result ≡ spec.config_of (entries_view entries) }
 {
     let Entries {
@@ -90,6 +94,7 @@ fn config_of(entries: Entries) -> Config
         strategy,
         limits,
         running,
+        role,
     } = entries;
     let Limits {
         margin,
@@ -118,6 +123,7 @@ fn config_of(entries: Entries) -> Config
         threshold,
         limit,
         weakly,
+        role,
     };
     Config {
         me,

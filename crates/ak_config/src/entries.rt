@@ -6,7 +6,7 @@ ghost use Rattle.ak_config.specs.Configuration as read;
 ghost use Rattle.ak_config.specs.ConfigContracts.{Gives, GivesAs, AreLimits, AreEntries, IsRunning, entries_view};
 
 use crate::fault::ConfigFault;
-use crate::listing::listing_at;
+use crate::listing::{listing_at, role_at};
 use crate::values::{
     address_at, flag_at, integer_at, name, required, required_address, required_integer, text_in,
 };
@@ -45,6 +45,7 @@ pub(crate) struct Entries {
     pub(crate) strategy: Strategy,
     pub(crate) limits: Limits,
     pub(crate) running: Running,
+    pub(crate) role: Vec<Address>,
 }
 
 const MOST_UID: u64 = 9223372036854775807;
@@ -62,12 +63,14 @@ pub(crate) fn entries_at(alloc: Global, table: &Table) -> Result<Entries, Config
     let strategy = strategy_at(alloc, table)?;
     let limits = limits_at(alloc, table)?;
     let running = running_at(alloc, table)?;
+    let role = role_at(alloc, table, &listed)?;
     Ok(Entries {
         me,
         listed,
         strategy,
         limits,
         running,
+        role,
     })
 }
 
@@ -87,7 +90,22 @@ fn strategy_at(alloc: Global, table: &Table) -> Result<Strategy, ConfigFault>
 {
     let value = required(alloc, table, "strategy")?;
     let name = text_in(alloc, "strategy", value)?;
-    strategy_named(alloc, name, table)
+    let strategy = strategy_named(alloc, name, table)?;
+    let alone = flag_at(alloc, table, "down-if-alone", true)?;
+    Ok(with_flag(alone, strategy))
+}
+
+fn with_flag(alone: bool, strategy: Strategy) -> Strategy
+    requires { IsStrategy strategy }
+    ensures value { result ≡ read.with_flag alone strategy }
+    ensures range { IsStrategy result }
+{
+    match strategy {
+        Strategy::StaticQuorum(quorum) => return Strategy::StaticQuorum(quorum),
+        Strategy::KeepMajority => return Strategy::KeepMajority,
+        Strategy::KeepOldest(_) => return Strategy::KeepOldest(alone),
+        Strategy::DownAll => return Strategy::DownAll,
+    }
 }
 
 #[tactic(auto, using(crate::proofs::Steps::fails_first), unfolding(crate::specs::Configuration::strategy_named))]
@@ -112,6 +130,9 @@ fn bare_strategy(text: &str) -> Option<Strategy>
 {
     if text == "keep-majority" {
         return Some(Strategy::KeepMajority);
+    }
+    if text == "keep-oldest" {
+        return Some(Strategy::KeepOldest(true));
     }
     if text == "down-all" {
         return Some(Strategy::DownAll);

@@ -11,12 +11,13 @@ use crate::values::name;
 use std::alloc::Global;
 use toml::Table;
 
-static KEYS: [&str; 17] = [
+static KEYS: [&str; 19] = [
     "self",
     "uid",
     "listed",
     "strategy",
     "quorum",
+    "down-if-alone",
     "margin",
     "deadline",
     "stable",
@@ -29,6 +30,7 @@ static KEYS: [&str; 17] = [
     "found",
     "join",
     "weakly",
+    "role",
 ];
 
 fn is_key(name: &str) -> bool

@@ -1,6 +1,5 @@
 -- Who is chosen among those that run, whether an address is in use, and that a listed address is one.
 use Rattle.std.proofs.Common.{◌≡◌, ◌≢◌, ℕ, zero, suc, ◌+◌, ◌<◌, ◌≤◌, ◌%◌, Bool, cond, nat_lt, true, false, ◌||◌, ◌&&◌, IsTrue, List, [], ◌∷◌, length, drop, get_or, slice_get, Option, None, Some, IsSome, is_some, inl, inr, refl, sym, ap, ◌∙◌, subst, arith, true≢false, option_map}
-use Rattle.std.specs.FinMap as finmap
 use Rattle.std.specs.List.{list_any}
 use Rattle.std.proofs.Math.Nat.{mod-lt}
 use Rattle.std.proofs.lemmas.Fmt.{decimal_digit}
@@ -9,7 +8,7 @@ use Rattle.rand_pcg.specs.Lcg.{Lcg}
 use Rattle.ak_address.specs.Unique.{AddressModel, UniqueModel, IsAddress, is_host_byte}
 use Rattle.ak_address.specs.Uniques.{UniqueSet, in_order, how_many}
 use Rattle.ak_address.proofs.UniquesLaws.{length-in_order}
-use Rattle.ak_settings.specs.Settings.{IsSettings}
+use Rattle.ak_settings.specs.Settings.{IsListing, IsSettings}
 use Rattle.ak_generate.specs.Fixed.{address, addresses, fixed}
 use Rattle.ak_generate.specs.Generated.{chosen, is_at, is_in_use, opening, later, next_event}
 use Rattle.ak_generate.specs.Words.{Words}
@@ -123,13 +122,16 @@ listed_apart i j d lt within same =
     let at_j = number_at_index j d within in
     let both = ap number_at same in omega arith
 
+fixed_listing : IsListing addresses
+fixed_listing = record {
+  count = record { from = omega arith; to = omega arith };
+  addresses = (address_is_one 1 (omega arith), (address_is_one 2 (omega arith), (address_is_one 3 (omega arith), (address_is_one 4 (omega arith), (address_is_one 5 (omega arith), tt)))));
+  different = listed_apart;
+}
+
 pub fixed_are_settings : IsSettings fixed
 fixed_are_settings = record {
-  listed = record {
-    count = record { from = omega arith; to = omega arith };
-    addresses = (address_is_one 1 (omega arith), (address_is_one 2 (omega arith), (address_is_one 3 (omega arith), (address_is_one 4 (omega arith), (address_is_one 5 (omega arith), tt)))));
-    different = listed_apart;
-  };
+  listed = fixed_listing;
   strategy = record { from = omega arith; to = omega arith };
   margin = record { from = omega arith; to = omega arith };
   deadline = record { from = omega arith; to = omega arith };
@@ -139,6 +141,7 @@ fixed_are_settings = record {
   threshold = record { from = omega arith; to = omega arith };
   limit = record { from = omega arith; to = omega arith };
   weakly = omega arith;
+  role = record { listing = fixed_listing; among = λ a there. there };
 }
 
 -- ---- the next event

@@ -28,4 +28,5 @@ fixed = record {
   threshold = 1;
   limit = 1;
   weakly = 0;
+  role = addresses;
 }

@@ -7,11 +7,13 @@ use ak_settings::{Settings, Strategy};
 use std::alloc::{AllocError, Global};
 
 /// The settings of every generated schedule: the addresses `n1:1` to `n5:1`, a static quorum of 3, margin 6, deadline 3,
-/// stable 3, 10 shards, a buffer of 4, threshold 1 and limit 1 (this project's choice). Only memory can fail.
+/// stable 3, 10 shards, a buffer of 4, threshold 1 and limit 1; nobody is let in as WeaklyUp, and each address has the role (this
+/// project's choice). Only memory can fail.
 pub fn fixed_settings(alloc: Global) -> Result<Settings, AllocError>
     ensures { IfOk result (λ settings. settings ≡ fixed) }
 {
     let listed = addresses(alloc)?;
+    let role = addresses(alloc)?;
     Ok(Settings {
         listed,
         strategy: Strategy::StaticQuorum(3),
@@ -23,6 +25,7 @@ pub fn fixed_settings(alloc: Global) -> Result<Settings, AllocError>
         threshold: 1,
         limit: 1,
         weakly: 0,
+        role,
     })
 }
 

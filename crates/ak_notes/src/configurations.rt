@@ -27,13 +27,13 @@ pub fn say_of<'a, N: Notes>(
     );
 }
 
-/// Warns where the quorum is above the number of listed addresses.
+/// Warns where the quorum is above the number of addresses that have the role.
 pub fn warn_of_quorum<N: Notes>(alloc: Global, notes: &mut N, settings: &Settings) {
-    let listed = settings.listed.len() as u64;
     let Strategy::StaticQuorum(quorum) = settings.strategy else {
         return;
     };
-    if u64::from(quorum) <= listed {
+    let role = settings.role.len();
+    if u64::from(quorum) <= role as u64 {
         return;
     }
     say(
@@ -43,10 +43,20 @@ pub fn warn_of_quorum<N: Notes>(alloc: Global, notes: &mut N, settings: &Setting
             Piece::Text(b"warning: the quorum is "),
             Piece::Number(u64::from(quorum)),
             Piece::Text(b", and "),
-            Piece::Number(listed),
-            Piece::Text(b" addresses are listed: such a cluster can never be founded\n"),
+            Piece::Number(role as u64),
+            Piece::Text(how_counted(role < settings.listed.len())),
+            Piece::Text(b": such a cluster can never be founded\n"),
         ],
     );
+}
+
+// What the addresses are that a quorum is counted over: those that have the role, where not all have it.
+fn how_counted(some: bool) -> &'static [u8] {
+    if some {
+        b" addresses have the role"
+    } else {
+        b" addresses are listed"
+    }
 }
 
 /// Warns of an address whose name was not found.

@@ -19,7 +19,7 @@ static HEADERS: [Form; 9] = [
     },
     Form {
         name: b"strategy",
-        values: b"static-quorum with 1 to 32 addresses, keep-majority or down-all",
+        values: b"static-quorum with 1 to 32 addresses, keep-majority, keep-oldest with on or off, or down-all",
         example: b"strategy static-quorum 3",
     },
     Form {
@@ -59,12 +59,19 @@ static HEADERS: [Form; 9] = [
     },
 ];
 
-// The optional headers.
-static OPTIONAL: [Form; 1] = [Form {
-    name: b"weakly",
-    values: b"0 to 1000000 ticks",
-    example: b"weakly 20",
-}];
+// The optional headers, in their order.
+static OPTIONAL: [Form; 2] = [
+    Form {
+        name: b"weakly",
+        values: b"0 to 1000000 ticks",
+        example: b"weakly 20",
+    },
+    Form {
+        name: b"role",
+        values: b"1 to 32 different listed addresses",
+        example: b"role a:1 b:1 c:1",
+    },
+];
 
 static EVENTS: [Form; 9] = [
     Form {
@@ -137,7 +144,7 @@ pub fn say_header<N: Notes>(alloc: Global, notes: &mut N, headers: u32, line: &[
             number,
             b"the optional header ",
             form,
-            b" stands once at most, as in: ",
+            b" stands once at most, in the order weakly, role, as in: ",
         );
     }
 }

@@ -1,5 +1,5 @@
 -- Of each line it can be decided whether it is passed over, which settings it makes, and which event it spells.
-use Rattle.std.proofs.Common.{◌≡◌, ◌≢◌, ℕ, ◌-◌, ◌^◌, ◌<◌, ◌≤◌, ◌⊎◌, Bool, true, false, List, [], ◌∷◌, length, refl, sym, ap, subst, inl, inr, ◌∙◌, suc, Some, codes, arith}
+use Rattle.std.proofs.Common.{◌≡◌, ◌≢◌, ℕ, ◌+◌, ◌-◌, ◌^◌, ◌<◌, ◌≤◌, ◌⊎◌, Bool, true, false, List, [], ◌∷◌, length, refl, sym, ap, subst, inl, inr, ◌∙◌, suc, Some, slice_get, codes, arith}
 use Rattle.std.specs.Bool.{Decides}
 use Rattle.std.specs.List.{AllZip, AllPairs, AllByRecursion, list_all}
 use Rattle.std.specs.Str.{bytes_eq}
@@ -17,15 +17,16 @@ use Rattle.ak_address.proofs.SpellingLemmas.{address_read, address_parts, unique
 use Rattle.ak_schedule.specs.declared.event.Event.{Event}
 use Rattle.ak_schedule.specs.declared.event.Event.TheVariants.{Start, Found, Join, Tick, Deliver, Leave, Down, Offer, Stop}
 use Rattle.ak_schedule.specs.declared.draft.Extra.{Extra}
-use Rattle.ak_schedule.specs.declared.draft.Extra.TheVariants.{Weakly}
+use Rattle.ak_schedule.specs.declared.draft.Extra.TheVariants.{Weakly, Role}
 use Rattle.ak_schedule.specs.declared.draft.Header as header
 use Rattle.ak_settings.specs.declared.settings.Strategy.{Strategy}
-use Rattle.ak_settings.specs.declared.settings.Strategy.TheVariants.{StaticQuorum, KeepMajority, DownAll}
+use Rattle.ak_settings.specs.declared.settings.Strategy.TheVariants.{StaticQuorum, KeepMajority, KeepOldest, DownAll}
 use Rattle.ak_schedule.specs.Line.{words, is_comment, most_bytes, IsPassedOver}
-use Rattle.ak_settings.specs.Settings.{SettingsModel, IsListing}
-use Rattle.ak_schedule.specs.Schedule.{SpellsNumber, SpellsOption, SpellsSetting, SpellsStrategy, SpellsListing, Sets, SetsExtra, SetsHeader, SpellsWords, SpellsEvent, NamesExtra}
+use Rattle.ak_settings.specs.Settings.{SettingsModel, IsListing, IsRole, is_listed}
+use Rattle.ak_schedule.specs.Schedule.{SpellsNumber, SpellsOption, SpellsSetting, SpellsStrategy, SpellsListing, SpellsRole, Sets, SetsExtra, SetsHeader, SpellsWords, SpellsEvent, NamesExtra, extras}
 use Rattle.ak_schedule.specs.Draft.{Drafted, ReadsExtra}
-use Rattle.ak_schedule.proofs.OneWay.{same_addresses, at_index}
+use Rattle.ak_schedule.proofs.Listing.{all_there, there_all}
+use Rattle.ak_schedule.proofs.OneWay.{same_addresses, extra_index, at_index}
 
 -- it holds, or it does not
 abbrev pub Tells : Type 0 → Type 0
@@ -294,20 +295,45 @@ two_words name kind (n ∷ k ∷ []) =
     (both (same_bytes n name) (same_bytes k kind))
 two_words name kind (n ∷ k ∷ w ∷ ws) = inr (λ h. cc)
 
-no_strategy : (ws : List (List ℕ)) → (((q : ℕ) × SpellsStrategy ws (StaticQuorum q)) → ⊥) → (SpellsStrategy ws KeepMajority → ⊥) → (SpellsStrategy ws DownAll → ⊥)
-    → (s : Strategy) → SpellsStrategy ws s → ⊥
-no_strategy ws a b c (StaticQuorum q) h = a (q, h)
-no_strategy ws a b c KeepMajority h = b h
-no_strategy ws a b c DownAll h = c h
+three_words : (name kind last : List ℕ) (ws : List (List ℕ)) → Tells (ws ≡ name ∷ kind ∷ last ∷ [])
+three_words name kind last [] = inr (λ h. cc)
+three_words name kind last (n ∷ []) = inr (λ h. cc)
+three_words name kind last (n ∷ k ∷ []) = inr (λ h. cc)
+three_words name kind last (n ∷ k ∷ w ∷ []) =
+    alike
+    (λ h. ap (λ (x : List ℕ). x ∷ k ∷ w ∷ []) h.0 ∙ ap (λ (x : List ℕ). name ∷ x ∷ w ∷ []) h.1.0 ∙ ap (λ (x : List ℕ). name ∷ kind ∷ x ∷ []) h.1.1)
+    (λ s. let named : n ≡ name = cc in let same : k ≡ kind = cc in let word : w ≡ last = cc in (named, (same, word)))
+    (both (same_bytes n name) (both (same_bytes k kind) (same_bytes w last)))
+three_words name kind last (n ∷ k ∷ w ∷ x ∷ ws) = inr (λ h. cc)
 
-some_strategy : (ws : List (List ℕ)) → Finds {T = ℕ} (λ q. SpellsStrategy ws (StaticQuorum q)) → Tells (SpellsStrategy ws KeepMajority) → Tells (SpellsStrategy ws DownAll) → Finds (SpellsStrategy ws)
-some_strategy ws (inl h) b c = inl (StaticQuorum h.0, h.1)
-some_strategy ws (inr a) (inl h) c = inl (KeepMajority, h)
-some_strategy ws (inr a) (inr b) (inl h) = inl (DownAll, h)
-some_strategy ws (inr a) (inr b) (inr c) = inr (λ s. no_strategy ws a b c s.0 s.1)
+no_strategy : (ws : List (List ℕ)) → (((q : ℕ) × SpellsStrategy ws (StaticQuorum q)) → ⊥) → (SpellsStrategy ws KeepMajority → ⊥) → (((alone : Bool) × SpellsStrategy ws (KeepOldest alone)) → ⊥) → (SpellsStrategy ws DownAll → ⊥)
+    → (s : Strategy) → SpellsStrategy ws s → ⊥
+no_strategy ws a b c d (StaticQuorum q) h = a (q, h)
+no_strategy ws a b c d KeepMajority h = b h
+no_strategy ws a b c d (KeepOldest alone) h = c (alone, h)
+no_strategy ws a b c d DownAll h = d h
+
+some_strategy : (ws : List (List ℕ)) → Finds {T = ℕ} (λ q. SpellsStrategy ws (StaticQuorum q)) → Tells (SpellsStrategy ws KeepMajority) → Finds {T = Bool} (λ alone. SpellsStrategy ws (KeepOldest alone)) → Tells (SpellsStrategy ws DownAll) → Finds (SpellsStrategy ws)
+some_strategy ws (inl h) b c d = inl (StaticQuorum h.0, h.1)
+some_strategy ws (inr a) (inl h) c d = inl (KeepMajority, h)
+some_strategy ws (inr a) (inr b) (inl h) d = inl (KeepOldest h.0, h.1)
+some_strategy ws (inr a) (inr b) (inr c) (inl h) = inl (DownAll, h)
+some_strategy ws (inr a) (inr b) (inr c) (inr d) = inr (λ s. no_strategy ws a b c d s.0 s.1)
+
+some_switch : (P : Bool → Type 0) → Tells (P true) → Tells (P false) → Finds P
+some_switch P (inl h) off = inl (true, h)
+some_switch P (inr on) (inl h) = inl (false, h)
+some_switch P (inr on) (inr off) = inr (λ s. neither s.0 s.1)
+  where
+    neither : (alone : Bool) → P alone → ⊥
+    neither true h = on h
+    neither false h = off h
+
+oldest : (ws : List (List ℕ)) → Finds {T = Bool} (λ alone. SpellsStrategy ws (KeepOldest alone))
+oldest ws = some_switch (λ alone. SpellsStrategy ws (KeepOldest alone)) (three_words (codes "strategy") (codes "keep-oldest") (codes "on") ws) (three_words (codes "strategy") (codes "keep-oldest") (codes "off") ws)
 
 strategy : (ws : List (List ℕ)) → Finds (SpellsStrategy ws)
-strategy ws = some_strategy ws (quorum ws) (two_words (codes "strategy") (codes "keep-majority") ws) (two_words (codes "strategy") (codes "down-all") ws)
+strategy ws = some_strategy ws (quorum ws) (two_words (codes "strategy") (codes "keep-majority") ws) (oldest ws) (two_words (codes "strategy") (codes "down-all") ws)
 
 put : {T : Type 0} (P : T → Type 0) (new : T → SettingsModel) → Finds P → Finds {T = SettingsModel} (λ s. (t : T) × P t × (s ≡ new t))
 put P new h = alike (λ t. (new t.0, (t.0, t.1, refl))) (λ s. (s.1.0, s.1.1)) h
@@ -316,7 +342,7 @@ setting : (name : List ℕ) (most : ℕ) (ws : List (List ℕ)) → Finds (Spell
 setting name most ws = one (λ w n. SpellsNumber w 1 most n) (number 1 most) name ws
 
 sets : (which : header.Header) (ws : List (List ℕ)) (old : SettingsModel) → Finds (Sets which ws old)
-sets header.TheVariants.Listed ws old = put (SpellsListing ws) (λ x. record old { listed = x }) (listing ws)
+sets header.TheVariants.Listed ws old = put (SpellsListing ws) (λ x. record old { listed = x; role = x }) (listing ws)
 sets header.TheVariants.Strategy ws old = put (SpellsStrategy ws) (λ x. record old { strategy = x }) (strategy ws)
 sets header.TheVariants.Margin ws old = put (SpellsSetting (codes "margin") 1000000 ws) (λ x. record old { margin = x }) (setting (codes "margin") 1000000 ws)
 sets header.TheVariants.Deadline ws old = put (SpellsSetting (codes "deadline") 1000000 ws) (λ x. record old { deadline = x }) (setting (codes "deadline") 1000000 ws)
@@ -336,33 +362,75 @@ set_header which line old =
 -- ---- an optional header
 pub named_extra : (ws : List (List ℕ)) → Tells (NamesExtra ws)
 named_extra [] = inr (λ h. cc)
-named_extra (w ∷ ws) = alike (λ is. (Weakly, ws, ap (λ (x : List ℕ). x ∷ ws) is)) first_is (same_bytes w (codes "weakly"))
+named_extra (w ∷ ws) = alike names named (one_of (same_bytes w (codes "weakly")) (same_bytes w (codes "role")))
   where
-    first_is : NamesExtra (w ∷ ws) → w ≡ codes "weakly"
-    first_is (Weakly, rest, is) = cc
+    names : (w ≡ codes "weakly") ⊎ (w ≡ codes "role") → NamesExtra (w ∷ ws)
+    names (inl is) = (Weakly, ws, ap (λ (x : List ℕ). x ∷ ws) is)
+    names (inr is) = (Role, ws, ap (λ (x : List ℕ). x ∷ ws) is)
+
+    named : NamesExtra (w ∷ ws) → (w ≡ codes "weakly") ⊎ (w ≡ codes "role")
+    named (Weakly, rest, is) = let first : w ≡ codes "weakly" = cc in inl first
+    named (Role, rest, is) = let first : w ≡ codes "role" = cc in inr first
 
 option : (name : List ℕ) (most : ℕ) (ws : List (List ℕ)) → Finds (SpellsOption name most ws)
 option name most ws = one (λ w n. SpellsNumber w 0 most n) (number 0 most) name ws
 
+is_role : (listed role : List AddressModel) → Tells (IsRole listed role)
+is_role listed role =
+    alike
+    (λ h. record { listing = h.0; among = all_there listed role h.1 })
+    (λ s. (s.listing, there_all listed role s.among))
+    (both (is_listing role) (is_true (list_all (λ a. is_listed listed a) role)))
+
+role_of : (listed : List AddressModel) (names : List (List ℕ)) → Finds (AllZip SpellsAddress names) → Finds {T = List AddressModel} (λ role. AllZip SpellsAddress names role × IsRole listed role)
+role_of listed names (inl h) =
+    alike (λ is. (h.0, (h.1, is))) (λ s. subst (IsRole listed) (same_addresses names s.0 h.0 s.1.0 h.1) s.1.1) (is_role listed h.0)
+role_of listed names (inr fails) = inr (λ s. fails (s.0, s.1.0))
+
+role : (ws : List (List ℕ)) (listed : List AddressModel) → Finds (SpellsRole ws listed)
+role [] listed = inr (λ h. let none : [] ≡ codes "role" ∷ h.1.0 = h.1.1 in cc)
+role (n ∷ names) listed =
+    alike
+    (λ h. (h.1.0, (names, ap (λ (w : List ℕ). w ∷ names) h.0, h.1.1.0, h.1.1.1)))
+    (λ s. let named : n ≡ codes "role" = cc in let rest : s.1.0 ≡ names = cc in
+    (named, (s.0, (subst (λ (l : List (List ℕ)). AllZip SpellsAddress l s.0) rest s.1.2, s.1.3))))
+    (both (same_bytes n (codes "role")) (role_of listed names (addresses names)))
+
 sets_extra : (which : Extra) (ws : List (List ℕ)) (old : SettingsModel) → Finds (SetsExtra which ws old)
 sets_extra Weakly ws old = put (SpellsOption (codes "weakly") 1000000 ws) (λ x. record old { weakly = x }) (option (codes "weakly") 1000000 ws)
+sets_extra Role ws old = put (SpellsRole ws old.listed) (λ x. record old { role = x }) (role ws old.listed)
+
+-- it may still come, and its words set it
+abbrev ReadsAs : Extra → List ℕ → Drafted → Type 0
+ReadsAs which line old = (length line ≤ most_bytes) × ((old.extra ≤ extra_index which) × ((t : SettingsModel) × SetsExtra which (words line) old.settings t))
+
+as_read : (which : Extra) (line : List ℕ) (old : Drafted) → slice_get extras (extra_index which) ≡ Some which → ReadsAs which line old → (new : Drafted) × ReadsExtra line old new
+as_read which line old there h = (
+  record { read = old.read; extra = extra_index which + 1; settings = h.1.1.0 },
+  record { which = which; index = extra_index which; next = there; later = h.1.0; sets = record { short = h.0; words = h.1.1.1 }; same_read = refl; past = refl },
+)
+
+read_as : (line : List ℕ) (old new : Drafted) (r : ReadsExtra line old new) → ReadsAs r.which line old
+read_as line old new r =
+    let at : r.index ≡ extra_index r.which = at_index r.index r.which r.next in
+    (r.sets.short, (subst (λ n. old.extra ≤ n) at r.later, (new.settings, r.sets.words)))
+
+reads_as : (which : Extra) (line : List ℕ) (old : Drafted) → Tells (ReadsAs which line old)
+reads_as which line old = both (at_most (length line) most_bytes) (both (at_most old.extra (extra_index which)) (sets_extra which (words line) old.settings))
 
 pub set_extra : (line : List ℕ) (old : Drafted) → Finds (ReadsExtra line old)
-set_extra line old =
-    alike
-    (λ h. (
-      record { read = old.read; extra = 1; settings = h.1.1.0 },
-      record { which = Weakly; index = 0; next = refl; later = h.1.0; sets = record { short = h.0; words = h.1.1.1 }; same_read = refl; past = refl },
-    ))
-    (λ s. parts s.0 s.1 s.1.which refl)
-    (both (at_most (length line) most_bytes) (both (at_most old.extra 0) (sets_extra Weakly (words line) old.settings)))
+set_extra line old = alike reads read (one_of (reads_as Weakly line old) (reads_as Role line old))
   where
-    parts : (new : Drafted) (r : ReadsExtra line old new) (which : Extra) → r.which ≡ which
-        → (length line ≤ most_bytes) × ((old.extra ≤ 0) × ((t : SettingsModel) × SetsExtra Weakly (words line) old.settings t))
-    parts new r Weakly is =
-        let at : r.index ≡ 0 = at_index r.index Weakly (r.next ∙ ap Some is) in
-        let later = r.later in
-        (r.sets.short, (omega (arith, at, later), (new.settings, subst (λ (w : Extra). SetsExtra w (words line) old.settings new.settings) is r.sets.words)))
+    reads : ReadsAs Weakly line old ⊎ ReadsAs Role line old → (new : Drafted) × ReadsExtra line old new
+    reads (inl h) = as_read Weakly line old refl h
+    reads (inr h) = as_read Role line old refl h
+
+    by_which : (which : Extra) → ReadsAs which line old → ReadsAs Weakly line old ⊎ ReadsAs Role line old
+    by_which Weakly h = inl h
+    by_which Role h = inr h
+
+    read : (new : Drafted) × ReadsExtra line old new → ReadsAs Weakly line old ⊎ ReadsAs Role line old
+    read s = by_which s.1.which (read_as line old s.0 s.1)
 
 -- ---- a line that is passed over
 no_words : (ws : List (List ℕ)) → Tells (ws ≡ [])

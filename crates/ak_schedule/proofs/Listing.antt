@@ -1,7 +1,7 @@
 -- The addresses of a header line, read one after another.
-use Rattle.std.proofs.Common.{◌≡◌, ◌≢◌, ℕ, ◌≤◌, List, [], ◌∷◌, ◌++◌, length, sym, ◌∙◌, ap, subst, refl, arith, append_assoc, length-append, rules}
+use Rattle.std.proofs.Common.{◌≡◌, ◌≢◌, ℕ, ◌≤◌, List, [], ◌∷◌, ◌++◌, length, sym, ◌∙◌, ap, subst, refl, arith, append_assoc, length-append, rules, codes, Bool, true, false, ◌&&◌, inl, inr, true≢false}
 use Rattle.std.specs.Prelude.{MatchOption, Option, Contains}
-use Rattle.std.specs.List.{AllZip, AllPairs, AllByRecursion}
+use Rattle.std.specs.List.{AllZip, AllPairs, AllByRecursion, list_all}
 use Rattle.std.proofs.lemmas.List.{get_or_append_left, get_or_at}
 use Rattle.std.proofs.lemmas.List.Elements.{All-from_recursion, recursion_from_All, All-push, Contains-get_or}
 use Rattle.std.proofs.lemmas.List.Quantifiers.{all_pairs_push}
@@ -11,9 +11,12 @@ use Rattle.ak_address.proofs.SpellingLemmas.{address_same}
 use Rattle.ak_schedule.specs.declared.fault.LineFault.{LineFault}
 use Rattle.ak_schedule.specs.declared.fault.LineFault.TheVariants.{Malformed, BadHeader, NoMemory}
 use Rattle.ak_settings.specs.declared.settings.Strategy.{Strategy}
-use Rattle.ak_settings.specs.Settings.{IsListing}
+use Rattle.ak_settings.specs.Settings.{IsListing, IsRole, is_listed}
+use Rattle.ak_address.proofs.AmongLaws.{contains_from, among_means}
+use Rattle.ak_address.proofs.Elements.{contains_first, contains_rest, contains_nothing, first_or_rest}
 use Rattle.ak_schedule.specs.Draft.{RefusesValue, SpellsAddresses, SpellsNext}
-use Rattle.ak_schedule.specs.Schedule.{SpellsStrategy}
+use Rattle.ak_schedule.proofs.OneWay.{same_addresses}
+use Rattle.ak_schedule.specs.Schedule.{SpellsRole, SpellsStrategy}
 
 -- the names up to here spell these addresses, and each list that all names spell begins with them
 pub record SpelledSoFar (names rest : List (List ℕ)) (listed : List AddressModel) : Type 0 where
@@ -97,3 +100,36 @@ not_twice name listed a spelt among b next = next.1.other (subst (Contains liste
 pub strategy_words : (ws vs : List (List ℕ)) (r : Option Strategy) → ws ≡ vs → MatchOption r ((s : Strategy) → SpellsStrategy vs s → ⊥) (λ s. SpellsStrategy vs s)
     → MatchOption r ((s : Strategy) → SpellsStrategy ws s → ⊥) (λ s. SpellsStrategy ws s)
 strategy_words ws vs r same h = rw same h
+
+-- ---- those that have the role
+role_words : (ws names : List (List ℕ)) (listed role : List AddressModel) → ws ≡ codes "role" ∷ names → SpellsRole ws listed role → AllZip SpellsAddress names role × IsRole listed role
+role_words ws names listed role cut s =
+    let whole : codes "role" ∷ s.0 ≡ codes "role" ∷ names = sym s.1 ∙ cut in
+    let same : s.0 ≡ names = cc in
+    (subst (λ (ns : List (List ℕ)). AllZip SpellsAddress ns role) same s.2, s.3)
+
+pub role_refused : (ws names : List (List ℕ)) (listed : List AddressModel) (fault : LineFault) → ws ≡ codes "role" ∷ names → RefusesValue (SpellsAddresses names) fault → RefusesValue (SpellsRole ws listed) fault
+role_refused ws names listed fault cut h = value_refused (SpellsAddresses names) (SpellsRole ws listed) fault h (λ r s. let w = role_words ws names listed r cut s in (r, (w.0, w.1.listing)))
+
+-- they are all listed
+pub all_there : (listed role : List AddressModel) → list_all (λ a. is_listed listed a) role ≡ true → (a : AddressModel) → Contains role a → Contains listed a
+all_there listed [] is a there = absurd (contains_nothing a there)
+all_there listed (b ∷ role) is a there = by_first (is_listed listed b) refl is (λ rest. all_there listed role rest a)
+  where
+    by_first : (t : Bool) → is_listed listed b ≡ t → (t && list_all (λ a. is_listed listed a) role) ≡ true → (list_all (λ a. is_listed listed a) role ≡ true → Contains role a → Contains listed a) → Contains listed a
+    by_first true first rest on = elim (first_or_rest b a role there) [ inl same ↦ subst (Contains listed) (sym same) (contains_from listed b first) | inr later ↦ on rest later ]
+    by_first false first rest on = absurd (true≢false (sym rest))
+
+pub there_all : (listed role : List AddressModel) → ((a : AddressModel) → Contains role a → Contains listed a) → list_all (λ a. is_listed listed a) role ≡ true
+there_all listed [] among = refl
+there_all listed (b ∷ role) among = λ i. (among_means listed b).1 (among b (contains_first b role)) i && there_all listed role (λ a there. among a (contains_rest b a role there)) i
+
+pub role_unlisted : (ws names : List (List ℕ)) (listed role : List AddressModel) → ws ≡ codes "role" ∷ names → SpellsAddresses names role → list_all (λ a. is_listed listed a) role ≡ false
+    → (r : List AddressModel) → SpellsRole ws listed r → ⊥
+role_unlisted ws names listed role cut spelt never r s =
+    let w = role_words ws names listed r cut s in
+    let same : r ≡ role = same_addresses names r role w.0 spelt.0 in
+    true≢false (sym (there_all listed role (λ a there. w.1.among a (subst (λ (l : List AddressModel). Contains l a) (sym same) there))) ∙ never)
+
+pub role_spelled : (ws names : List (List ℕ)) (listed role : List AddressModel) → ws ≡ codes "role" ∷ names → SpellsAddresses names role → list_all (λ a. is_listed listed a) role ≡ true → SpellsRole ws listed role
+role_spelled ws names listed role cut spelt all = (names, cut, spelt.0, record { listing = spelt.1; among = all_there listed role all })

@@ -1,6 +1,7 @@
 -- A line is read in one way at most.
-use Rattle.std.proofs.Common.{◌≡◌, ℕ, ◌+◌, List, [], ◌∷◌, zero, suc, sym, ◌∙◌, ap, subst, refl, codes, arith}
+use Rattle.std.proofs.Common.{◌≡◌, ℕ, nat_eq, ◌+◌, Bool, true, false, if◌then◌else◌, List, [], ◌∷◌, length, zero, suc, sym, ◌∙◌, ap, subst, refl, codes, arith}
 use Rattle.std.specs.Prelude.{Some, slice_get}
+use Rattle.std.specs.Cmp.Lexicographic.{pointwise}
 use Rattle.std.specs.List.{AllZip}
 use Rattle.ak_address.specs.Unique.{AddressModel, UniqueModel}
 use Rattle.ak_address.specs.Spelling.{IsNumber, SpellsAddress, SpellsUnique}
@@ -8,12 +9,12 @@ use Rattle.ak_address.proofs.SpellingLemmas.{number_same, address_same, unique_s
 use Rattle.ak_schedule.specs.declared.event.Event.{Event}
 use Rattle.ak_schedule.specs.declared.event.Event.TheVariants.{Start, Found, Join, Tick, Deliver, Leave, Down, Offer, Stop}
 use Rattle.ak_schedule.specs.declared.draft.Extra.{Extra}
-use Rattle.ak_schedule.specs.declared.draft.Extra.TheVariants.{Weakly}
+use Rattle.ak_schedule.specs.declared.draft.Extra.TheVariants.{Weakly, Role}
 use Rattle.ak_schedule.specs.declared.draft.Header as header
 use Rattle.ak_settings.specs.declared.settings.Strategy.{Strategy}
-use Rattle.ak_settings.specs.declared.settings.Strategy.TheVariants.{StaticQuorum, KeepMajority, DownAll}
+use Rattle.ak_settings.specs.declared.settings.Strategy.TheVariants.{StaticQuorum, KeepMajority, KeepOldest, DownAll}
 use Rattle.ak_settings.specs.Settings.{SettingsModel}
-use Rattle.ak_schedule.specs.Schedule.{Sets, SetsExtra, SetsHeader, SpellsEvent, SpellsWords, SpellsOption, SpellsSetting, SpellsStrategy, SpellsListing, extra_name, extras}
+use Rattle.ak_schedule.specs.Schedule.{Sets, SetsExtra, SetsHeader, SpellsEvent, SpellsWords, SpellsOption, SpellsSetting, SpellsStrategy, SpellsListing, SpellsRole, extra_name, extras, switch_word}
 use Rattle.ak_schedule.specs.Draft.{Drafted, ReadsExtra, ReadsHeader}
 use Rattle.ak_schedule.specs.Line.{words}
 use Rattle.ak_schedule.specs.Kind.{kind_name}
@@ -91,26 +92,41 @@ same_addresses (w ∷ ws) (a ∷ as') (b ∷ bs) h g =
 same_setting : (name : List ℕ) (most : ℕ) (ws : List (List ℕ)) (m n : ℕ) → SpellsSetting name most ws m → SpellsSetting name most ws n → m ≡ n
 same_setting name most ws m n h g = let w : h.0 ≡ g.0 = cc in same_number h.0 g.0 m n w h.2.number g.2.number
 
--- the first byte of a strategy's name says which it is
-abbrev strategy_byte : Strategy → ℕ
-strategy_byte (StaticQuorum quorum) = 115
-strategy_byte KeepMajority = 107
-strategy_byte DownAll = 100
+-- a strategy's name says which it is: the number of the strategy that has this name, and the name in a line
+abbrev strategy_index : Strategy → ℕ
+strategy_index (StaticQuorum quorum) = 0
+strategy_index KeepMajority = 1
+strategy_index (KeepOldest alone) = 2
+strategy_index DownAll = 3
 
-abbrev second_byte : List (List ℕ) → ℕ
-second_byte (name ∷ (b ∷ bs) ∷ ws) = b
-second_byte (name ∷ [] ∷ ws) = 0
-second_byte (name ∷ []) = 0
-second_byte [] = 0
+abbrev name_index : List ℕ → ℕ
+name_index name =
+    if pointwise nat_eq name (codes "static-quorum") then 0
+    else if pointwise nat_eq name (codes "keep-majority") then 1
+    else if pointwise nat_eq name (codes "keep-oldest") then 2
+    else 3
 
-told : (ws : List (List ℕ)) (s : Strategy) → SpellsStrategy ws s → second_byte ws ≡ strategy_byte s
-told ws (StaticQuorum quorum) h = ap second_byte h.1
-told ws KeepMajority h = ap second_byte h
-told ws DownAll h = ap second_byte h
+abbrev named_strategy : List (List ℕ) → ℕ
+named_strategy (first ∷ name ∷ ws) = name_index name
+named_strategy (first ∷ []) = 3
+named_strategy [] = 3
 
-same_strategy : (ws : List (List ℕ)) (s t : Strategy) → strategy_byte s ≡ strategy_byte t → SpellsStrategy ws s → SpellsStrategy ws t → s ≡ t
+told : (ws : List (List ℕ)) (s : Strategy) → SpellsStrategy ws s → named_strategy ws ≡ strategy_index s
+told ws (StaticQuorum quorum) h = ap named_strategy h.1
+told ws KeepMajority h = ap named_strategy h
+told ws (KeepOldest alone) h = ap named_strategy h
+told ws DownAll h = ap named_strategy h
+
+same_switch : (a b : Bool) → switch_word a ≡ switch_word b → a ≡ b
+same_switch true true same = refl
+same_switch true false same = let n = ap length same in absurd (omega arith)
+same_switch false true same = let n = ap length same in absurd (omega arith)
+same_switch false false same = refl
+
+same_strategy : (ws : List (List ℕ)) (s t : Strategy) → strategy_index s ≡ strategy_index t → SpellsStrategy ws s → SpellsStrategy ws t → s ≡ t
 same_strategy ws (StaticQuorum m) (StaticQuorum n) same = λ h g. let w : h.0 ≡ g.0 = cc in ap StaticQuorum (same_number h.0 g.0 m n w h.2.number g.2.number)
 same_strategy ws KeepMajority KeepMajority same = λ h g. refl
+same_strategy ws (KeepOldest a) (KeepOldest b) same = λ h g. let w : switch_word a ≡ switch_word b = cc in ap KeepOldest (same_switch a b w)
 same_strategy ws DownAll DownAll same = λ h g. refl
 same_strategy ws s t same = absurd (omega arith)
 
@@ -121,7 +137,7 @@ same_listing ws one other h g =
 
 same_settings : (which : header.Header) (ws : List (List ℕ)) (old one other : SettingsModel) → Sets which ws old one → Sets which ws old other → one ≡ other
 same_settings header.TheVariants.Listed ws old one other h g =
-    h.2 ∙ ap (λ (x : List AddressModel). record old { listed = x }) (same_listing ws h.0 g.0 h.1 g.1) ∙ sym g.2
+    h.2 ∙ ap (λ (x : List AddressModel). record old { listed = x; role = x }) (same_listing ws h.0 g.0 h.1 g.1) ∙ sym g.2
 same_settings header.TheVariants.Strategy ws old one other h g =
     h.2 ∙ ap (λ (x : Strategy). record old { strategy = x }) (same_strategy ws h.0 g.0 (sym (told ws h.0 h.1) ∙ told ws g.0 g.1) h.1 g.1) ∙ sym g.2
 same_settings header.TheVariants.Margin ws old one other h g =
@@ -153,24 +169,39 @@ one_draft line old one other h g =
 same_option : (name : List ℕ) (most : ℕ) (ws : List (List ℕ)) (m n : ℕ) → SpellsOption name most ws m → SpellsOption name most ws n → m ≡ n
 same_option name most ws m n h g = let w : h.0 ≡ g.0 = cc in same_number h.0 g.0 m n w h.2.number g.2.number
 
+same_role : (ws : List (List ℕ)) (listed one other : List AddressModel) → SpellsRole ws listed one → SpellsRole ws listed other → one ≡ other
+same_role ws listed one other h g =
+    let names : h.0 ≡ g.0 = cc in
+    same_addresses g.0 one other (subst (λ (ns : List (List ℕ)). AllZip SpellsAddress ns one) names h.2) g.2
+
 same_extra : (which : Extra) (ws : List (List ℕ)) (old one other : SettingsModel) → SetsExtra which ws old one → SetsExtra which ws old other → one ≡ other
 same_extra Weakly ws old one other h g =
     h.2 ∙ ap (λ (x : ℕ). record old { weakly = x }) (same_option (codes "weakly") 1000000 ws h.0 g.0 h.1 g.1) ∙ sym g.2
+same_extra Role ws old one other h g =
+    h.2 ∙ ap (λ (x : List AddressModel). record old { role = x }) (same_role ws old.listed h.0 g.0 h.1 g.1) ∙ sym g.2
 
 -- its first word is its name, and tells which it is
 pub begins_extra : (which : Extra) (ws : List (List ℕ)) (old new : SettingsModel) → SetsExtra which ws old new → (rest : List (List ℕ)) × (ws ≡ extra_name which ∷ rest)
 begins_extra Weakly ws old new h = (h.1.0 ∷ [], h.1.1)
+begins_extra Role ws old new h = (h.1.0, h.1.1)
 
 told_extra : (one other : Extra) → extra_name one ≡ extra_name other → one ≡ other
 told_extra Weakly Weakly same = refl
+told_extra Weakly Role same = let n = ap length same in absurd (omega (arith, n))
+told_extra Role Weakly same = let n = ap length same in absurd (omega (arith, n))
+told_extra Role Role same = refl
 
 -- it stands at one index
-abbrev extra_index : Extra → ℕ
+abbrev pub extra_index : Extra → ℕ
 extra_index Weakly = 0
+extra_index Role = 1
 
 pub at_index : (index : ℕ) (which : Extra) → slice_get extras index ≡ Some which → index ≡ extra_index which
 at_index zero Weakly is = refl
-at_index (suc index) which is = absurd (cc)
+at_index zero Role is = absurd (cc)
+at_index (suc zero) Weakly is = absurd (cc)
+at_index (suc zero) Role is = refl
+at_index (suc (suc index)) which is = absurd (cc)
 
 pub one_extra : (line : List ℕ) (old one other : Drafted) → ReadsExtra line old one → ReadsExtra line old other → one ≡ other
 one_extra line old one other h g =

@@ -1,17 +1,20 @@
 -- A line that is passed over is no event line and no header line, and no event line begins as an optional header does.
-use Rattle.std.proofs.Common.{◌≡◌, ℕ, true, false, ◌==◌, List, [], ◌∷◌, ap, refl, arith, inl, inr, codes}
+use Rattle.std.proofs.Common.{◌≡◌, ℕ, nat_eq, Bool, true, false, ◌==◌, ◌||◌, List, [], ◌∷◌, ap, sym, ◌∙◌, refl, arith, inl, inr, codes}
 use Rattle.std.specs.Prelude.{filter}
 use Rattle.std.specs.List.{slice_split, onto_first}
+use Rattle.std.specs.Cmp.Lexicographic.{pointwise}
+use Rattle.std.proofs.lemmas.Bool.{false≢true}
 use Rattle.std.proofs.lemmas.Bool.Decides.{nat_tests, Decides-eqb}
 use Rattle.ak_schedule.specs.declared.event.Event.{Event}
 use Rattle.ak_schedule.specs.declared.event.Event.TheVariants.{Start, Found, Join, Tick, Deliver, Leave, Down, Offer, Stop}
-use Rattle.ak_schedule.specs.declared.draft.Extra.TheVariants.{Weakly}
+use Rattle.ak_schedule.specs.declared.draft.Extra.{Extra}
+use Rattle.ak_schedule.specs.declared.draft.Extra.TheVariants.{Weakly, Role}
 use Rattle.ak_schedule.specs.declared.draft.Header as header
 use Rattle.ak_settings.specs.declared.settings.Strategy.{Strategy}
-use Rattle.ak_settings.specs.declared.settings.Strategy.TheVariants.{StaticQuorum, KeepMajority, DownAll}
+use Rattle.ak_settings.specs.declared.settings.Strategy.TheVariants.{StaticQuorum, KeepMajority, KeepOldest, DownAll}
 use Rattle.ak_schedule.specs.Line.{words, begins, is_comment, IsPassedOver}
 use Rattle.ak_settings.specs.Settings.{SettingsModel}
-use Rattle.ak_schedule.specs.Schedule.{SpellsEvent, SpellsWords, SpellsStrategy, Sets, SetsHeader, NamesExtra}
+use Rattle.ak_schedule.specs.Schedule.{SpellsEvent, SpellsWords, SpellsStrategy, Sets, SetsHeader, NamesExtra, extra_name}
 use Rattle.ak_schedule.specs.Kind as kind
 use Rattle.ak_schedule.specs.Kind.{kind_name}
 use Rattle.ak_schedule.proofs.EventWords.{event_kind, named}
@@ -52,6 +55,7 @@ event_byte ws (Stop u) h same = not_comment 115 (first_byte ws) (ap first_byte h
 strategy_line : (ws : List (List ℕ)) (s : Strategy) → SpellsStrategy ws s → first_byte ws ≡ 115
 strategy_line ws (StaticQuorum quorum) h = ap first_byte h.1
 strategy_line ws KeepMajority h = ap first_byte h
+strategy_line ws (KeepOldest alone) h = ap first_byte h
 strategy_line ws DownAll h = ap first_byte h
 
 header_byte : (which : header.Header) (ws : List (List ℕ)) (old new : SettingsModel) → Sets which ws old new → first_byte ws ≡ 35 → ⊥
@@ -73,25 +77,31 @@ no_header which line old new passed sets = header_byte which (words line) old ne
 
 extra_byte : (ws : List (List ℕ)) → NamesExtra ws → first_byte ws ≡ 35 → ⊥
 extra_byte ws (Weakly, rest, is) same = not_comment 119 (first_byte ws) (ap first_byte is) refl same
+extra_byte ws (Role, rest, is) same = not_comment 114 (first_byte ws) (ap first_byte is) refl same
 
 pub no_extra : (line : List ℕ) → IsPassedOver line → NamesExtra (words line) → ⊥
 no_extra line passed names = extra_byte (words line) names (passed_byte line passed)
 
 -- ---- the first words of events are those of no optional header
-abbrev byte_of : List ℕ → ℕ
-byte_of [] = 0
-byte_of (b ∷ bs) = b
+abbrev is_extra_word : List ℕ → Bool
+is_extra_word word = pointwise nat_eq word (codes "weakly") || pointwise nat_eq word (codes "role")
 
-not_weakly : (k : kind.Kind) → codes "weakly" ≡ kind_name k → ⊥
-not_weakly kind.Start is = let same : 119 ≡ 115 = ap byte_of is in omega (arith, same)
-not_weakly kind.Found is = let same : 119 ≡ 102 = ap byte_of is in omega (arith, same)
-not_weakly kind.Join is = let same : 119 ≡ 106 = ap byte_of is in omega (arith, same)
-not_weakly kind.Tick is = let same : 119 ≡ 116 = ap byte_of is in omega (arith, same)
-not_weakly kind.Deliver is = let same : 119 ≡ 100 = ap byte_of is in omega (arith, same)
-not_weakly kind.Leave is = let same : 119 ≡ 108 = ap byte_of is in omega (arith, same)
-not_weakly kind.Down is = let same : 119 ≡ 100 = ap byte_of is in omega (arith, same)
-not_weakly kind.Offer is = let same : 119 ≡ 111 = ap byte_of is in omega (arith, same)
-not_weakly kind.Stop is = let same : 119 ≡ 115 = ap byte_of is in omega (arith, same)
+of_extra : (which : Extra) → is_extra_word (extra_name which) ≡ true
+of_extra Weakly = refl
+of_extra Role = refl
+
+of_event : (k : kind.Kind) → is_extra_word (kind_name k) ≡ false
+of_event kind.Start = refl
+of_event kind.Found = refl
+of_event kind.Join = refl
+of_event kind.Tick = refl
+of_event kind.Deliver = refl
+of_event kind.Leave = refl
+of_event kind.Down = refl
+of_event kind.Offer = refl
+of_event kind.Stop = refl
 
 pub no_named_event : (line : List ℕ) (e : Event) → SpellsEvent line e → NamesExtra (words line) → ⊥
-no_named_event line e spelt (Weakly, rest, is) = not_weakly (event_kind e) (named (words line) rest (codes "weakly") is e spelt.words)
+no_named_event line e spelt (which, rest, is) =
+    let same : extra_name which ≡ kind_name (event_kind e) = named (words line) rest (extra_name which) is e spelt.words in
+    false≢true (sym (of_event (event_kind e)) ∙ ap is_extra_word (sym same) ∙ of_extra which)

@@ -1,18 +1,18 @@
 -- The grammar of a recorded schedule: nine header lines and then events, one a line (this project's format).
-use Rattle.std.specs.Prelude.{◌≡◌, ℕ, ◌-◌, ◌^◌, ◌<◌, ◌≤◌, List, [], ◌∷◌, ◌++◌, length, codes}
+use Rattle.std.specs.Prelude.{◌≡◌, ℕ, ◌-◌, ◌^◌, ◌<◌, ◌≤◌, Bool, true, false, List, [], ◌∷◌, ◌++◌, length, codes}
 use Rattle.std.specs.List.{AllZip}
 use Rattle.ak_field.specs.Ranges.{IsEntity}
 use Rattle.std.specs.Fmt.{decimal}
 use Rattle.ak_address.specs.Unique.{AddressModel, IsAddress, IsUnique}
 use Rattle.ak_address.specs.Spelling.{IsNumber, SpellsAddress, SpellsUnique, address_text, unique_text}
 use Rattle.ak_settings.specs.declared.settings.Strategy.{Strategy}
-use Rattle.ak_settings.specs.declared.settings.Strategy.TheVariants.{StaticQuorum, KeepMajority, DownAll}
+use Rattle.ak_settings.specs.declared.settings.Strategy.TheVariants.{StaticQuorum, KeepMajority, KeepOldest, DownAll}
 use Rattle.ak_schedule.specs.declared.event.Event.{Event}
 use Rattle.ak_schedule.specs.declared.event.Event.TheVariants.{Start, Found, Join, Tick, Deliver, Leave, Down, Offer, Stop}
 use Rattle.ak_schedule.specs.declared.draft.Extra as extra
 use Rattle.ak_schedule.specs.declared.draft.Header as header
 use Rattle.ak_schedule.specs.Line.{words, most_bytes}
-use Rattle.ak_settings.specs.Settings.{SettingsModel, IsListing}
+use Rattle.ak_settings.specs.Settings.{SettingsModel, IsListing, IsRole}
 
 -- a word is a number from least to most
 pub record SpellsNumber (word : List ℕ) (least most n : ℕ) : Type 0 where
@@ -24,20 +24,26 @@ pub record SpellsNumber (word : List ℕ) (least most n : ℕ) : Type 0 where
 abbrev pub SpellsSetting : List ℕ → ℕ → List (List ℕ) → ℕ → Type 0
 SpellsSetting name most ws n = (word : List ℕ) × (ws ≡ name ∷ word ∷ []) × SpellsNumber word 1 most n
 
+-- a flag
+abbrev pub switch_word : Bool → List ℕ
+switch_word true = codes "on"
+switch_word false = codes "off"
+
 abbrev pub SpellsStrategy : List (List ℕ) → Strategy → Type 0
 SpellsStrategy ws (StaticQuorum quorum) =
     (word : List ℕ) × (ws ≡ codes "strategy" ∷ codes "static-quorum" ∷ word ∷ []) × SpellsNumber word 1 32 quorum
 SpellsStrategy ws KeepMajority = ws ≡ codes "strategy" ∷ codes "keep-majority" ∷ []
+SpellsStrategy ws (KeepOldest alone) = ws ≡ codes "strategy" ∷ codes "keep-oldest" ∷ switch_word alone ∷ []
 SpellsStrategy ws DownAll = ws ≡ codes "strategy" ∷ codes "down-all" ∷ []
 
 abbrev pub SpellsListing : List (List ℕ) → List AddressModel → Type 0
 SpellsListing ws listed =
     (names : List (List ℕ)) × (ws ≡ codes "listed" ∷ names) × AllZip SpellsAddress names listed × IsListing listed
 
--- a header line with these words gives the setting its value, and leaves the others
+-- a header line with these words gives the setting its value, and leaves the others; each address that is listed has the role
 abbrev pub Sets : header.Header → List (List ℕ) → SettingsModel → SettingsModel → Type 0
 Sets header.TheVariants.Listed ws old new =
-    (listed : List AddressModel) × SpellsListing ws listed × (new ≡ record old { listed = listed })
+    (listed : List AddressModel) × SpellsListing ws listed × (new ≡ record old { listed = listed; role = listed })
 Sets header.TheVariants.Strategy ws old new =
     (strategy : Strategy) × SpellsStrategy ws strategy × (new ≡ record old { strategy = strategy })
 Sets header.TheVariants.Margin ws old new = (n : ℕ) × SpellsSetting (codes "margin") 1000000 ws n × (new ≡ record old { margin = n })
@@ -55,18 +61,28 @@ SpellsOption name most ws n = (word : List ℕ) × (ws ≡ name ∷ word ∷ [])
 -- the first word of an optional header
 abbrev pub extra_name : extra.Extra → List ℕ
 extra_name extra.TheVariants.Weakly = codes "weakly"
+extra_name extra.TheVariants.Role = codes "role"
 
 -- a line with these words begins with the word of an optional header
 abbrev pub NamesExtra : List (List ℕ) → Type 0
 NamesExtra ws = (which : extra.Extra) × (rest : List (List ℕ)) × (ws ≡ extra_name which ∷ rest)
 
+-- a line with these words begins with the word of a role
+abbrev pub NamesRole : List (List ℕ) → Type 0
+NamesRole ws = (rest : List (List ℕ)) × (ws ≡ extra_name extra.TheVariants.Role ∷ rest)
+
+-- some of the listed addresses
+abbrev pub SpellsRole : List (List ℕ) → List AddressModel → List AddressModel → Type 0
+SpellsRole ws listed role = (names : List (List ℕ)) × (ws ≡ codes "role" ∷ names) × AllZip SpellsAddress names role × IsRole listed role
+
 -- an optional header line with these words gives the setting its value, and leaves the others
 abbrev pub SetsExtra : extra.Extra → List (List ℕ) → SettingsModel → SettingsModel → Type 0
 SetsExtra extra.TheVariants.Weakly ws old new = (n : ℕ) × SpellsOption (codes "weakly") 1000000 ws n × (new ≡ record old { weakly = n })
+SetsExtra extra.TheVariants.Role ws old new = (role : List AddressModel) × SpellsRole ws old.listed role × (new ≡ record old { role = role })
 
 -- the optional headers, in their order
 abbrev pub extras : List extra.Extra
-extras = extra.TheVariants.Weakly ∷ []
+extras = extra.TheVariants.Weakly ∷ extra.TheVariants.Role ∷ []
 
 -- the header that comes after so many
 abbrev pub headers : List header.Header
@@ -89,6 +105,7 @@ SpellsValue header.TheVariants.Limit ws s = SpellsSetting (codes "limit") 1000 w
 -- what is so where the optional headers do not say another thing
 pub record SaysNoMore (s : SettingsModel) : Type 0 where
   pub weakly : s.weakly ≡ 0
+  pub role : s.role ≡ s.listed
 
 -- nine header lines, none of them too long, spell these settings, a line for each in the order of the headers
 abbrev pub SpellsSettings : List (List ℕ) → SettingsModel → Type 0

@@ -1,12 +1,13 @@
-ghost use Rattle.std.specs.Prelude.{◌≡◌, ◌≢◌, ◌<◌, ◌≤◌, length, MatchResult};
+ghost use Rattle.std.specs.Prelude.{◌≡◌, ◌≢◌, ◌<◌, ◌≤◌, ◌∷◌, ℕ, List, codes, length, MatchResult};
+ghost use Rattle.ak_schedule.specs.Line.{words};
 ghost use Rattle.ak_schedule.specs.Draft.{first_draft, HeaderAnswers, NextAnswers, ExtraAnswers};
 
 use crate::fault::LineFault;
-use crate::header::{read_listing, read_option, read_setting, read_strategy};
+use crate::header::{read_listing, read_option, read_role, read_setting, read_strategy};
 use crate::kind::is_text;
 use crate::line::{MOST_BYTES, next_word};
 use ak_address::Address;
-use ak_settings::{MOST_BUFFER, MOST_SHARDS, MOST_TICKS, Settings, Strategy};
+use ak_settings::{MOST_BUFFER, MOST_SHARDS, MOST_TICKS, Settings, Strategy, copy_addresses};
 use std::alloc::Global;
 use std::marker::Model;
 
@@ -30,6 +31,7 @@ pub enum Header {
 #[derive(Clone, Copy, Debug, PartialEq, Eq)]
 pub enum Extra {
     Weakly,
+    Role,
 }
 
 /// The header lines of a schedule, as far as they are read. Until a line sets it a setting has a first
@@ -49,6 +51,7 @@ pub struct Draft {
     threshold: u32,
     limit: u32,
     weakly: u32,
+    role: Vec<Address>,
 }
 
 impl Model for Draft {
@@ -58,9 +61,9 @@ impl Model for Draft {
 
     ghost coded = { coded_draft };
 
-    ghost view = { λ d. record { read = d.read; extra = d.extra; settings = record { listed = d.listed.items; strategy = d.strategy; margin = d.margin; deadline = d.deadline; stable = d.stable; shards = d.shards; buffer = d.buffer; threshold = d.threshold; limit = d.limit; weakly = d.weakly } } };
+    ghost view = { λ d. record { read = d.read; extra = d.extra; settings = record { listed = d.listed.items; strategy = d.strategy; margin = d.margin; deadline = d.deadline; stable = d.stable; shards = d.shards; buffer = d.buffer; threshold = d.threshold; limit = d.limit; weakly = d.weakly; role = d.role.items } } };
 
-    ghost invariant = { λ d. IsDraft (record { read = d.read; extra = d.extra; settings = record { listed = d.listed.items; strategy = d.strategy; margin = d.margin; deadline = d.deadline; stable = d.stable; shards = d.shards; buffer = d.buffer; threshold = d.threshold; limit = d.limit; weakly = d.weakly } }) };
+    ghost invariant = { λ d. IsDraft (record { read = d.read; extra = d.extra; settings = record { listed = d.listed.items; strategy = d.strategy; margin = d.margin; deadline = d.deadline; stable = d.stable; shards = d.shards; buffer = d.buffer; threshold = d.threshold; limit = d.limit; weakly = d.weakly; role = d.role.items } }) };
 }
 
 impl Draft {
@@ -81,6 +84,7 @@ impl Draft {
             threshold: 1,
             limit: 1,
             weakly: 0,
+            role: Vec::new(alloc),
         }
     }
 
@@ -102,8 +106,8 @@ impl Draft {
     /// Reads an optional header line: true exactly where the line is one that may still come, false exactly where its first word
     /// is that of none. Refused as `BadHeader` exactly where it is that of one, and the line is not spelled so, comes twice or
     /// belongs before another that was read. At every error the draft is as it was. The optional headers, their order and their
-    /// ranges are this project's choice. Takes no memory.
-    pub fn extra(&mut self, line: &[u8]) -> Result<bool, LineFault>
+    /// ranges are this project's choice. Only a line that may be a role takes memory.
+    pub fn extra(&mut self, alloc: Global, line: &[u8]) -> Result<bool, LineFault>
         requires read { self.old.read ≡ HEADERS }
         requires short { length line.now ≤ MOST_BYTES }
         ensures { ExtraAnswers result line.now self.old self.new }
@@ -112,7 +116,7 @@ impl Draft {
             return Ok(false);
         };
         if !is_text(first, b"weakly") {
-            return Ok(false);
+            return self.set_role(alloc, line);
         }
         if self.extra > 0 {
             return Err(LineFault::BadHeader);
@@ -152,6 +156,7 @@ impl Draft {
             threshold,
             limit,
             weakly,
+            role,
         } = self;
         Ok(Settings {
             listed,
@@ -164,11 +169,33 @@ impl Draft {
             threshold,
             limit,
             weakly,
+            role,
         })
     }
 }
 
 impl Draft {
+    // Reads the optional header line of a role, or one with the word of none.
+    fn set_role(&mut self, alloc: Global, line: &[u8]) -> Result<bool, LineFault>
+        requires read { self.old.read ≡ HEADERS }
+        requires short { length line.now ≤ MOST_BYTES }
+        requires other { (rest : List (List ℕ)) → words line.now ≡ codes "weakly" ∷ rest → ⊥ }
+        ensures { ExtraAnswers result line.now self.old self.new }
+    {
+        let Some((first, _)) = next_word(line) else {
+            return Ok(false);
+        };
+        if !is_text(first, b"role") {
+            return Ok(false);
+        }
+        if self.extra > 1 {
+            return Err(LineFault::BadHeader);
+        }
+        self.role = read_role(alloc, line, &self.listed)?;
+        self.extra = 2;
+        Ok(true)
+    }
+
     // Sets the setting that is next, and no other.
     fn set_next(&mut self, alloc: Global, line: &[u8]) -> Result<(), LineFault>
         requires more { self.old.read < HEADERS }
@@ -176,7 +203,11 @@ impl Draft {
         ensures { NextAnswers result line.now self.old self.new }
     {
         match self.read {
-            0 => self.listed = read_listing(alloc, line)?,
+            0 => {
+                let listed = read_listing(alloc, line)?;
+                self.role = copy_addresses(alloc, &listed)?;
+                self.listed = listed;
+            }
             1 => self.strategy = read_strategy(line)?,
             2 => self.margin = read_setting(line, b"margin", MOST_TICKS)?,
             3 => self.deadline = read_setting(line, b"deadline", MOST_TICKS)?,

@@ -1,14 +1,16 @@
-ghost use Rattle.std.specs.Prelude.{[], ◌∷◌, MatchOption, MatchResult, codes};
+ghost use Rattle.std.specs.Prelude.{◌≡◌, [], ◌∷◌, MatchOption, MatchResult, codes};
+ghost use Rattle.std.specs.List.{list_all};
+ghost use Rattle.ak_settings.specs.Settings.{is_listed};
 ghost use Rattle.ak_address.specs.Spelling.{SpellsAddress};
 ghost use Rattle.ak_schedule.specs.Line.{words};
 ghost use Rattle.ak_schedule.specs.Draft.{RefusesHeader, RefusesValue, SpellsAddresses, SpellsNext};
-ghost use Rattle.ak_schedule.specs.Schedule.{SpellsListing, SpellsOption, SpellsSetting, SpellsStrategy};
+ghost use Rattle.ak_schedule.specs.Schedule.{SpellsListing, SpellsOption, SpellsRole, SpellsSetting, SpellsStrategy};
 
 use crate::fault::LineFault;
 use crate::kind::is_text;
 use crate::line::{next_word, one_word, two_words};
-use ak_address::{Address, AddressFault, parse_address, parse_number};
-use ak_settings::{MOST_LISTED, MOST_QUORUM, Strategy, contains_address};
+use ak_address::{Address, AddressFault, contains_address, parse_address, parse_number};
+use ak_settings::{MOST_LISTED, MOST_QUORUM, Strategy};
 use std::alloc::Global;
 
 /// The number of a header line that has this name, from 1 to the most. Refused exactly where the line is
@@ -77,6 +79,9 @@ fn strategy_of(line: &[u8]) -> Option<Strategy>
     if is_text(name, b"static-quorum") {
         return read_quorum(rest);
     }
+    if is_text(name, b"keep-oldest") {
+        return read_oldest(rest);
+    }
     if next_word(rest).is_some() {
         return None;
     }
@@ -96,6 +101,24 @@ fn read_quorum(rest: &[u8]) -> Option<Strategy>
         Some(number) => return Some(Strategy::StaticQuorum(number as u32)),
         None => return None,
     }
+}
+
+// Whether an oldest that is alone gives way, from the words after the name.
+fn read_oldest(rest: &[u8]) -> Option<Strategy>
+    ensures { MatchOption result
+        ((s : Strategy) → SpellsStrategy (codes "strategy" ∷ codes "keep-oldest" ∷ words rest.now) s → ⊥)
+        (λ s. SpellsStrategy (codes "strategy" ∷ codes "keep-oldest" ∷ words rest.now) s) }
+{
+    let Some(flag) = one_word(rest) else {
+        return None;
+    };
+    if is_text(flag, b"on") {
+        return Some(Strategy::KeepOldest(true));
+    }
+    if is_text(flag, b"off") {
+        return Some(Strategy::KeepOldest(false));
+    }
+    None
 }
 
 // A strategy that is a name alone.
@@ -129,6 +152,40 @@ pub(crate) fn read_listing(alloc: Global, line: &[u8]) -> Result<Vec<Address>, L
         Ok(listed) => return Ok(listed),
         Err(fault) => return Err(fault),
     }
+}
+
+/// The addresses of a header line that have the role, which are among the listed ones. Refused as `BadHeader` exactly where the line
+/// is no such header.
+pub(crate) fn read_role(
+    alloc: Global,
+    line: &[u8],
+    listed: &[Address],
+) -> Result<Vec<Address>, LineFault>
+    ensures { MatchResult result
+        (λ role. SpellsRole (words line.now) listed.now role.items)
+        (RefusesValue (SpellsRole (words line.now) listed.now)) }
+{
+    let Some((name, rest)) = next_word(line) else {
+        return Err(LineFault::BadHeader);
+    };
+    if !is_text(name, b"role") {
+        return Err(LineFault::BadHeader);
+    }
+    match read_addresses(alloc, rest) {
+        Ok(role) => {
+            if are_among(&role, listed) {
+                return Ok(role);
+            }
+            return Err(LineFault::BadHeader);
+        }
+        Err(fault) => return Err(fault),
+    }
+}
+
+fn are_among(role: &[Address], listed: &[Address]) -> bool
+    ensures { result ≡ list_all (λ a. is_listed listed.now a) role.now }
+{
+    role.iter().all(|each| contains_address(listed, each))
 }
 
 fn read_addresses(alloc: Global, names: &[u8]) -> Result<Vec<Address>, LineFault>

@@ -7,7 +7,7 @@ use Rattle.std.specs.Prelude.{◌↔◌, IsTrue}
 use Rattle.std.specs.List.{AllPairs, Contains}
 use Rattle.ak_address.specs.Unique.{AddressModel}
 use Rattle.ak_settings.specs.Settings.{all_different, is_listed}
-use Rattle.ak_settings.proofs.ListedLemmas.{listed_means}
+use Rattle.ak_address.proofs.AmongLaws.{among_means}
 
 not_true : (b : Bool) → not b ≡ true → b ≡ true → ⊥
 not_true true n t = false≢true n
@@ -19,7 +19,7 @@ different_pairs [] is = λ i j d below within. absurd (omega arith)
 different_pairs (a ∷ others) is =
     let (here, more) = and_parts (not (is_listed others a)) (all_different others) is in
     AllPairs-cons (λ x y. x ≢ y) a others
-    (λ k d within same. not_true (is_listed others a) here ((listed_means others a).1 (subst (Contains others) (sym same) (Contains-get_or others k d within))))
+    (λ k d within same. not_true (is_listed others a) here ((among_means others a).1 (subst (Contains others) (sym same) (Contains-get_or others k d within))))
     (different_pairs others more)
 
 not_false : (b : Bool) → (b ≡ true → ⊥) → not b ≡ true
@@ -31,7 +31,7 @@ pub pairs_different : (listed : List AddressModel) → AllPairs (λ a b. a ≢ b
 pairs_different [] pairs = refl
 pairs_different (a ∷ others) pairs =
     let alone : not (is_listed others a) ≡ true =
-    not_false (is_listed others a) (λ among. let (k, within, here) = (listed_means others a).0 among in pairs 0 (suc k) a (omega arith) (omega arith) (sym here)) in
+    not_false (is_listed others a) (λ among. let (k, within, here) = (among_means others a).0 among in pairs 0 (suc k) a (omega arith) (omega arith) (sym here)) in
     let apart : all_different others ≡ true = pairs_different others (λ i j d below within. pairs (suc i) (suc j) d (omega arith) (omega arith)) in
     rw (alone, apart) refl
 

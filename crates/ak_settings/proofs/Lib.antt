@@ -1,2 +1,1 @@
 pub mod Different
-pub mod ListedLemmas

@@ -1,13 +1,13 @@
 -- The settings of a run: at which addresses processes may start, and through which they may join, and the limits of the
 -- rules. Ranges are this project's choice.
-use Rattle.std.specs.Prelude.{◌≡◌, ◌≢◌, ℕ, ◌≤◌, ◌⊎◌, ◌&&◌, Bool, true, false, not, List, [], ◌∷◌, length, refl}
+use Rattle.std.specs.Prelude.{◌≡◌, ◌≢◌, ℕ, ◌≤◌, ◌⊎◌, ◌&&◌, Bool, true, false, not, List, [], ◌∷◌, length, Contains, refl}
 use Rattle.std.proofs.Common.{inl, inr}
 use Rattle.std.specs.Coded.{Coded, code_by, coded×, coded⊎, coded_ℕ, coded_bool, coded_list}
-use Rattle.std.specs.List.{AllByRecursion, AllPairs, list_any}
-use Rattle.std.specs.Ordering.{is_eq}
-use Rattle.ak_address.specs.Unique.{AddressModel, IsAddress, address_cmp, coded_address}
+use Rattle.std.specs.List.{AllByRecursion, AllPairs}
+use Rattle.ak_address.specs.Distinct.{is_among}
+use Rattle.ak_address.specs.Unique.{AddressModel, IsAddress, coded_address}
 use Rattle.ak_settings.specs.declared.settings.Strategy.{Strategy}
-use Rattle.ak_settings.specs.declared.settings.Strategy.TheVariants.{StaticQuorum, KeepMajority, DownAll}
+use Rattle.ak_settings.specs.declared.settings.Strategy.TheVariants.{StaticQuorum, KeepMajority, KeepOldest, DownAll}
 
 pub record SettingsModel : Type 0 where
   pub listed : List AddressModel
@@ -20,6 +20,7 @@ pub record SettingsModel : Type 0 where
   pub threshold : ℕ
   pub limit : ℕ
   pub weakly : ℕ
+  pub role : List AddressModel
 
 -- from 1 to most
 pub record IsWithin (most n : ℕ) : Type 0 where
@@ -32,9 +33,15 @@ pub record IsListing (listed : List AddressModel) : Type 0 where
   pub addresses : AllByRecursion IsAddress listed
   pub different : AllPairs (λ a b. a ≢ b) listed
 
+-- 1 to 32 different addresses, all of them listed: those that have the role
+pub record IsRole (listed role : List AddressModel) : Type 0 where
+  pub listing : IsListing role
+  pub among : (a : AddressModel) → Contains role a → Contains listed a
+
 abbrev pub IsStrategy : Strategy → Type 0
 IsStrategy (StaticQuorum quorum) = IsWithin 32 quorum
 IsStrategy KeepMajority = Unit {0}
+IsStrategy (KeepOldest alone) = Unit {0}
 IsStrategy DownAll = Unit {0}
 
 pub record IsSettings (s : SettingsModel) : Type 0 where
@@ -48,10 +55,11 @@ pub record IsSettings (s : SettingsModel) : Type 0 where
   pub threshold : IsWithin 1000 s.threshold
   pub limit : IsWithin 1000 s.limit
   pub weakly : s.weakly ≤ 1000000
+  pub role : IsRole s.listed s.role
 
 -- an address is listed: a process may start there, and join through it
 abbrev pub is_listed : List AddressModel → AddressModel → Bool
-is_listed listed a = list_any (λ b. is_eq (address_cmp b a)) listed
+is_listed listed a = is_among listed a
 
 -- no address stands twice
 abbrev pub all_different : List AddressModel → Bool
@@ -85,39 +93,47 @@ of_membership listed strategy margin deadline stable = record {
   threshold = default_threshold;
   limit = default_limit;
   weakly = 0;
+  role = listed;
 }
 
 -- how many addresses a settled view counts at least
 abbrev pub settling_size : Strategy → ℕ
 settling_size (StaticQuorum quorum) = quorum
 settling_size KeepMajority = 1
+settling_size (KeepOldest alone) = 1
 settling_size DownAll = 1
 
--- a strategy is stored as the quorum, or as one of two others
-abbrev pub strategy_number : Strategy → ℕ ⊎ Bool
-strategy_number (StaticQuorum quorum) = inl quorum
-strategy_number KeepMajority = inr true
-strategy_number DownAll = inr false
+-- a strategy is stored as what it carries, a quorum or a flag, or as one of the two that carry nothing
+abbrev pub Stored : Type 0
+Stored = ℕ ⊎ (Bool ⊎ Bool)
 
-abbrev pub numbered_strategy : ℕ ⊎ Bool → Strategy
-numbered_strategy (inl quorum) = StaticQuorum quorum
-numbered_strategy (inr true) = KeepMajority
-numbered_strategy (inr false) = DownAll
+abbrev pub stored_strategy : Strategy → Stored
+stored_strategy (StaticQuorum quorum) = inl quorum
+stored_strategy (KeepOldest alone) = inr (inl alone)
+stored_strategy KeepMajority = inr (inr true)
+stored_strategy DownAll = inr (inr false)
 
-pub numbered_again : (s : Strategy) → numbered_strategy (strategy_number s) ≡ s
-numbered_again (StaticQuorum quorum) = refl
-numbered_again KeepMajority = refl
-numbered_again DownAll = refl
+abbrev pub strategy_from : Stored → Strategy
+strategy_from (inl quorum) = StaticQuorum quorum
+strategy_from (inr (inl alone)) = KeepOldest alone
+strategy_from (inr (inr true)) = KeepMajority
+strategy_from (inr (inr false)) = DownAll
+
+pub stored_again : (s : Strategy) → strategy_from (stored_strategy s) ≡ s
+stored_again (StaticQuorum quorum) = refl
+stored_again (KeepOldest alone) = refl
+stored_again KeepMajority = refl
+stored_again DownAll = refl
 
 abbrev pub coded_strategy : Coded Strategy
-coded_strategy = code_by (ℕ ⊎ Bool) (coded⊎ coded_ℕ coded_bool) strategy_number numbered_strategy numbered_again
+coded_strategy = code_by Stored (coded⊎ coded_ℕ (coded⊎ coded_bool coded_bool)) stored_strategy strategy_from stored_again
 
 -- settings are stored as their fields, in pairs
 abbrev pub coded_settings : Coded SettingsModel
 coded_settings =
-    code_by (List AddressModel × (Strategy × (ℕ × (ℕ × (ℕ × (ℕ × (ℕ × (ℕ × (ℕ × ℕ)))))))))
-    (coded× (coded_list coded_address) (coded× coded_strategy (coded× coded_ℕ (coded× coded_ℕ (coded× coded_ℕ (coded× coded_ℕ (coded× coded_ℕ (coded× coded_ℕ (coded× coded_ℕ coded_ℕ)))))))))
-    (λ s. (s.listed, (s.strategy, (s.margin, (s.deadline, (s.stable, (s.shards, (s.buffer, (s.threshold, (s.limit, s.weakly))))))))))
+    code_by (List AddressModel × (Strategy × (ℕ × (ℕ × (ℕ × (ℕ × (ℕ × (ℕ × (ℕ × (ℕ × List AddressModel))))))))))
+    (coded× (coded_list coded_address) (coded× coded_strategy (coded× coded_ℕ (coded× coded_ℕ (coded× coded_ℕ (coded× coded_ℕ (coded× coded_ℕ (coded× coded_ℕ (coded× coded_ℕ (coded× coded_ℕ (coded_list coded_address)))))))))))
+    (λ s. (s.listed, (s.strategy, (s.margin, (s.deadline, (s.stable, (s.shards, (s.buffer, (s.threshold, (s.limit, (s.weakly, s.role)))))))))))
     (λ p. record {
       listed = p.0;
       strategy = p.1.0;
@@ -128,6 +144,7 @@ coded_settings =
       buffer = p.1.1.1.1.1.1.0;
       threshold = p.1.1.1.1.1.1.1.0;
       limit = p.1.1.1.1.1.1.1.1.0;
-      weakly = p.1.1.1.1.1.1.1.1.1;
+      weakly = p.1.1.1.1.1.1.1.1.1.0;
+      role = p.1.1.1.1.1.1.1.1.1.1;
     })
     (λ _. refl)

@@ -8,5 +8,5 @@ mod settings;
 pub use ranges::{MOST_BUFFER, MOST_LISTED, MOST_QUORUM, MOST_SHARDS, MOST_TICKS, all_different};
 pub use settings::{
     DEFAULT_BUFFER, DEFAULT_LIMIT, DEFAULT_SHARDS, DEFAULT_THRESHOLD, Settings, Strategy,
-    contains_address,
+    copy_addresses,
 };

@@ -5,8 +5,8 @@ ghost use Rattle.ak_address.specs.Unique.{IsAddress};
 ghost use Rattle.ak_settings.specs.Settings as model;
 ghost use Rattle.ak_settings.specs.Settings.{IsListing, IsStrategy, IsWithin};
 
-use crate::settings::{Strategy, contains_address};
-use ak_address::Address;
+use crate::settings::Strategy;
+use ak_address::{Address, contains_address};
 
 /// How many addresses are listed at most.
 pub const MOST_LISTED: usize = 32;
@@ -57,6 +57,7 @@ pub(crate) fn is_strategy(strategy: Strategy) -> bool
     match strategy {
         Strategy::StaticQuorum(quorum) => is_within(MOST_QUORUM, quorum),
         Strategy::KeepMajority => true,
+        Strategy::KeepOldest(_) => true,
         Strategy::DownAll => true,
     }
 }

@@ -3,7 +3,7 @@ ghost use Rattle.ak_settings.specs.Settings as model;
 ghost use Rattle.ak_settings.specs.Settings.{IsSettings, is_listed, settling_size};
 
 use crate::ranges::{MOST_BUFFER, MOST_SHARDS, are_ticks, is_listing, is_strategy};
-use ak_address::Address;
+use ak_address::{Address, contains_address};
 use std::alloc::{AllocError, Global};
 use std::marker::Model;
 
@@ -12,7 +12,11 @@ use std::marker::Model;
 pub enum Strategy {
     /// The side with at least this many different addresses goes on, 1 to 32.
     StaticQuorum(u32),
+    /// The side with more members that count goes on.
     KeepMajority,
+    /// The side of the oldest member goes on; with the flag, where it is alone there and others are not, the other side does.
+    KeepOldest(bool),
+    /// No side goes on.
     DownAll,
 }
 
@@ -43,6 +47,8 @@ pub struct Settings {
     /// After how many ticks of a view that does not settle its leader lets Joining members in as WeaklyUp, 0 to 1,000,000; 0 is
     /// never.
     pub weakly: u32,
+    /// The addresses over which a quorum is counted, 1 to 32 different ones of the listed.
+    pub role: Vec<Address>,
 }
 
 impl Model for Settings {
@@ -52,9 +58,9 @@ impl Model for Settings {
 
     ghost coded = { coded_settings };
 
-    ghost view = { λ s. record { listed = s.listed.items; strategy = s.strategy; margin = s.margin; deadline = s.deadline; stable = s.stable; shards = s.shards; buffer = s.buffer; threshold = s.threshold; limit = s.limit; weakly = s.weakly } };
+    ghost view = { λ s. record { listed = s.listed.items; strategy = s.strategy; margin = s.margin; deadline = s.deadline; stable = s.stable; shards = s.shards; buffer = s.buffer; threshold = s.threshold; limit = s.limit; weakly = s.weakly; role = s.role.items } };
 
-    ghost invariant = { λ s. IsSettings (record { listed = s.listed.items; strategy = s.strategy; margin = s.margin; deadline = s.deadline; stable = s.stable; shards = s.shards; buffer = s.buffer; threshold = s.threshold; limit = s.limit; weakly = s.weakly }) };
+    ghost invariant = { λ s. IsSettings (record { listed = s.listed.items; strategy = s.strategy; margin = s.margin; deadline = s.deadline; stable = s.stable; shards = s.shards; buffer = s.buffer; threshold = s.threshold; limit = s.limit; weakly = s.weakly; role = s.role.items }) };
 }
 
 /// Into how many shards entities are divided where nobody chooses: as many as there may be.
@@ -72,27 +78,30 @@ pub const DEFAULT_LIMIT: u32 = 3;
 impl Settings {
     /// Settings for who wants membership, a resolver or a singleton, and no shards: of shards they say what a configuration
     /// says that does not name them (1,000 shards, room for 100,000 messages, threshold 1, limit 3). None exactly where the
-    /// addresses, the strategy or one of the three numbers of ticks is out of its range. Takes no memory.
+    /// addresses, the strategy or one of the three numbers of ticks is out of its range. Every listed address has the role, which
+    /// takes a copy of them: only memory can fail.
     pub fn of_membership(
+        alloc: Global,
         listed: Vec<Address>,
         strategy: Strategy,
         margin: u32,
         deadline: u32,
         stable: u32,
-    ) -> Option<Settings>
+    ) -> Result<Option<Settings>, AllocError>
         ensures { let asked = model.of_membership listed.items strategy margin deadline stable in
-            MatchOption result (IsSettings asked → ⊥) (λ settings. (settings ≡ asked) × IsSettings asked) }
+            IfOk result (λ made. MatchOption made (IsSettings asked → ⊥) (λ settings. (settings ≡ asked) × IsSettings asked)) }
     {
         if !is_listing(&listed) {
-            return None;
+            return Ok(None);
         }
         if !is_strategy(strategy) {
-            return None;
+            return Ok(None);
         }
         if !are_ticks(margin, deadline, stable) {
-            return None;
+            return Ok(None);
         }
-        Some(Settings {
+        let role = copy_addresses(alloc, &listed)?;
+        Ok(Some(Settings {
             listed,
             strategy,
             margin,
@@ -103,7 +112,8 @@ impl Settings {
             threshold: DEFAULT_THRESHOLD,
             limit: DEFAULT_LIMIT,
             weakly: 0,
-        })
+            role,
+        }))
     }
 
     /// Tells a proof that each setting is in its range. It does nothing.
@@ -121,6 +131,7 @@ impl Settings {
         match self.strategy {
             Strategy::StaticQuorum(quorum) => return quorum,
             Strategy::KeepMajority => return 1,
+            Strategy::KeepOldest(_) => return 1,
             Strategy::DownAll => return 1,
         }
     }
@@ -133,11 +144,20 @@ impl Settings {
         contains_address(&self.listed, at)
     }
 
+    /// True exactly where the address has the role. Takes no memory.
+    pub fn has_role(&self, at: &Address) -> bool
+        ensures value { result ≡ is_listed self.now.role at.now }
+        ensures meaning { IsTrue result ↔ Contains self.now.role at.now }
+    {
+        contains_address(&self.role, at)
+    }
+
     /// Equal settings. Only memory can fail.
     pub fn copy(&self, alloc: Global) -> Result<Settings, AllocError>
         ensures { IfOk result (λ copy. copy ≡ self.now) }
     {
         let listed = copy_addresses(alloc, &self.listed)?;
+        let role = copy_addresses(alloc, &self.role)?;
         Ok(Settings {
             listed,
             strategy: self.strategy,
@@ -149,25 +169,13 @@ impl Settings {
             threshold: self.threshold,
             limit: self.limit,
             weakly: self.weakly,
+            role,
         })
     }
 }
 
-/// True exactly where the address is among these. Takes no memory.
-pub fn contains_address(listed: &[Address], at: &Address) -> bool
-    ensures value { result ≡ is_listed listed.now at.now }
-    ensures meaning { IsTrue result ↔ Contains listed.now at.now }
-{
-    is_among(listed, at)
-}
-
-fn is_among(listed: &[Address], at: &Address) -> bool
-    ensures { result ≡ is_listed listed.now at.now }
-{
-    listed.iter().any(|each| each.is(at))
-}
-
-fn copy_addresses(alloc: Global, listed: &[Address]) -> Result<Vec<Address>, AllocError>
+/// Equal addresses. Only memory can fail.
+pub fn copy_addresses(alloc: Global, listed: &[Address]) -> Result<Vec<Address>, AllocError>
     ensures { IfOk result (λ copies. copies.items ≡ listed.now) }
 {
     let mut copies = Vec::new(alloc);

@@ -1,4 +1,4 @@
-use Rattle.std.proofs.Common.{◌≡◌, codes, refl, ap, arith}
+use Rattle.std.proofs.Common.{◌≡◌, ◌∙◌, codes, refl, ap, arith}
 use Rattle.std.proofs.lemmas.Result.{err_from_is_err_and}
 use Rattle.ak_schedule.specs.declared.draft.Header as header
 use Rattle.ak_schedule.specs.Draft.{Drafted}
@@ -8,7 +8,19 @@ use Rattle.ak_schedule.proofs.HeaderLines.{next_set, next_refused, first_refused
 use Rattle.ak_schedule.proofs.draft.Draft.set_next.Goals as goal
 
 pub returns-in_ok-self-inside-in-0 : goal.returns-in_ok-self-inside-in-0
-returns-in_ok-self-inside-in-0 c = rw (← c.self.view_is) (next_set 0 header.TheVariants.Listed c.args.line.now _ _ c.in-0.is refl c.requires.short (c.in_ok-self-inside-in-0.field-0.items, c.in_ok-self-inside-in-0.ensures, refl) refl refl)
+returns-in_ok-self-inside-in-0 c =
+    let s = c.self.inside in
+    let listed = c.in_ok-listed-in-0.listed.items in
+    let same : c.in_ok-self-inside-in-0.field-0.items ≡ listed = c.in_ok-self-inside-in-0.ensures ∙ c.deref.ensures.value in
+    rw (← c.self.view_is)
+    (next_set 0 header.TheVariants.Listed c.args.line.now _ _ c.in-0.is refl c.requires.short
+    (listed, c.in_ok-listed-in-0.ensures, λ i. record { listed = listed; strategy = s.strategy; margin = s.margin; deadline = s.deadline; stable = s.stable; shards = s.shards; buffer = s.buffer; threshold = s.threshold; limit = s.limit; weakly = s.weakly; role = same i }) refl refl)
+
+pub returns-in_err-listed-in-0 : goal.returns-in_err-listed-in-0
+returns-in_err-listed-in-0 c =
+    let is = err_from_is_err_and c.from_residual.result c.from_residual.ensures.1 in
+    rw (is.1, is.2, ← c.self.view_is) (
+    first_refused (SpellsListing (words c.args.line.now)) header.TheVariants.Listed c.args.line.now _ c.in_err-listed-in-0.field-0.0 c.in-0.is refl c.in_err-listed-in-0.ensures (λ new sets. (sets.0, sets.1)))
 
 pub returns-in_ok-self-inside-in-1 : goal.returns-in_ok-self-inside-in-1
 returns-in_ok-self-inside-in-1 c = rw (← c.self.view_is) (next_set 1 header.TheVariants.Strategy c.args.line.now _ _ c.in-1.is refl c.requires.short (c.in_ok-self-inside-in-1.field-0, c.in_ok-self-inside-in-1.ensures, refl) refl refl)
@@ -36,12 +48,6 @@ returns-in_ok-self-inside-in_default c =
     let read = ap (λ (d : Drafted). d.read) c.self.view_is in
     let at : c.self.inside.read ≡ 8 = grind (arith) in
     rw (← c.self.view_is) (next_set 8 header.TheVariants.Limit c.args.line.now _ _ at refl c.requires.short (c.in_ok-self-inside-in_default.field-0, c.in_ok-self-inside-in_default.ensures, refl) refl refl)
-
-pub returns-in_err-self-inside-in-0 : goal.returns-in_err-self-inside-in-0
-returns-in_err-self-inside-in-0 c =
-    let is = err_from_is_err_and c.from_residual.result c.from_residual.ensures.1 in
-    rw (is.1, is.2, ← c.self.view_is) (
-    first_refused (SpellsListing (words c.args.line.now)) header.TheVariants.Listed c.args.line.now _ c.in_err-self-inside-in-0.field-0.0 c.in-0.is refl c.in_err-self-inside-in-0.ensures (λ new sets. (sets.0, sets.1)))
 
 pub returns-in_err-self-inside-in-2 : goal.returns-in_err-self-inside-in-2
 returns-in_err-self-inside-in-2 c =
