@@ -5,14 +5,14 @@ use Rattle.std.proofs.lemmas.List.Folds.{list_all-append}
 use Rattle.std.proofs.lemmas.Option.{same_Some}
 use Rattle.std.specs.List.{list_all}
 use Rattle.std.specs.FinMap as map
-use Rattle.ak_address.specs.Unique.{UniqueModel}
+use Rattle.ak_address.specs.Unique.{AddressModel, UniqueModel}
 use Rattle.ak_address.specs.Uniques.{UniqueSet, has}
 use Rattle.ak_member.specs.declared.status.Status.{Status}
 use Rattle.ak_member.specs.declared.status.Status.TheVariants.{Joining, WeaklyUp, Up, Leaving, Exiting, Down}
 use Rattle.ak_member.specs.declared.standing.Standing.{Standing}
 use Rattle.ak_member.specs.Standing.{member_of, member_pairs, members_of}
 use Rattle.ak_address.specs.Distinct.{distinct}
-use Rattle.ak_member.specs.Age.{counts, counted_addresses}
+use Rattle.ak_member.specs.Age.{counts, role_addresses}
 use Rattle.ak_member.specs.View.{View}
 use Rattle.ak_address.proofs.Elements.{all_there, all_from}
 use Rattle.ak_member.proofs.MemberLemmas.{kept_from, keeps_members}
@@ -82,17 +82,17 @@ converged_means v seen = (there, back)
         o_of : (m : Status × ℕ) (who : UniqueModel) (o : IsOut v.standings who) → (o.0, o.1) ≡ m → (m.0 ≡ Exiting) ⊎ (m.0 ≡ Down)
         o_of m who o same = elim o.3 [ inl exiting ↦ inl (sym (ap (λ (r : Status × ℕ). r.0) same) ∙ exiting) | inr down ↦ inr (sym (ap (λ (r : Status × ℕ). r.0) same) ∙ down) ]
 
-pub settled_means : (quorum : ℕ) (v : View) (seen : UniqueSet) → IsTrue (is_settled quorum v seen) ↔ (IsConverged v seen × (quorum ≤ distinct (counted_addresses v.standings)))
-settled_means quorum v seen = (there, back)
+pub settled_means : (quorum : ℕ) (role : List AddressModel) (v : View) (seen : UniqueSet) → IsTrue (is_settled quorum role v seen) ↔ (IsConverged v seen × (quorum ≤ distinct (role_addresses role v.standings)))
+settled_means quorum role v seen = (there, back)
   where
-    there : IsTrue (is_settled quorum v seen) → IsConverged v seen × (quorum ≤ distinct (counted_addresses v.standings))
+    there : IsTrue (is_settled quorum role v seen) → IsConverged v seen × (quorum ≤ distinct (role_addresses role v.standings))
     there is =
-        let parts = and_parts (is_converged v seen) (nat_le quorum (distinct (counted_addresses v.standings))) is in
-        ((converged_means v seen).0 parts.0, leb-true quorum (distinct (counted_addresses v.standings)) parts.1)
+        let parts = and_parts (is_converged v seen) (nat_le quorum (distinct (role_addresses role v.standings))) is in
+        ((converged_means v seen).0 parts.0, leb-true quorum (distinct (role_addresses role v.standings)) parts.1)
 
-    back : IsConverged v seen × (quorum ≤ distinct (counted_addresses v.standings)) → IsTrue (is_settled quorum v seen)
+    back : IsConverged v seen × (quorum ≤ distinct (role_addresses role v.standings)) → IsTrue (is_settled quorum role v seen)
     back (c, enough) =
-        and_from (is_converged v seen) (nat_le quorum (distinct (counted_addresses v.standings))) ((converged_means v seen).1 c) (le-leb quorum (distinct (counted_addresses v.standings)) enough)
+        and_from (is_converged v seen) (nat_le quorum (distinct (role_addresses role v.standings))) ((converged_means v seen).1 c) (le-leb quorum (distinct (role_addresses role v.standings)) enough)
 
 -- the answer of the call
 pub converged_answer : (v : View) (seen : UniqueSet) (b : Bool) → b ≡ is_converged v seen → IsTrue b ↔ IsConverged v seen

@@ -9,7 +9,7 @@ use Rattle.ak_address.specs.Uniques.{UniqueSet, has}
 use Rattle.ak_address.proofs.TableLaws.{entries-empty}
 use Rattle.ak_address.specs.Distinct.{distinct}
 use Rattle.ak_member.specs.declared.status.Status.{Status}
-use Rattle.ak_member.specs.Age.{counts, counted_pairs, counted_addresses}
+use Rattle.ak_member.specs.Age.{counts, role_pairs, role_addresses}
 use Rattle.ak_member.specs.declared.standing.Standing.{Standing}
 use Rattle.ak_member.specs.Standing.{members_of, member_pairs}
 use Rattle.ak_member.specs.View.{View, Row, empty_view}
@@ -64,14 +64,14 @@ pub converged_is : (v : View) (seen : UniqueSet) → is_converged v seen ≡ non
 converged_is v seen = all_agree (unreachable_members v) seen (members_of v.standings)
 
 -- the answers of a tally of the view
-pub tally_converged : (t : TallyModel) (v : View) (seen : UniqueSet) → t ≡ tally_of v seen → none_of t.missing t.blocking ≡ is_converged v seen
-tally_converged t v seen is = ap (λ (t : TallyModel). none_of t.missing t.blocking) is ∙ sym (converged_is v seen)
+pub tally_converged : (t : TallyModel) (role : List AddressModel) (v : View) (seen : UniqueSet) → t ≡ tally_of role v seen → none_of t.missing t.blocking ≡ is_converged v seen
+tally_converged t role v seen is = ap (λ (t : TallyModel). none_of t.missing t.blocking) is ∙ sym (converged_is v seen)
 
-pub tally_addresses : (t : TallyModel) (v : View) (seen : UniqueSet) → t ≡ tally_of v seen → map.len t.uses ≡ distinct (counted_addresses v.standings)
-tally_addresses t v seen is = ap (λ (t : TallyModel). map.len t.uses) is ∙ uses_distinct (counted_addresses v.standings)
+pub tally_addresses : (t : TallyModel) (role : List AddressModel) (v : View) (seen : UniqueSet) → t ≡ tally_of role v seen → map.len t.uses ≡ distinct (role_addresses role v.standings)
+tally_addresses t role v seen is = ap (λ (t : TallyModel). map.len t.uses) is ∙ uses_distinct (role_addresses role v.standings)
 
-pub tally_settled : (t : TallyModel) (quorum : ℕ) (v : View) (seen : UniqueSet) → t ≡ tally_of v seen → (none_of t.missing t.blocking && nat_le quorum (map.len t.uses)) ≡ is_settled quorum v seen
-tally_settled t quorum v seen is = λ i. tally_converged t v seen is i && nat_le quorum (tally_addresses t v seen is i)
+pub tally_settled : (t : TallyModel) (quorum : ℕ) (role : List AddressModel) (v : View) (seen : UniqueSet) → t ≡ tally_of role v seen → (none_of t.missing t.blocking && nat_le quorum (map.len t.uses)) ≡ is_settled quorum role v seen
+tally_settled t quorum role v seen is = λ i. tally_converged t role v seen is i && nat_le quorum (tally_addresses t role v seen is i)
 
 -- the same in words
 none_means : (n m : ℕ) → IsTrue (none_of n m) ↔ ((n ≡ 0) × (m ≡ 0))
@@ -86,14 +86,14 @@ converged_numbers v seen = (
   λ zeros. converged_is v seen ∙ (none_means (missing_in v seen) (blocking_in v)).1 zeros,
 )
 
-pub settled_numbers : (quorum : ℕ) (v : View) (seen : UniqueSet)
-    → IsTrue (is_settled quorum v seen) ↔ ((missing_in v seen ≡ 0) × (blocking_in v ≡ 0) × (quorum ≤ distinct (counted_addresses v.standings)))
-settled_numbers quorum v seen = (
+pub settled_numbers : (quorum : ℕ) (role : List AddressModel) (v : View) (seen : UniqueSet)
+    → IsTrue (is_settled quorum role v seen) ↔ ((missing_in v seen ≡ 0) × (blocking_in v ≡ 0) × (quorum ≤ distinct (role_addresses role v.standings)))
+settled_numbers quorum role v seen = (
   λ is.
-      let parts = and_parts (is_converged v seen) (nat_le quorum (distinct (counted_addresses v.standings))) is in
+      let parts = and_parts (is_converged v seen) (nat_le quorum (distinct (role_addresses role v.standings))) is in
       let zeros = (converged_numbers v seen).0 parts.0 in
-      (zeros.0, zeros.1, leb-true quorum (distinct (counted_addresses v.standings)) parts.1),
-  λ all. and_from (is_converged v seen) (nat_le quorum (distinct (counted_addresses v.standings))) ((converged_numbers v seen).1 (all.0, all.1)) (le-leb quorum (distinct (counted_addresses v.standings)) all.2),
+      (zeros.0, zeros.1, leb-true quorum (distinct (role_addresses role v.standings)) parts.1),
+  λ all. and_from (is_converged v seen) (nat_le quorum (distinct (role_addresses role v.standings))) ((converged_numbers v seen).1 (all.0, all.1)) (le-leb quorum (distinct (role_addresses role v.standings)) all.2),
 )
 
 -- ---- where there is no row
@@ -143,12 +143,12 @@ module _ (p : UniqueModel × (Status × ℕ) → Bool) (es : List (UniqueModel �
   counted_all n total past so_far = let none = ap length (kept_at_end kept keeps es pair past) in omega arith
 
 -- ---- a view that knows nobody
-pub empty_tally : (seen : UniqueSet) → nothing_tallied ≡ tally_of empty_view seen
-empty_tally seen = λ i.
+pub empty_tally : (role : List AddressModel) (seen : UniqueSet) → nothing_tallied ≡ tally_of role empty_view seen
+empty_tally role seen = λ i.
     record {
       missing = length (filter (misses seen) (member_pairs (sym entries-empty i)));
       blocking = length (filter (blocks (unreachable_members empty_view)) (member_pairs (sym entries-empty i)));
-      uses = uses_of (map_addresses (counted_pairs (member_pairs (sym entries-empty i))));
+      uses = uses_of (map_addresses (role_pairs role (member_pairs (sym entries-empty i))));
     }
   where
     map_addresses : List (UniqueModel × ℕ) → List AddressModel

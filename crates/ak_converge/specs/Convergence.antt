@@ -1,15 +1,15 @@
 -- When the members of a view agree on it, and when it settles (Akka's Cluster Specification, "Gossip Convergence"; that a
 -- settled view has enough addresses of counted members is this project's choice).
-use Rattle.std.specs.Prelude.{◌≡◌, ℕ, nat_le, Bool, true, false, not, ◌&&◌, ◌||◌, IsTrue, ◌⊎◌, Some}
+use Rattle.std.specs.Prelude.{◌≡◌, ℕ, nat_le, Bool, true, false, not, ◌&&◌, ◌||◌, IsTrue, ◌⊎◌, List, Some}
 use Rattle.std.specs.List.{list_all}
 use Rattle.std.specs.FinMap as map
-use Rattle.ak_address.specs.Unique.{UniqueModel}
+use Rattle.ak_address.specs.Unique.{AddressModel, UniqueModel}
 use Rattle.ak_address.specs.Uniques.{UniqueSet, has}
 use Rattle.ak_member.specs.declared.status.Status.{Status}
 use Rattle.ak_member.specs.declared.status.Status.TheVariants.{Joining, WeaklyUp, Up, Leaving, Exiting, Down}
 use Rattle.ak_member.specs.Standing.{Standings, member_of, members_of}
 use Rattle.ak_address.specs.Distinct.{distinct}
-use Rattle.ak_member.specs.Age.{counts, IsCounted, counted_addresses}
+use Rattle.ak_member.specs.Age.{counts, IsCounted, role_addresses}
 use Rattle.ak_member.specs.View.{View}
 use Rattle.ak_reach.specs.Unreachable.{unreachable_members, IsUnreachable}
 
@@ -30,9 +30,9 @@ agrees lost seen (who, (status, number)) = (not (counts status) || has seen who)
 abbrev pub is_converged : View → UniqueSet → Bool
 is_converged v seen = list_all (agrees (unreachable_members v) seen) (members_of v.standings)
 
--- a converged view with at least so many addresses of counted members
-abbrev pub is_settled : ℕ → View → UniqueSet → Bool
-is_settled quorum v seen = is_converged v seen && nat_le quorum (distinct (counted_addresses v.standings))
+-- a converged view with at least so many addresses of counted members that have the role
+abbrev pub is_settled : ℕ → List AddressModel → View → UniqueSet → Bool
+is_settled quorum role v seen = is_converged v seen && nat_le quorum (distinct (role_addresses role v.standings))
 
 -- a member on its way out
 abbrev pub IsOut : Standings → UniqueModel → Type 0

@@ -8,7 +8,7 @@ use Rattle.ak_address.specs.Unique.{AddressModel, UniqueModel, address_cmp, code
 use Rattle.ak_address.specs.Uniques.{UniqueSet, has}
 use Rattle.ak_member.specs.declared.status.Status.{Status}
 use Rattle.ak_member.specs.Standing.{members_of}
-use Rattle.ak_member.specs.Age.{counts, counted_addresses}
+use Rattle.ak_member.specs.Age.{counts, role_addresses}
 use Rattle.ak_member.specs.View.{View}
 use Rattle.ak_reach.specs.Unreachable.{unreachable_members}
 use Rattle.ak_converge.specs.declared.tally.Stand.{Stand}
@@ -83,6 +83,6 @@ missing_in v seen = length (filter (misses seen) (members_of v.standings))
 abbrev pub blocking_in : View → ℕ
 blocking_in v = length (filter (blocks (unreachable_members v)) (members_of v.standings))
 
--- the tally of a view that these have seen
-abbrev pub tally_of : View → UniqueSet → TallyModel
-tally_of v seen = record { missing = missing_in v seen; blocking = blocking_in v; uses = uses_of (counted_addresses v.standings) }
+-- the tally of a view that these have seen; of addresses, of those that have the role
+abbrev pub tally_of : List AddressModel → View → UniqueSet → TallyModel
+tally_of role v seen = record { missing = missing_in v seen; blocking = blocking_in v; uses = uses_of (role_addresses role v.standings) }

@@ -3,11 +3,11 @@ ghost use Rattle.std.specs.List.{list_all};
 ghost use Rattle.std.specs.FinMap as map;
 ghost use Rattle.ak_member.specs.Standing.{member_pairs};
 ghost use Rattle.ak_address.specs.Distinct.{distinct};
-ghost use Rattle.ak_member.specs.Age.{counted_addresses};
+ghost use Rattle.ak_member.specs.Age.{role_addresses};
 ghost use Rattle.ak_reach.specs.Unreachable.{unreachable_members};
 ghost use Rattle.ak_converge.specs.Convergence.{is_passed_over, agrees, is_converged, is_settled, IsConverged};
 
-use ak_address::{Unique, Uniques};
+use ak_address::{Address, Unique, Uniques};
 use ak_member::{Members, Standing, Status};
 use ak_reach::{Rows, is_unreachable};
 
@@ -21,14 +21,20 @@ pub fn converged(members: &Members, rows: &Rows, seen: &Uniques) -> bool
 }
 
 /// Whether the view is settled: the members agree on it, and the Up and Leaving ones have at least so many different
-/// addresses (this project's choice: so any two settled views share an address, where the quorum is more than half of
-/// all addresses). Takes no memory.
-pub fn settled_by(quorum: u32, members: &Members, rows: &Rows, seen: &Uniques) -> bool
+/// addresses with the role (this project's choice: so any two settled views share an address, where the quorum is more than
+/// half of those with the role). Takes no memory.
+pub fn settled_by(
+    quorum: u32,
+    role: &[Address],
+    members: &Members,
+    rows: &Rows,
+    seen: &Uniques,
+) -> bool
     requires { map.len members.now < 2 ^ 32 }
-    ensures value { result ≡ is_settled quorum (record { standings = members.now; rows = rows.now }) seen.now }
-    ensures meaning { IsTrue result ↔ (IsConverged (record { standings = members.now; rows = rows.now }) seen.now × (quorum ≤ distinct (counted_addresses members.now))) }
+    ensures value { result ≡ is_settled quorum role.now (record { standings = members.now; rows = rows.now }) seen.now }
+    ensures meaning { IsTrue result ↔ (IsConverged (record { standings = members.now; rows = rows.now }) seen.now × (quorum ≤ distinct (role_addresses role.now members.now))) }
 {
-    if quorum > members.counted() {
+    if quorum > members.counted(role) {
         return false;
     }
     converged(members, rows, seen)

@@ -1,8 +1,9 @@
 //! How far a view is from convergence, in numbers that are kept when it changes.
 
-ghost use Rattle.std.specs.Prelude.{◌≡◌, ◌≤◌, ◌<◌, ◌^◌, IsTrue, OnOk, OnErr, IsOk, slice_get, option_to_list, length};
+ghost use Rattle.std.specs.Prelude.{◌≡◌, ◌≤◌, ◌<◌, ◌^◌, IsTrue, OnOk, OnErr, IsOk, List, slice_get, option_to_list, length};
 ghost use Rattle.std.specs.FinMap as map;
 ghost use Rattle.std.specs.List.{filter};
+ghost use Rattle.ak_address.specs.Unique.{AddressModel};
 ghost use Rattle.ak_address.specs.Uniques.{UniqueSet};
 ghost use Rattle.ak_member.specs.Standing.{member_pairs};
 ghost use Rattle.ak_member.specs.View.{View};
@@ -30,8 +31,8 @@ pub struct Stand {
 }
 
 /// How many counted members have not seen a view, how many members block its convergence, and how often each address is used
-/// by the counted ones (this project's choice): so whether the view is settled is read and not walked for. At most 1,000
-/// addresses are in use: an invariant of the type.
+/// by the counted ones with the role (this project's choice): so whether the view is settled is read and not walked for. At most
+/// 1,000 addresses are in use: an invariant of the type.
 #[derive(Drop)]
 pub struct Tally {
     missing: u32,
@@ -87,7 +88,7 @@ impl Tally {
     /// Whether the view whose tally it is is converged: every counted member has seen it, and nobody blocks (Akka's Cluster
     /// Specification, "Gossip Convergence"). Takes no memory.
     pub fn converged(&self) -> bool
-        ensures { (v : View) (seen : UniqueSet) → self.now ≡ tally_of v seen → result ≡ is_converged v seen }
+        ensures { (role : List AddressModel) (v : View) (seen : UniqueSet) → self.now ≡ tally_of role v seen → result ≡ is_converged v seen }
     {
         self.missing == 0 && self.blocking == 0
     }
@@ -95,7 +96,7 @@ impl Tally {
     /// Whether the view whose tally it is is settled: it is converged, and at least so many addresses are in use (this project's
     /// choice). Takes no memory.
     pub fn settled_by(&self, quorum: u32) -> bool
-        ensures { (v : View) (seen : UniqueSet) → self.now ≡ tally_of v seen → result ≡ is_settled quorum v seen }
+        ensures { (role : List AddressModel) (v : View) (seen : UniqueSet) → self.now ≡ tally_of role v seen → result ≡ is_settled quorum role v seen }
     {
         self.converged() && quorum <= self.addresses()
     }

@@ -2,7 +2,7 @@
 -- members go down.
 use Rattle.std.proofs.Common.{◌≡◌, ◌≢◌, ℕ, ◌+◌, ◌≤◌, Bool, true, false, cond, ◌&&◌, not, List, [], ◌∷◌, ◌++◌, length, drop, slice_get, Option, Some, None, option_map, option_to_list, refl, sym, ap, ◌∙◌, append_assoc, append-nil, length-append, arith}
 use Rattle.std.specs.List.{filter}
-use Rattle.ak_address.specs.Unique.{UniqueModel}
+use Rattle.ak_address.specs.Unique.{AddressModel, UniqueModel}
 use Rattle.ak_member.specs.declared.effect.Effect.{Effect}
 use Rattle.ak_member.specs.declared.effect.Effect.TheVariants.{Rise}
 use Rattle.ak_member.specs.declared.status.Status.{Status}
@@ -11,8 +11,7 @@ use Rattle.ak_member.specs.declared.standing.Standing.{Standing}
 use Rattle.ak_member.specs.Standing.{is_down, member_pairs}
 use Rattle.ak_member.specs.View.{View}
 use Rattle.ak_member.proofs.MemberLemmas.{KeepsPairs, keeps_filtered, keeps_members, kept_pair, kept_at_end}
-use Rattle.ak_member.proofs.OldestLaws.{counted_among, keeps_counted}
-use Rattle.ak_member.proofs.CountedLaws.{KeepsProcess, counted_process, filtered_process}
+use Rattle.ak_member.proofs.CountedLaws.{KeepsProcess, filtered_process, role_among, keeps_role, role_process}
 use Rattle.ak_reach.specs.Unreachable.{unreachable_members}
 use Rattle.ak_downing.specs.Downing.{is_beside, all_downed}
 
@@ -20,54 +19,54 @@ use Rattle.ak_downing.specs.Downing.{is_beside, all_downed}
 abbrev pub beside_pair : View → UniqueModel → UniqueModel × ℕ → Bool
 beside_pair v me pair = is_beside (unreachable_members v) me pair.0
 
-abbrev pub beside_among : View → UniqueModel → List (UniqueModel × Standing) → List (UniqueModel × ℕ)
-beside_among v me pairs = filter (beside_pair v me) (counted_among pairs)
+abbrev pub beside_among : List AddressModel → View → UniqueModel → List (UniqueModel × Standing) → List (UniqueModel × ℕ)
+beside_among role v me pairs = filter (beside_pair v me) (role_among role pairs)
 
-pub keeps_beside : (v : View) (me : UniqueModel) → KeepsPairs (beside_among v me)
-keeps_beside v me = keeps_filtered counted_among keeps_counted (beside_pair v me)
+pub keeps_beside : (role : List AddressModel) (v : View) (me : UniqueModel) → KeepsPairs (beside_among role v me)
+keeps_beside role v me = keeps_filtered (role_among role) (keeps_role role) (beside_pair v me)
 
-pub beside_process : (v : View) (me : UniqueModel) → KeepsProcess (beside_among v me)
-beside_process v me = filtered_process counted_among counted_process (beside_pair v me)
+pub beside_process : (role : List AddressModel) (v : View) (me : UniqueModel) → KeepsProcess (beside_among role v me)
+beside_process role v me = filtered_process (role_among role) (role_process role) (beside_pair v me)
 
 -- ---- how many pass a test
-module _ (p : UniqueModel × ℕ → Bool) where
+module _ (role : List AddressModel) (p : UniqueModel × ℕ → Bool) where
   abbrev left : List (UniqueModel × Standing) → ℕ → ℕ
-  left es i = length (filter p (counted_among (drop i es)))
+  left es i = length (filter p (role_among role (drop i es)))
 
   one_passes : (r : UniqueModel × ℕ) (rs : List (UniqueModel × ℕ)) (b : Bool) → p r ≡ b → length (filter p (r ∷ rs)) ≡ cond b 1 0 + length (filter p rs)
   one_passes r rs true is = ap (λ b. length (cond b (r ∷ filter p rs) (filter p rs))) is ∙ omega arith
   one_passes r rs false is = ap (λ b. length (cond b (r ∷ filter p rs) (filter p rs))) is ∙ omega arith
 
-  one_of : (es : List (UniqueModel × Standing)) (i : ℕ) (r : UniqueModel × ℕ) (b : Bool) → r ∷ [] ≡ counted_among (option_to_list (slice_get es i)) → p r ≡ b → left es i ≡ cond b 1 0 + left es (i + 1)
-  one_of es i r b is test = ap (λ rs. length (filter p rs)) (kept_pair counted_among keeps_counted es i (Some r) is) ∙ one_passes r (counted_among (drop (i + 1) es)) b test
+  one_of : (es : List (UniqueModel × Standing)) (i : ℕ) (r : UniqueModel × ℕ) (b : Bool) → r ∷ [] ≡ role_among role (option_to_list (slice_get es i)) → p r ≡ b → left es i ≡ cond b 1 0 + left es (i + 1)
+  one_of es i r b is test = ap (λ rs. length (filter p rs)) (kept_pair (role_among role) (keeps_role role) es i (Some r) is) ∙ one_passes r (role_among role (drop (i + 1) es)) b test
 
-  pub passes : (es : List (UniqueModel × Standing)) (i n total : ℕ) (r : UniqueModel × ℕ) → r ∷ [] ≡ counted_among (option_to_list (slice_get es i)) → p r ≡ true → n + left es i ≡ total → n + 1 + left es (i + 1) ≡ total
+  pub passes : (es : List (UniqueModel × Standing)) (i n total : ℕ) (r : UniqueModel × ℕ) → r ∷ [] ≡ role_among role (option_to_list (slice_get es i)) → p r ≡ true → n + left es i ≡ total → n + 1 + left es (i + 1) ≡ total
   passes es i n total r is test so_far = let one = one_of es i r true is test in omega arith
 
-  pub fails : (es : List (UniqueModel × Standing)) (i n total : ℕ) (r : UniqueModel × ℕ) → r ∷ [] ≡ counted_among (option_to_list (slice_get es i)) → p r ≡ false → n + left es i ≡ total → n + left es (i + 1) ≡ total
+  pub fails : (es : List (UniqueModel × Standing)) (i n total : ℕ) (r : UniqueModel × ℕ) → r ∷ [] ≡ role_among role (option_to_list (slice_get es i)) → p r ≡ false → n + left es i ≡ total → n + left es (i + 1) ≡ total
   fails es i n total r is test so_far = let one = one_of es i r false is test in omega arith
 
-  pub nobody_there : (es : List (UniqueModel × Standing)) (i n total : ℕ) → [] ≡ counted_among (option_to_list (slice_get es i)) → n + left es i ≡ total → n + left es (i + 1) ≡ total
-  nobody_there es i n total is so_far = ap (λ rs. n + length (filter p rs)) (sym (kept_pair counted_among keeps_counted es i None is)) ∙ so_far
+  pub nobody_there : (es : List (UniqueModel × Standing)) (i n total : ℕ) → [] ≡ role_among role (option_to_list (slice_get es i)) → n + left es i ≡ total → n + left es (i + 1) ≡ total
+  nobody_there es i n total is so_far = ap (λ rs. n + length (filter p rs)) (sym (kept_pair (role_among role) (keeps_role role) es i None is)) ∙ so_far
 
   pub all_there : (es : List (UniqueModel × Standing)) (i n total : ℕ) → length es ≤ i → n + left es i ≡ total → n ≡ total
-  all_there es i n total past so_far = let e = ap (λ rs. length (filter p rs)) (kept_at_end counted_among keeps_counted es i past) in omega arith
+  all_there es i n total past so_far = let e = ap (λ rs. length (filter p rs)) (kept_at_end (role_among role) (keeps_role role) es i past) in omega arith
 
 -- ---- the first counted one
-abbrev pub first_left : List (UniqueModel × Standing) → ℕ → Option UniqueModel
-first_left es i = option_map (λ (pair : UniqueModel × ℕ). pair.0) (slice_get (counted_among (drop i es)) 0)
+abbrev pub first_left : List AddressModel → List (UniqueModel × Standing) → ℕ → Option UniqueModel
+first_left role es i = option_map (λ (pair : UniqueModel × ℕ). pair.0) (slice_get (role_among role (drop i es)) 0)
 
 abbrev first_of : List (UniqueModel × ℕ) → Option UniqueModel
 first_of pairs = option_map (λ (pair : UniqueModel × ℕ). pair.0) (slice_get pairs 0)
 
-pub first_here : (es : List (UniqueModel × Standing)) (i : ℕ) (r : UniqueModel × ℕ) → r ∷ [] ≡ counted_among (option_to_list (slice_get es i)) → first_left es i ≡ Some r.0
-first_here es i r is = ap first_of (kept_pair counted_among keeps_counted es i (Some r) is)
+pub first_here : (role : List AddressModel) (es : List (UniqueModel × Standing)) (i : ℕ) (r : UniqueModel × ℕ) → r ∷ [] ≡ role_among role (option_to_list (slice_get es i)) → first_left role es i ≡ Some r.0
+first_here role es i r is = ap first_of (kept_pair (role_among role) (keeps_role role) es i (Some r) is)
 
-pub first_later : (es : List (UniqueModel × Standing)) (i : ℕ) → [] ≡ counted_among (option_to_list (slice_get es i)) → first_left es (i + 1) ≡ first_left es i
-first_later es i is = ap first_of (sym (kept_pair counted_among keeps_counted es i None is))
+pub first_later : (role : List AddressModel) (es : List (UniqueModel × Standing)) (i : ℕ) → [] ≡ role_among role (option_to_list (slice_get es i)) → first_left role es (i + 1) ≡ first_left role es i
+first_later role es i is = ap first_of (sym (kept_pair (role_among role) (keeps_role role) es i None is))
 
-pub no_first : (es : List (UniqueModel × Standing)) (i : ℕ) → length es ≤ i → first_left es i ≡ None
-no_first es i past = ap first_of (kept_at_end counted_among keeps_counted es i past)
+pub no_first : (role : List AddressModel) (es : List (UniqueModel × Standing)) (i : ℕ) → length es ≤ i → first_left role es i ≡ None
+no_first role es i past = ap first_of (kept_at_end (role_among role) (keeps_role role) es i past)
 
 -- ---- those that go down
 abbrev pub downed_among : (UniqueModel → Bool) → List (UniqueModel × Standing) → List Effect

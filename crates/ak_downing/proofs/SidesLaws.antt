@@ -9,7 +9,7 @@ use Rattle.ak_address.specs.Uniques.{UniqueSet}
 use Rattle.ak_address.proofs.Elements.{contains_first, contains_rest, in_filter, filter_in, in_map, map_in}
 use Rattle.ak_address.proofs.SharedAddress.{shared_address}
 use Rattle.ak_member.specs.Standing.{Standings, members_of}
-use Rattle.ak_member.specs.Age.{counted_pairs, counted_addresses}
+use Rattle.ak_member.specs.Age.{role_pairs, role_addresses}
 use Rattle.ak_member.specs.View.{View, RowTable}
 use Rattle.ak_reach.specs.Unreachable.{unreachable_members}
 use Rattle.ak_settings.specs.declared.settings.Strategy.TheVariants.{StaticQuorum, KeepMajority}
@@ -30,21 +30,21 @@ quorum_means quorum all beside is = by_case (nat_le (2 * quorum) all) (nat_le qu
     by_case false true p q is = (leb-false (2 * quorum) all p, leb-true quorum beside q)
     by_case false false p q is = absurd cc
 
-address_counts : (v : View) (me : UniqueModel) (a : AddressModel) → Contains (addresses_beside v me) a → Contains (counted_addresses v.standings) a
-address_counts v me a there =
-    let pairs = counted_pairs (members_of v.standings) in
-    let pair = in_map (λ (pair : UniqueModel × ℕ). pair.0.address) (counted_beside v me) a there in
+address_counts : (role : List AddressModel) (v : View) (me : UniqueModel) (a : AddressModel) → Contains (addresses_beside role v me) a → Contains (role_addresses role v.standings) a
+address_counts role v me a there =
+    let pairs = role_pairs role (members_of v.standings) in
+    let pair = in_map (λ (pair : UniqueModel × ℕ). pair.0.address) (counted_beside role v me) a there in
     let counts = in_filter (beside_pair v me) pairs pair.0 pair.1 in
-    subst (Contains (counted_addresses v.standings)) (sym pair.2) (map_in (λ (pair : UniqueModel × ℕ). pair.0.address) pairs pair.0 counts.0)
+    subst (Contains (role_addresses role v.standings)) (sym pair.2) (map_in (λ (pair : UniqueModel × ℕ). pair.0.address) pairs pair.0 counts.0)
 
-pub not_both_quorums : (quorum : ℕ) (members : Standings) (rows others : RowTable) (me you : UniqueModel)
-    → HaveNoneInCommon (addresses_beside (seen_with members rows) me) (addresses_beside (seen_with members others) you) → BothGoOn (StaticQuorum quorum) (seen_with members rows) me (seen_with members others) you → ⊥
-not_both_quorums quorum members rows others me you apart both =
+pub not_both_quorums : (quorum : ℕ) (role : List AddressModel) (members : Standings) (rows others : RowTable) (me you : UniqueModel)
+    → HaveNoneInCommon (addresses_beside role (seen_with members rows) me) (addresses_beside role (seen_with members others) you) → BothGoOn (StaticQuorum quorum) role (seen_with members rows) me (seen_with members others) you → ⊥
+not_both_quorums quorum role members rows others me you apart both =
     let v = seen_with members rows in
     let w = seen_with members others in
-    let one = quorum_means quorum (distinct (counted_addresses members)) (distinct (addresses_beside v me)) both.0 in
-    let other = quorum_means quorum (distinct (counted_addresses members)) (distinct (addresses_beside w you)) both.1 in
-    let shared = shared_address (counted_addresses members) (addresses_beside v me) (addresses_beside w you) quorum (address_counts v me) (address_counts w you) one.0 one.1 other.1 in
+    let one = quorum_means quorum (distinct (role_addresses role members)) (distinct (addresses_beside role v me)) both.0 in
+    let other = quorum_means quorum (distinct (role_addresses role members)) (distinct (addresses_beside role w you)) both.1 in
+    let shared = shared_address (role_addresses role members) (addresses_beside role v me) (addresses_beside role w you) quorum (address_counts role v me) (address_counts role w you) one.0 one.1 other.1 in
     apart shared.0 shared.1 shared.2
 
 -- ---- keep-majority
@@ -52,7 +52,7 @@ abbrev Pairs : Type 0
 Pairs = List (UniqueModel × ℕ)
 
 -- where nobody passes both tests
-disjoint_parts : (p q : UniqueModel × ℕ → Bool) (xs : Pairs) → ((x : UniqueModel × ℕ) → Contains xs x → p x ≡ true → q x ≡ true → ⊥) → length (filter p xs) + length (filter q xs) ≤ length xs
+pub disjoint_parts : (p q : UniqueModel × ℕ → Bool) (xs : Pairs) → ((x : UniqueModel × ℕ) → Contains xs x → p x ≡ true → q x ≡ true → ⊥) → length (filter p xs) + length (filter q xs) ≤ length xs
 disjoint_parts p q [] none = omega arith
 disjoint_parts p q (x ∷ xs) none =
     by_case (p x) (q x) refl refl (disjoint_parts p q xs (λ y there. none y (contains_rest x y xs there)))
@@ -85,19 +85,19 @@ first_both lost missed me you (x ∷ pairs) one other = (x, contains_first x pai
     beside true is = refl
     beside false is = absurd cc
 
-pub not_both_majorities : (members : Standings) (rows others : RowTable) (me you : UniqueModel)
-    → HaveNoneInCommon (counted_beside (seen_with members rows) me) (counted_beside (seen_with members others) you) → BothGoOn KeepMajority (seen_with members rows) me (seen_with members others) you → ⊥
-not_both_majorities members rows others me you apart both =
+pub not_both_majorities : (role : List AddressModel) (members : Standings) (rows others : RowTable) (me you : UniqueModel)
+    → HaveNoneInCommon (counted_beside role (seen_with members rows) me) (counted_beside role (seen_with members others) you) → BothGoOn KeepMajority role (seen_with members rows) me (seen_with members others) you → ⊥
+not_both_majorities role members rows others me you apart both =
     let v = seen_with members rows in
     let w = seen_with members others in
-    let counted = counted_pairs (members_of members) in
+    let counted = role_pairs role (members_of members) in
     let never : (x : UniqueModel × ℕ) → Contains counted x → beside_pair v me x ≡ true → beside_pair w you x ≡ true → ⊥ =
     λ x there one other. apart x (filter_in (beside_pair v me) counted x there one) (filter_in (beside_pair w you) counted x there other) in
     let few = disjoint_parts (beside_pair v me) (beside_pair w you) counted never in
     let mine = length-filter_both (beside_pair v me) (λ x. not (beside_pair v me x)) (λ x. refl) counted in
     let yours = length-filter_both (beside_pair w you) (λ x. not (beside_pair w you x)) (λ x. refl) counted in
-    let one = majority_means (length (counted_beside v me)) (length (counted_apart v me)) (by_first (unreachable_members v) me counted) both.0 in
-    let other = majority_means (length (counted_beside w you)) (length (counted_apart w you)) (by_first (unreachable_members w) you counted) both.1 in
+    let one = majority_means (length (counted_beside role v me)) (length (counted_apart role v me)) (by_first (unreachable_members v) me counted) both.0 in
+    let other = majority_means (length (counted_beside role w you)) (length (counted_apart role w you)) (by_first (unreachable_members w) you counted) both.1 in
     elim one [
       | inl more ↦ elim other [ inl also ↦ absurd (omega arith) | inr even ↦ let same = even.0 in absurd (omega arith) ]
       | inr even ↦ elim other [

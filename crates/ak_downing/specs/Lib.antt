@@ -1,2 +1,3 @@
 pub mod Downing
+pub mod Oldest
 pub mod Sides

@@ -1,7 +1,7 @@
 -- Two nodes that know the same members and have found different ones unreachable; and what a decision downs.
 use Rattle.std.specs.Prelude.{◌≡◌, ℕ, false, IsTrue, Some, List, Contains}
 use Rattle.std.specs.FinMap as map
-use Rattle.ak_address.specs.Unique.{UniqueModel}
+use Rattle.ak_address.specs.Unique.{AddressModel, UniqueModel}
 use Rattle.ak_member.specs.declared.effect.Effect.{Effect}
 use Rattle.ak_member.specs.declared.effect.Effect.TheVariants.{Rise}
 use Rattle.ak_member.specs.declared.status.Status.{Status}
@@ -23,8 +23,8 @@ abbrev pub HaveNoneInCommon : {X : Type 0} → List X → List X → Type 0
 HaveNoneInCommon {X} xs ys = (x : X) → Contains xs x → Contains ys x → ⊥
 
 -- each of the two nodes goes on and downs whom it finds unreachable
-abbrev pub BothGoOn : Strategy → View → UniqueModel → View → UniqueModel → Type 0
-BothGoOn strategy v me w you = (decide strategy v me ≡ DownUnreachable) × (decide strategy w you ≡ DownUnreachable)
+abbrev pub BothGoOn : Strategy → List AddressModel → View → UniqueModel → View → UniqueModel → Type 0
+BothGoOn strategy role v me w you = (decide strategy role v me ≡ DownUnreachable) × (decide strategy role w you ≡ DownUnreachable)
 
 -- an effect downs a member that is not Down and that the decision is against
 pub record IsDowning (decided : Decision) (v : View) (me : UniqueModel) (effect : Effect) : Type 0 where

@@ -1,15 +1,16 @@
 -- How many addresses some of the counted members have, along the pairs.
-use Rattle.std.proofs.Common.{◌≡◌, ℕ, ◌+◌, ◌≤◌, Bool, true, false, cond, T, List, [], ◌∷◌, map, length, drop, slice_get, Some, None, option_to_list, ◌⊎◌, inl, inr, refl, sym, ap, subst, arith}
+use Rattle.std.proofs.Common.{◌≡◌, ℕ, ◌+◌, ◌≤◌, Bool, true, false, cond, T, List, [], ◌∷◌, map, length, drop, slice_get, Some, None, option_to_list, Contains, ◌∙◌, ◌⊎◌, inl, inr, refl, sym, ap, subst, arith}
 use Rattle.std.specs.FinMap.{is_sorted}
 use Rattle.std.specs.List.{filter}
-use Rattle.ak_address.specs.Unique.{UniqueModel, unique_cmp}
+use Rattle.ak_address.specs.Unique.{AddressModel, UniqueModel, unique_cmp}
+use Rattle.ak_address.proofs.Elements.{contains_first, contains_rest}
 use Rattle.ak_address.specs.Distinct.{AddressCountModel, none_counted, counted_with, distinct, addresses_of}
 use Rattle.ak_address.proofs.DistinctLaws.{Counting, counting_start, counting_one, counting_end, counted_few}
 use Rattle.ak_member.specs.declared.standing.Standing.{Standing}
 use Rattle.ak_member.specs.declared.standing.Standing.TheVariants.{Member, Buried}
-use Rattle.ak_member.specs.Age.{counts}
-use Rattle.ak_member.proofs.MemberLemmas.{KeepsPairs, keeps_mapped, kept_pair, kept_at_end, kept_rising}
-use Rattle.ak_member.proofs.OldestLaws.{counted_among}
+use Rattle.ak_member.specs.Age.{counts, has_role}
+use Rattle.ak_member.proofs.MemberLemmas.{KeepsPairs, keeps_filtered, keeps_mapped, kept_pair, kept_at_end, kept_rising}
+use Rattle.ak_member.proofs.OldestLaws.{counted_among, keeps_counted}
 
 -- one pair is kept with its process, or not at all
 abbrev pub KeepsProcess : (List (UniqueModel × Standing) → List (UniqueModel × ℕ)) → Type 0
@@ -84,3 +85,20 @@ module _ (kept : List (UniqueModel × Standing) → List (UniqueModel × ℕ)) w
 
     pub counted_end : (c : AddressCountModel) (es : List (UniqueModel × Standing)) (i total : ℕ) → length es ≤ i → CountedTo c es i total → c.count ≡ total
     counted_end c es i total past so_far = counting_end c (processes_among (drop i es)) total (kept_at_end processes_among keeps_processes es i past) so_far.counting
+
+-- ---- those that have the role
+abbrev pub role_among : List AddressModel → List (UniqueModel × Standing) → List (UniqueModel × ℕ)
+role_among role pairs = filter (has_role role) (counted_among pairs)
+
+pub keeps_role : (role : List AddressModel) → KeepsPairs (role_among role)
+keeps_role role = keeps_filtered counted_among keeps_counted (has_role role)
+
+pub role_process : (role : List AddressModel) → KeepsProcess (role_among role)
+role_process role = filtered_process counted_among counted_process (has_role role)
+
+-- where all of them have it, they are all the counted ones
+pub all_have_role : (role : List AddressModel) (ms : List (UniqueModel × ℕ)) → ((m : UniqueModel × ℕ) → Contains ms m → has_role role m ≡ true) → filter (has_role role) ms ≡ ms
+all_have_role role [] each = refl
+all_have_role role (m ∷ ms) each =
+    ap (λ b. cond b (m ∷ filter (has_role role) ms) (filter (has_role role) ms)) (each m (contains_first m ms))
+    ∙ ap (λ l. m ∷ l) (all_have_role role ms (λ n there. each n (contains_rest m n ms there)))

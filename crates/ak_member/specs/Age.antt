@@ -3,6 +3,8 @@
 use Rattle.std.specs.Prelude.{◌≡◌, ◌↔◌, ℕ, ◌<◌, nat_lt, Bool, true, false, IsTrue, List, [], ◌∷◌, Option, None, Some, option_map, slice_get, Contains, ◌⊎◌, if◌then◌else◌}
 use Rattle.std.specs.Prelude as list
 use Rattle.std.specs.FinMap as map
+use Rattle.std.specs.List.{filter}
+use Rattle.ak_address.specs.Distinct.{is_among}
 use Rattle.std.specs.declared.cmp.Ordering.TheVariants.{Less}
 use Rattle.ak_address.specs.Unique.{AddressModel, UniqueModel, unique_cmp}
 use Rattle.ak_member.specs.declared.status.Status.{Status}
@@ -50,6 +52,16 @@ IsOldest s (Some who) =
 -- the addresses of the counted members
 abbrev pub counted_addresses : Standings → List AddressModel
 counted_addresses s = list.map (λ pair. pair.0.address) (counted_pairs (members_of s))
+
+-- the counted members at addresses that have the role, and their addresses: what a quorum is counted over
+abbrev pub has_role : List AddressModel → UniqueModel × ℕ → Bool
+has_role role pair = is_among role pair.0.address
+
+abbrev pub role_pairs : List AddressModel → List (UniqueModel × (Status × ℕ)) → List (UniqueModel × ℕ)
+role_pairs role pairs = filter (has_role role) (counted_pairs pairs)
+
+abbrev pub role_addresses : List AddressModel → Standings → List AddressModel
+role_addresses role s = list.map (λ pair. pair.0.address) (role_pairs role (members_of s))
 
 -- at an index among the members there is a counted one with this number
 abbrev pub IsCountedAt : Standings → ℕ → ℕ → Type 0

@@ -3,11 +3,11 @@ ghost use Rattle.std.specs.Prelude as list;
 ghost use Rattle.std.specs.FinMap as map;
 ghost use Rattle.ak_address.specs.Distinct.{distinct};
 ghost use Rattle.ak_member.specs.Standing.{member_pairs, members_of};
-ghost use Rattle.ak_member.specs.Age.{counts, counted_pairs, least_pair, oldest, IsOldest, counted_addresses, IsByAge};
+ghost use Rattle.ak_member.specs.Age.{counts, counted_pairs, least_pair, oldest, role_pairs, IsOldest, role_addresses, IsByAge};
 ghost use Rattle.ak_member.specs.Indices.{indexed_from};
 
 use crate::members::{Member, Members};
-use ak_address::{AddressCount, Unique};
+use ak_address::{Address, AddressCount, Unique, contains_address};
 use std::alloc::{AllocError, Global};
 
 impl Members {
@@ -47,25 +47,40 @@ impl Members {
         }
     }
 
-    /// How many different addresses the Up and Leaving members have: what the resolver counts against a quorum (Akka's
-    /// "Split Brain Resolver", "Static Quorum"; that addresses are counted and not processes is this project's choice).
-    /// Takes no memory.
-    pub fn counted(&self) -> u32
-        requires { map.len self.now < 2 ^ 32 }
-        ensures { result ≡ distinct (counted_addresses self.now) }
+    /// The same of a member whose address has the role: a quorum is counted over these. Takes no memory.
+    pub fn role_at_pair(&self, role: &[Address], pair: usize) -> Option<(&Unique, u64)>
+        ensures { option_to_list (option_map (λ r. (r.0.now, r.1)) result) ≡ role_pairs role.now (member_pairs (option_to_list (slice_get (map.entries self.now) pair))) }
     {
-        count_in(self)
+        match self.counted_at_pair(pair) {
+            Some((unique, number)) => {
+                if contains_address(role, &unique.address) {
+                    return Some((unique, number));
+                }
+                None
+            }
+            None => None,
+        }
+    }
+
+    /// How many different addresses with the role the Up and Leaving members have: what the resolver counts against a quorum
+    /// (Akka's "Split Brain Resolver", "Static Quorum"; that addresses are counted and not processes is this project's choice).
+    /// Takes no memory.
+    pub fn counted(&self, role: &[Address]) -> u32
+        requires { map.len self.now < 2 ^ 32 }
+        ensures { result ≡ distinct (role_addresses role.now self.now) }
+    {
+        count_in(role, self)
     }
 }
 
-// How many different addresses the members have that count.
-fn count_in(members: &Members) -> u32
+// How many different addresses with the role the members have that count.
+fn count_in(role: &[Address], members: &Members) -> u32
     requires { map.len members.now < 2 ^ 32 }
-    ensures { result ≡ distinct (counted_addresses members.now) }
+    ensures { result ≡ distinct (role_addresses role.now members.now) }
 {
     let mut addresses = AddressCount::none();
     'pairs: for pair in 0..members.uniques() {
-        if let Some((unique, _)) = members.counted_at_pair(pair) {
+        if let Some((unique, _)) = members.role_at_pair(role, pair) {
             addresses.add(unique);
         }
     }

@@ -6,6 +6,6 @@ mod count;
 mod laws;
 mod sight;
 
-pub use count::{keep_tally, keep_tally_received};
+pub use count::{KeptTally, keep_tally, keep_tally_received};
 pub use laws::views_that_stand_still_show_the_same;
 pub use sight::moves;

@@ -7,4 +7,4 @@ use Rattle.ak_downing.proofs.side.reachable_addresses.Given as goal
 
 abbrev pub invariant-pairs : goal.invariant-pairs
 invariant-pairs l =
-    CountedTo (beside_among (seen_with l.members l.rows) l.me) l.addresses (map.entries l.members) l.pair (reachable_addresses (seen_with l.members l.rows) l.me)
+    CountedTo (beside_among l.role (seen_with l.members l.rows) l.me) l.addresses (map.entries l.members) l.pair (reachable_addresses l.role (seen_with l.members l.rows) l.me)

@@ -14,33 +14,33 @@ pairs-preserved c =
     let q : UniqueModel × ℕ → Bool = λ pair. not (p pair) in
     let es = map.entries c.args.members.now in
     let i = c.pairs.pair in
-    let all = length (counted_beside v c.args.me.now) in
-    let all_others = length (counted_apart v c.args.me.now) in
-    elim c.match-counted_at_pair.branch [
+    let all = length (counted_beside c.args.role.now v c.args.me.now) in
+    let all_others = length (counted_apart c.args.role.now v c.args.me.now) in
+    elim c.match-role_at_pair.branch [
       | in-Some+then-is_beside w ↦
           let r : UniqueModel × ℕ = (w.in-Some.unique.now, w.in-Some.field-0-1) in
           let is : p r ≡ true = sym w.is_beside.ensures ∙ w.if-is_beside.true in
-          let one = passes p es i c.pairs.beside all r w.in-Some.ensures is c.pairs.invariant.so_far in
-          let none = fails q es i c.pairs.others all_others r w.in-Some.ensures (ap not is) c.pairs.invariant.others_so_far in
+          let one = passes c.args.role.now p es i c.pairs.beside all r w.in-Some.ensures is c.pairs.invariant.so_far in
+          let none = fails c.args.role.now q es i c.pairs.others all_others r w.in-Some.ensures (ap not is) c.pairs.invariant.others_so_far in
           record { few = omega arith; few_others = omega arith; so_far = omega arith; others_so_far = omega arith }
       | in-Some+else-is_beside w ↦
           let r : UniqueModel × ℕ = (w.in-Some.unique.now, w.in-Some.field-0-1) in
           let is : p r ≡ false = sym w.is_beside.ensures ∙ w.if-is_beside.false in
-          let none = fails p es i c.pairs.beside all r w.in-Some.ensures is c.pairs.invariant.so_far in
-          let one = passes q es i c.pairs.others all_others r w.in-Some.ensures (ap not is) c.pairs.invariant.others_so_far in
+          let none = fails c.args.role.now p es i c.pairs.beside all r w.in-Some.ensures is c.pairs.invariant.so_far in
+          let one = passes c.args.role.now q es i c.pairs.others all_others r w.in-Some.ensures (ap not is) c.pairs.invariant.others_so_far in
           record { few = omega arith; few_others = omega arith; so_far = omega arith; others_so_far = omega arith }
       | in_default w ↦
-          let none = nobody_there p es i c.pairs.beside all w.in_default.ensures c.pairs.invariant.so_far in
-          let also = nobody_there q es i c.pairs.others all_others w.in_default.ensures c.pairs.invariant.others_so_far in
+          let none = nobody_there c.args.role.now p es i c.pairs.beside all w.in_default.ensures c.pairs.invariant.so_far in
+          let also = nobody_there c.args.role.now q es i c.pairs.others all_others w.in_default.ensures c.pairs.invariant.others_so_far in
           record { few = omega arith; few_others = omega arith; so_far = omega arith; others_so_far = omega arith }
     ]
 
 pub returns-clause-beside : goal.returns-clause-beside
 returns-clause-beside c =
     let v = seen_with c.args.members.now c.args.rows.now in
-    all_there (beside_pair v c.args.me.now) (map.entries c.args.members.now) c.pairs.pair c.pairs.beside _ (let past = map.len-entries c.args.members.now in omega arith) c.pairs.invariant.so_far
+    all_there c.args.role.now (beside_pair v c.args.me.now) (map.entries c.args.members.now) c.pairs.pair c.pairs.beside _ (let past = map.len-entries c.args.members.now in omega arith) c.pairs.invariant.so_far
 
 pub returns-clause-others : goal.returns-clause-others
 returns-clause-others c =
     let v = seen_with c.args.members.now c.args.rows.now in
-    all_there (λ pair. not (beside_pair v c.args.me.now pair)) (map.entries c.args.members.now) c.pairs.pair c.pairs.others _ (let past = map.len-entries c.args.members.now in omega arith) c.pairs.invariant.others_so_far
+    all_there c.args.role.now (λ pair. not (beside_pair v c.args.me.now pair)) (map.entries c.args.members.now) c.pairs.pair c.pairs.others _ (let past = map.len-entries c.args.members.now in omega arith) c.pairs.invariant.others_so_far

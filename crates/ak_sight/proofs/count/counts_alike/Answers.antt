@@ -1,9 +1,12 @@
-use Rattle.std.proofs.Common.{sym, ◌∙◌, arith}
+use Rattle.std.proofs.Common.{arith, refl}
 use Rattle.std.specs.FinMap as map
-use Rattle.ak_member.proofs.MemberLemmas.{kept_at_end}
-use Rattle.ak_sight.specs.Counted.{addresses_among}
-use Rattle.ak_sight.proofs.CountLemmas.{keeps_addresses}
+use Rattle.ak_sight.proofs.CountLemmas.{marked_here, marked_end}
 use Rattle.ak_sight.proofs.count.counts_alike.Goals as goal
 
-pub returns-in-None-counted_from : goal.returns-in-None-counted_from
-returns-in-None-counted_from c = λ _. c.pairs.invariant.rest (c.in-None-counted_from.ensures.next ∙ sym (kept_at_end addresses_among keeps_addresses (map.entries c.args.one.now) c.pairs.pair (let past = map.len-entries c.args.one.now in omega arith)))
+pub pairs-preserved : goal.pairs-preserved
+pairs-preserved c = λ rest. c.pairs.invariant (marked_here (map.entries c.args.one.now) (map.entries c.args.other.now) c.pairs.pair (c.if-not-counts_alike_at.ensures refl) rest)
+
+pub returns : goal.returns
+returns c = λ _. c.pairs.invariant (marked_end (map.entries c.args.one.now) (map.entries c.args.other.now) c.pairs.pair
+    (let past = map.len-entries c.args.one.now in omega (arith, c.uniques-pairs.ensures, c.pairs-test.false))
+    (let past = map.len-entries c.args.other.now in omega (arith, c.uniques-pairs.ensures, c.uniques.ensures, c.if-pairs-uniques.false, c.pairs-test.false)))
