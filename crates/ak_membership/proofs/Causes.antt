@@ -49,7 +49,7 @@ module _ (given : Given) (m : MembershipState) where
       let s = m.gossip.view.standings in
       let j = is_member_with is_joining s m.me in
       let agree = is_converged m.gossip.view m.gossip.seen in
-      let enough = nat_le (settling_size m.settings.strategy) (distinct (joining_addresses s)) in
+      let enough = nat_le (settling_size m.settings.strategy) (distinct (joining_addresses m.settings.role s)) in
       let both = first_so (m.founder && j) agree (first_so (m.founder && j && agree) enough is) in
       let joining = second_so m.founder j both in
       let mine = founds_each s m.me (joining_member s m.me joining) in

@@ -166,7 +166,7 @@ module _ (m : MembershipState) (g : IsGossip m.gossip) (effects : List Effect) w
 
   pub may_resolve : IsTrue (is_member m) → effects ≡ decided m → IsTrue (may_count m) → MayUpdate m.me effects m.gossip
   may_resolve member is may =
-      as_effects (decided m) is (downed_may m.gossip g m.me (room m may) member (is_against (decide m.settings.strategy m.gossip.view m.me) (unreachable_members m.gossip.view) m.me))
+      as_effects (decided m) is (downed_may m.gossip g m.me (room m may) member (is_against (decide m.settings.strategy m.settings.role m.gossip.view m.me) (unreachable_members m.gossip.view) m.me))
 
   -- whom the node finds silent it watches, and so they are members
   pub may_observe : IsTrue (is_member m) → IsWatching m → effects ≡ Observed (silent m) ∷ [] → IsTrue (may_count m) → MayUpdate m.me effects m.gossip

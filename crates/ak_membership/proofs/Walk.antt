@@ -148,7 +148,7 @@ module _ (given : Given) (m : MembershipState) where
   updates_learns member =
       let known = member_is_known member in
       learns_if (observes m) (λ is. updating m (Observed (silent m) ∷ []) itself (inl known, one_cause given m (Observed (silent m)) refl)) (λ no.
-      learns_if (decides m) (λ is. updating m (decided m) itself (inl known, downing_causes given m (is_against (decide m.settings.strategy m.gossip.view m.me) (unreachable_members m.gossip.view) m.me))) (λ no.
+      learns_if (decides m) (λ is. updating m (decided m) itself (inl known, downing_causes given m (is_against (decide m.settings.strategy m.settings.role m.gossip.view m.me) (unreachable_members m.gossip.view) m.me))) (λ no.
       learns_if (founds m) (λ is. updating m (founding_effects m.gossip.view.standings) itself (inl known, founding_causes given m is)) (λ no.
       learns_if (leads m) (λ is. updating_any m (leaders_effects m.gossip.view m.confirmed) itself (inl known, leading_causes given m (first_so (has_settled m) _ is))) (λ no.
       learns_if (lets_in m) (λ is. updating_any m (weak_effects m.gossip.view) itself (inl known, letting_in_causes given m)) (λ no. still)))))

@@ -1,7 +1,8 @@
--- Walks along lists: for the Joining members, and for those of a set that pass a test.
-use Rattle.std.proofs.Common.{◌≡◌, ℕ, Bool, true, false, cond, ◌&&◌, ◌⊎◌, inl, inr, List, [], ◌∷◌, ◌++◌, refl, sym, ap, ◌∙◌}
+-- Walks along lists: for the Joining members and those of them that have the role, and for those of a set that pass a test.
+use Rattle.std.proofs.Common.{◌≡◌, ℕ, Bool, true, false, cond, ◌&&◌, ◌⊎◌, inl, inr, List, [], ◌∷◌, ◌++◌, length, slice_get, Option, None, Some, option_map, option_to_list, refl, sym, ap, ◌∙◌, arith}
 use Rattle.std.specs.List.{fold, filter}
-use Rattle.ak_address.specs.Unique.{UniqueModel}
+use Rattle.ak_address.specs.Distinct.{is_among}
+use Rattle.ak_address.specs.Unique.{AddressModel, UniqueModel}
 use Rattle.ak_address.specs.Uniques.{UniqueSet, no_one, has, with_one, those, in_order, set_of}
 use Rattle.ak_address.proofs.CountersLaws.{among-filter, has-set_of, set_of-in_order, set_walked}
 use Rattle.ak_address.proofs.UniquesLaws.{same_uniques, has-no_one, has-those}
@@ -9,8 +10,11 @@ use Rattle.ak_member.specs.declared.status.Status.{Status}
 use Rattle.ak_member.specs.declared.standing.Standing.{Standing}
 use Rattle.ak_member.specs.declared.standing.Standing.TheVariants.{Member, Buried}
 use Rattle.ak_member.specs.Standing.{member_pairs, is_joining}
-use Rattle.ak_member.proofs.MemberLemmas.{KeepsPairs}
-use Rattle.ak_member.proofs.CountedLaws.{KeepsProcess}
+use Rattle.ak_member.specs.Age.{has_role}
+use Rattle.ak_member.proofs.MemberLemmas.{KeepsPairs, keeps_filtered}
+use Rattle.ak_member.proofs.CountedLaws.{KeepsProcess, filtered_process}
+use Rattle.ak_sight.specs.Counted.{role_or_not, roles_among}
+use Rattle.ak_sight.proofs.CountLemmas.{role_there}
 use Rattle.ak_membership.specs.Tick.{joining_pairs}
 
 -- ---- for the Joining ones among the pairs
@@ -34,6 +38,31 @@ joining_process (who, Member status number) = by_status (is_joining status)
     by_status : (b : Bool) → (◌≡◌ {A = List (UniqueModel × ℕ)} (cond b ((who, number) ∷ []) []) []) ⊎ ((n : ℕ) × (◌≡◌ {A = List (UniqueModel × ℕ)} (cond b ((who, number) ∷ []) []) ((who, n) ∷ [])))
     by_status true = inr (number, refl)
     by_status false = inl refl
+
+-- ---- for those of them that have the role
+abbrev pub joining_role : List AddressModel → List (UniqueModel × Standing) → List (UniqueModel × ℕ)
+joining_role role pairs = filter (has_role role) (joining_among pairs)
+
+pub keeps_joining_role : (role : List AddressModel) → KeepsPairs (joining_role role)
+keeps_joining_role role = keeps_filtered joining_among keeps_joining (has_role role)
+
+pub joining_role_process : (role : List AddressModel) → KeepsProcess (joining_role role)
+joining_role_process role = filtered_process joining_among joining_process (has_role role)
+
+module _ (role : List AddressModel) (es : List (UniqueModel × Standing)) (pair : ℕ) (who : UniqueModel) (status : Status) (number : ℕ) where
+  at_pair : (o : Option (UniqueModel × Standing)) → (who, (status, number)) ∷ [] ≡ member_pairs (option_to_list o) → option_map (λ (p : UniqueModel × Standing). p.0) o ≡ Some who
+  at_pair None is = absurd (let one = ap length is in omega arith)
+  at_pair (Some (w, Buried confirmed)) is = absurd (let one = ap length is in omega arith)
+  at_pair (Some (w, Member other n)) is = sym (ap (λ (l : List (UniqueModel × (Status × ℕ))). option_map (λ p. p.0) (slice_get l 0)) is)
+
+  -- a Joining member is kept where the role is known of its pair
+  pub joining_kept : (has : Bool) → (who, (status, number)) ∷ [] ≡ member_pairs (option_to_list (slice_get es pair)) → has ≡ role_or_not (slice_get (roles_among role es) pair)
+      → cond (is_joining status && has) ((who, number) ∷ []) [] ≡ joining_role role (option_to_list (slice_get es pair))
+  joining_kept has here is = by_case (is_joining status) has (is ∙ ap role_or_not (role_there role who es pair (at_pair (slice_get es pair) here))) ∙ ap (λ l. filter (has_role role) (joining_pairs l)) here
+    where
+      by_case : (j b : Bool) → b ≡ is_among role who.address → cond (j && b) ((who, number) ∷ []) [] ≡ filter (has_role role) (cond j ((who, number) ∷ []) [])
+      by_case false b is = refl
+      by_case true b is = ap (λ c. cond c ((who, number) ∷ []) []) is
 
 -- ---- those of a set that pass a test
 pub those_walked : (p : UniqueModel → Bool) (set : UniqueSet) → fold with_one no_one (filter p (in_order set)) ≡ those set p

@@ -3,7 +3,7 @@
 -- one that does not settle ("WeaklyUp Members"). That at most one of them is written at a tick, and that in a view that is not
 -- settled the leader lets members in and does nothing else, are this project's choice.
 use Rattle.std.specs.Prelude.{ℕ, ◌+◌, ◌*◌, ◌%◌, ◌==◌, min, Bool, true, false, ◌&&◌, ◌||◌, not, nat_le, nat_lt, List, [], ◌∷◌, length, map, Option, Some, None, if◌then◌else◌}
-use Rattle.std.specs.List.{list_any}
+use Rattle.std.specs.List.{list_any, filter}
 use Rattle.std.specs.Ordering.{is_eq}
 use Rattle.std.specs.FinMap as finmap
 use Rattle.ak_address.specs.Unique.{AddressModel, UniqueModel, unique_cmp}
@@ -12,7 +12,7 @@ use Rattle.ak_address.specs.Distinct.{distinct}
 use Rattle.ak_member.specs.declared.effect.Effect.{Effect}
 use Rattle.ak_member.specs.declared.effect.Effect.TheVariants.{Observed}
 use Rattle.ak_member.specs.declared.status.Status.{Status}
-use Rattle.ak_member.specs.Age.{counts}
+use Rattle.ak_member.specs.Age.{counts, has_role}
 use Rattle.ak_member.specs.Standing.{Standings, is_down, members_of, is_joining, is_member_with}
 use Rattle.ak_member.specs.Standing as standing
 use Rattle.ak_member.specs.View.{Row}
@@ -68,7 +68,7 @@ abbrev pub decides : MembershipState → Bool
 decides m = stood m == m.settings.stable && some_counts m.gossip.view.standings && has_lost m
 
 abbrev pub decided : MembershipState → List Effect
-decided m = downs (decide m.settings.strategy m.gossip.view m.me) m.gossip.view m.me
+decided m = downs (decide m.settings.strategy m.settings.role m.gossip.view m.me) m.gossip.view m.me
 
 -- ---- the founding
 -- the Joining members with their numbers, in the order of processes
@@ -76,22 +76,22 @@ abbrev pub joining_pairs : List (UniqueModel × (Status × ℕ)) → List (Uniqu
 joining_pairs [] = []
 joining_pairs (pair ∷ pairs) = if is_joining pair.1.0 then (pair.0, pair.1.1) ∷ joining_pairs pairs else joining_pairs pairs
 
--- the addresses of the Joining members
-abbrev pub joining_addresses : Standings → List AddressModel
-joining_addresses s = map (λ pair. pair.0.address) (joining_pairs (members_of s))
+-- the addresses of the Joining members that have the role
+abbrev pub joining_addresses : List AddressModel → Standings → List AddressModel
+joining_addresses role s = map (λ pair. pair.0.address) (filter (has_role role) (joining_pairs (members_of s)))
 
--- the founder, Joining itself, founds the cluster: all agree, and members at enough addresses have joined
+-- the founder, Joining itself, founds the cluster: all agree, and members at enough addresses with the role have joined
 abbrev pub founds : MembershipState → Bool
 founds m =
     m.founder
     && is_member_with is_joining m.gossip.view.standings m.me
     && is_converged m.gossip.view m.gossip.seen
-    && nat_le (settling_size m.settings.strategy) (distinct (joining_addresses m.gossip.view.standings))
+    && nat_le (settling_size m.settings.strategy) (distinct (joining_addresses m.settings.role m.gossip.view.standings))
 
 -- ---- the leader
 -- the view is settled
 abbrev pub has_settled : MembershipState → Bool
-has_settled m = is_settled (settling_size m.settings.strategy) m.gossip.view m.gossip.seen
+has_settled m = is_settled (settling_size m.settings.strategy) m.settings.role m.gossip.view m.gossip.seen
 
 -- this process is the one, where there is one
 abbrev pub is_process : UniqueModel → Option UniqueModel → Bool

@@ -12,8 +12,8 @@ ghost use Rattle.ak_membership.specs.MembershipContracts.{Closes, MayTake, IsAtR
 use crate::change::Closing;
 use crate::state::MembershipState;
 use ak_clock::{Relation, Version};
-use ak_converge::Tally;
 use ak_detector::Detector;
+use ak_sight::KeptTally;
 use std::alloc::{AllocError, Global};
 
 fn is_other(old: &Version, new: &Version) -> bool
@@ -30,8 +30,8 @@ fn is_other(old: &Version, new: &Version) -> bool
 
 impl MembershipState {
     // A settled view is to be noted.
-    pub(crate) fn is_noted(&self, tally: &Tally) -> bool
-        requires { IsTallyOf tally.now self.now.gossip }
+    pub(crate) fn is_noted(&self, tally: &KeptTally) -> bool
+        requires { IsTallyOf self.now.settings.role tally.now self.now.gossip }
         ensures { result ≡ closing.is_noted self.now }
     {
         if self.settled.exists() && !is_other(self.settled.version(), self.gossip.version()) {
@@ -110,9 +110,9 @@ impl MembershipState {
         &mut self,
         alloc: Global,
         stopping: bool,
-        tally: &Tally,
+        tally: &KeptTally,
     ) -> Result<(Closing, bool), AllocError>
-        requires tally { IsTallyOf tally.now self.old.gossip }
+        requires tally { IsTallyOf self.old.settings.role tally.now self.old.gossip }
         requires covers { Covers self.old.gossip.version (version_of self.old.settled.view) }
         ensures ok { IfOk result (λ r. Closes (closing.close stopping self.old) self.new r.0) }
         ensures rest { IfOk result (λ r. RestsIf r.1 self.new) }

@@ -10,6 +10,7 @@ mod members;
 mod membership;
 mod silence;
 mod state;
+mod ticking;
 
 pub use change::{Change, Closing, MemberFault, Reply};
 pub use laws::rows_name_who_is_silent;

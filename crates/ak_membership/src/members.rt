@@ -1,19 +1,23 @@
-ghost use Rattle.std.specs.Prelude.{◌≡◌, ◌≢◌, ◌<◌, ◌^◌, [], IfOk, OnErr, slice_get, option_copied, option_map, option_to_list};
+ghost use Rattle.std.specs.Prelude.{◌≡◌, ◌≢◌, ◌<◌, ◌^◌, List, [], IfOk, OnErr, slice_get, option_copied, option_map, option_to_list};
 ghost use Rattle.std.specs.Prelude as list;
 ghost use Rattle.std.specs.FinMap as map;
-ghost use Rattle.std.specs.List.{list_any};
+ghost use Rattle.std.specs.List.{filter, list_any};
 ghost use Rattle.ak_address.specs.Distinct.{distinct};
+ghost use Rattle.ak_address.specs.Unique.{AddressModel};
 ghost use Rattle.ak_gossip.specs.Gossip as gossip;
+ghost use Rattle.ak_member.specs.Age.{has_role};
 ghost use Rattle.ak_member.specs.Standing as standing;
 ghost use Rattle.ak_member.specs.Standing.{member_pairs};
 ghost use Rattle.ak_member.specs.declared.effect.Effect.TheVariants.{Rise};
 ghost use Rattle.ak_member.specs.declared.status.Status.TheVariants as status;
 ghost use Rattle.ak_downing.specs.Downing.{all_downed};
+ghost use Rattle.ak_sight.specs.Counted.{roles_among};
 ghost use Rattle.ak_membership.specs.Membership as rules;
 ghost use Rattle.ak_membership.specs.Tick as ticks;
 
 use ak_address::{AddressCount, Unique};
 use ak_member::{Effect, Effects, Members, Status};
+use ak_sight::KeptTally;
 use std::alloc::{AllocError, Global};
 
 // The process is a member or a tombstone.
@@ -104,13 +108,13 @@ pub(crate) fn downed_beside(
     Ok(effects)
 }
 
-// The process and the number of the member at a pair, where there is a Joining one.
-fn joining_at<'a>(members: &'a Members, pair: usize) -> Option<(&'a Unique, u64)>
-    ensures { option_to_list (option_map (λ r. (r.0.now, r.1)) result) ≡ ticks.joining_pairs (member_pairs (option_to_list (slice_get (map.entries members.now) pair))) }
+// The process and the number of the member at a pair, where there is a Joining one whose address has the role.
+fn joining_at<'a>(tally: &KeptTally, members: &'a Members, pair: usize) -> Option<(&'a Unique, u64)>
+    ensures { (role : List AddressModel) → tally.now.roles ≡ roles_among role (map.entries members.now) → option_to_list (option_map (λ r. (r.0.now, r.1)) result) ≡ filter (has_role role) (ticks.joining_pairs (member_pairs (option_to_list (slice_get (map.entries members.now) pair)))) }
 {
     match members.member_at_pair(pair) {
         Some(member) => {
-            if member.status.is_joining() {
+            if member.status.is_joining() && tally.has_role_at(pair) {
                 return Some((member.unique, member.up_number));
             }
             None
@@ -119,14 +123,14 @@ fn joining_at<'a>(members: &'a Members, pair: usize) -> Option<(&'a Unique, u64)
     }
 }
 
-// How many different addresses the Joining members have.
-pub(crate) fn joining_addresses(members: &Members) -> u32
+// How many different addresses with the role the Joining members have, where the tally is one of these members.
+pub(crate) fn joining_addresses(tally: &KeptTally, members: &Members) -> u32
     requires { map.len members.now < 2 ^ 32 }
-    ensures { result ≡ distinct (ticks.joining_addresses members.now) }
+    ensures { (role : List AddressModel) → tally.now.roles ≡ roles_among role (map.entries members.now) → result ≡ distinct (ticks.joining_addresses role members.now) }
 {
     let mut addresses = AddressCount::none();
     'pairs: for pair in 0..members.uniques() {
-        if let Some((unique, _)) = joining_at(members, pair) {
+        if let Some((unique, _)) = joining_at(tally, members, pair) {
             addresses.add(unique);
         }
     }

@@ -12,22 +12,15 @@ ghost use Rattle.ak_membership.specs.MembershipContracts.{Makes, Answers, IsAcce
 ghost use Rattle.ak_membership.specs.Tick as ticks;
 
 use crate::change::{Change, MemberFault, Reply};
-use crate::lost::{has_lost, some_counts};
-use crate::members::{
-    downed_beside, has_member_beside, is_down, is_joining, is_known, joining_addresses,
-};
+use crate::members::{downed_beside, has_member_beside, is_down, is_known};
 use ak_address::{Address, Unique, Uniques};
 use ak_clock::{BOUND, Version};
-use ak_converge::Tally;
 use ak_detector::Detector;
-use ak_downing::{decide, downs};
 use ak_gossip::{Gossip, GossipFault, Received};
-use ak_leader::{actions, founding, leader, weak_effects};
 use ak_member::{Effect, Effects, Status};
-use ak_select::peer;
-use ak_settings::{Settings, Strategy};
+use ak_settings::Settings;
 use ak_settled::Settled;
-use ak_sight::{keep_tally, keep_tally_received, moves};
+use ak_sight::{KeptTally, keep_tally, keep_tally_received, moves};
 use std::alloc::{AllocError, Global};
 
 /// A view that holds this many uniques admits no further process: so two views that grew by joins apart hold no more together than
@@ -64,7 +57,7 @@ pub struct MembershipState {
 }
 
 // Nothing changed.
-fn unchanged(alloc: Global) -> Change
+pub(crate) fn unchanged(alloc: Global) -> Change
     ensures { result ≡ rules.no_change }
 {
     Change {
@@ -74,8 +67,15 @@ fn unchanged(alloc: Global) -> Change
     }
 }
 
+// The addresses with the role.
+pub(crate) fn role_of(settings: &Settings) -> &[Address]
+    ensures { result.now ≡ settings.now.role }
+{
+    &settings.role
+}
+
 // One effect alone.
-fn one(alloc: Global, effect: Effect) -> Result<Effects, AllocError>
+pub(crate) fn one(alloc: Global, effect: Effect) -> Result<Effects, AllocError>
     ensures { IfOk result (λ effects. effects ≡ effect ∷ []) }
 {
     let mut effects = Effects::empty(alloc);
@@ -163,7 +163,7 @@ impl MembershipState {
         self.gossip.members().uniques() >= MOST_AT_JOIN
     }
 
-    fn may_count(&self) -> bool
+    pub(crate) fn may_count(&self) -> bool
         ensures { result ≡ rules.may_count self.now }
     {
         self.gossip.version().count(&self.me) < BOUND
@@ -174,17 +174,23 @@ impl MembershipState {
         &mut self,
         alloc: Global,
         effects: Effects,
-        tally: &mut Tally,
+        tally: &mut KeptTally,
     ) -> Result<Change, AllocError>
         requires may { MayUpdate self.old.me effects self.old.gossip }
-        requires tally { IsTallyOf tally.old self.old.gossip }
+        requires tally { IsTallyOf self.old.settings.role tally.old self.old.gossip }
         ensures ok { IfOk result (λ change. Makes (rules.made effects self.old) self.new change) }
         ensures err { OnErr result (self.new ≡ self.old) }
-        ensures tally { IsTallyOf tally.new self.new.gossip }
+        ensures tally { IsTallyOf self.new.settings.role tally.new self.new.gossip }
     {
         let before = self.gossip.copy(alloc)?;
         let number = self.gossip.update(alloc, &self.me, &effects)?;
-        if let Err(error) = keep_tally(alloc, &before, &self.gossip, tally) {
+        if let Err(error) = keep_tally(
+            alloc,
+            role_of(&self.settings),
+            &before,
+            &self.gossip,
+            tally,
+        ) {
             self.gossip = before;
             return Err(error);
         }
@@ -197,17 +203,17 @@ impl MembershipState {
     }
 
     // The same, where a number is left for it.
-    fn update(
+    pub(crate) fn update(
         &mut self,
         alloc: Global,
         effects: Effects,
-        tally: &mut Tally,
+        tally: &mut KeptTally,
     ) -> Result<Change, AllocError>
         requires may { IsTrue (rules.may_count self.old) → MayUpdate self.old.me effects self.old.gossip }
-        requires tally { IsTallyOf tally.old self.old.gossip }
+        requires tally { IsTallyOf self.old.settings.role tally.old self.old.gossip }
         ensures ok { IfOk result (λ change. Makes (rules.update effects self.old) self.new change) }
         ensures err { OnErr result (self.new ≡ self.old) }
-        ensures tally { IsTallyOf tally.new self.new.gossip }
+        ensures tally { IsTallyOf self.new.settings.role tally.new self.new.gossip }
     {
         if self.may_count() {
             return self.make(alloc, effects, tally);
@@ -216,18 +222,18 @@ impl MembershipState {
     }
 
     // The same, where there are effects.
-    fn update_any(
+    pub(crate) fn update_any(
         &mut self,
         alloc: Global,
         effects: Effects,
-        tally: &mut Tally,
+        tally: &mut KeptTally,
     ) -> Result<Change, AllocError>
         requires may { IsTrue (rules.may_count self.old) → MayUpdate self.old.me effects self.old.gossip }
-        requires tally { IsTallyOf tally.old self.old.gossip }
+        requires tally { IsTallyOf self.old.settings.role tally.old self.old.gossip }
         ensures ok { IfOk result (λ change. Makes (rules.update_any effects self.old) self.new change) }
         ensures err { OnErr result (self.new ≡ self.old) }
         ensures memory { OnErr result (IsTrue (ticks.has_effect effects)) }
-        ensures tally { IsTallyOf tally.new self.new.gossip }
+        ensures tally { IsTallyOf self.new.settings.role tally.new self.new.gossip }
     {
         if effects.len() == 0 {
             return Ok(unchanged(alloc));
@@ -241,13 +247,13 @@ impl MembershipState {
         alloc: Global,
         who: &Unique,
         status: Status,
-        tally: &mut Tally,
+        tally: &mut KeptTally,
     ) -> Result<Change, AllocError>
         requires may { IsTrue (rules.may_count self.old) → MayUpdate self.old.me (Effect.Rise who.now status 0 ∷ []) self.old.gossip }
-        requires tally { IsTallyOf tally.old self.old.gossip }
+        requires tally { IsTallyOf self.old.settings.role tally.old self.old.gossip }
         ensures ok { IfOk result (λ change. Makes (rules.update (Effect.Rise who.now status 0 ∷ []) self.old) self.new change) }
         ensures err { OnErr result (IsCounting self.old × (self.new ≡ self.old)) }
-        ensures tally { IsTallyOf tally.new self.new.gossip }
+        ensures tally { IsTallyOf self.new.settings.role tally.new self.new.gossip }
     {
         if !self.may_count() {
             return Ok(unchanged(alloc));
@@ -257,13 +263,17 @@ impl MembershipState {
         self.update(alloc, effects, tally)
     }
 
-    pub(crate) fn found(&mut self, alloc: Global, tally: &mut Tally) -> Result<Change, AllocError>
+    pub(crate) fn found(
+        &mut self,
+        alloc: Global,
+        tally: &mut KeptTally,
+    ) -> Result<Change, AllocError>
         requires itself { KnowsItself self.old.me self.old.gossip }
-        requires tally { IsTallyOf tally.old self.old.gossip }
+        requires tally { IsTallyOf self.old.settings.role tally.old self.old.gossip }
         ensures ok { IfOk result (λ change. Makes (rules.found self.old) self.new change) }
         ensures err { OnErr result (self.new ≡ self.old) }
         ensures memory { OnErr result (IsUnknown self.old) }
-        ensures tally { IsTallyOf tally.new self.new.gossip }
+        ensures tally { IsTallyOf self.new.settings.role tally.new self.new.gossip }
     {
         if self.knows(&self.me) {
             return Ok(unchanged(alloc));
@@ -280,11 +290,11 @@ impl MembershipState {
         &mut self,
         alloc: Global,
         who: &Unique,
-        tally: &mut Tally,
+        tally: &mut KeptTally,
     ) -> Result<Change, MemberFault>
-        requires tally { IsTallyOf tally.old self.old.gossip }
+        requires tally { IsTallyOf self.old.settings.role tally.old self.old.gossip }
         ensures answers { Answers (IsCounting self.old × IsAccepted (rules.leave who.now self.old)) (rules.leave who.now self.old) self.old result self.new }
-        ensures tally { IsTallyOf tally.new self.new.gossip }
+        ensures tally { IsTallyOf self.new.settings.role tally.new self.new.gossip }
     {
         if !self.is_member() {
             return Err(MemberFault::NotMember);
@@ -303,11 +313,11 @@ impl MembershipState {
         &mut self,
         alloc: Global,
         who: &Unique,
-        tally: &mut Tally,
+        tally: &mut KeptTally,
     ) -> Result<Change, MemberFault>
-        requires tally { IsTallyOf tally.old self.old.gossip }
+        requires tally { IsTallyOf self.old.settings.role tally.old self.old.gossip }
         ensures answers { Answers (MayDown who.now self.old × IsAccepted (rules.down who.now self.old)) (rules.down who.now self.old) self.old result self.new }
-        ensures tally { IsTallyOf tally.new self.new.gossip }
+        ensures tally { IsTallyOf self.new.settings.role tally.new self.new.gossip }
     {
         if !self.is_member() {
             return Err(MemberFault::NotMember);
@@ -326,11 +336,11 @@ impl MembershipState {
         &mut self,
         alloc: Global,
         from: &Unique,
-        tally: &mut Tally,
+        tally: &mut KeptTally,
     ) -> Result<Change, MemberFault>
-        requires tally { IsTallyOf tally.old self.old.gossip }
+        requires tally { IsTallyOf self.old.settings.role tally.old self.old.gossip }
         ensures answers { Answers (MayAdmit from.now self.old × IsAccepted (rules.on_join from.now self.old)) (rules.on_join from.now self.old) self.old result self.new }
-        ensures tally { IsTallyOf tally.new self.new.gossip }
+        ensures tally { IsTallyOf self.new.settings.role tally.new self.new.gossip }
     {
         if !self.is_member() {
             return Err(MemberFault::NotMember);
@@ -362,13 +372,13 @@ impl MembershipState {
         &mut self,
         alloc: Global,
         from: &Unique,
-        tally: &mut Tally,
+        tally: &mut KeptTally,
     ) -> Result<Change, AllocError>
         requires member { IsTrue (rules.is_member self.old) }
-        requires tally { IsTallyOf tally.old self.old.gossip }
+        requires tally { IsTallyOf self.old.settings.role tally.old self.old.gossip }
         ensures ok { IfOk result (λ change. Makes (rules.update_any (rules.replaced from.now self.old.gossip.view.standings) self.old) self.new change) }
         ensures err { OnErr result ((IsCounting self.old × (rules.replaced from.now self.old.gossip.view.standings ≢ [])) × (self.new ≡ self.old)) }
-        ensures tally { IsTallyOf tally.new self.new.gossip }
+        ensures tally { IsTallyOf self.new.settings.role tally.new self.new.gossip }
     {
         if !self.may_count() {
             return Ok(unchanged(alloc));
@@ -383,14 +393,14 @@ impl MembershipState {
         &mut self,
         alloc: Global,
         from: &Unique,
-        tally: &mut Tally,
+        tally: &mut KeptTally,
     ) -> Result<Change, AllocError>
         requires member { IsTrue (rules.is_member self.old) }
         requires room { false ≡ nat_le rules.most_at_join (map.len self.old.gossip.view.standings) }
-        requires tally { IsTallyOf tally.old self.old.gossip }
+        requires tally { IsTallyOf self.old.settings.role tally.old self.old.gossip }
         ensures ok { IfOk result (λ change. Makes (rules.admitted from.now self.old) self.new change) }
         ensures err { OnErr result (IsCounting self.old × (self.new ≡ self.old)) }
-        ensures tally { IsTallyOf tally.new self.new.gossip }
+        ensures tally { IsTallyOf self.new.settings.role tally.new self.new.gossip }
     {
         if !self.may_count() {
             return Ok(unchanged(alloc));
@@ -409,13 +419,13 @@ impl MembershipState {
         alloc: Global,
         incoming: &Gossip,
         at_rest: &mut bool,
-        tally: &mut Tally,
+        tally: &mut KeptTally,
     ) -> Result<Change, MemberFault>
         requires rest { RestsIf at_rest.old self.old }
-        requires tally { IsTallyOf tally.old self.old.gossip }
+        requires tally { IsTallyOf self.old.settings.role tally.old self.old.gossip }
         ensures answers { Answers (IsKnownIn incoming.now self.old) (rules.on_gossip incoming.now self.old) self.old result self.new }
         ensures rest { RestsIf at_rest.new self.new }
-        ensures tally { IsTallyOf tally.new self.new.gossip }
+        ensures tally { IsTallyOf self.new.settings.role tally.new self.new.gossip }
     {
         if !self.is_known_in(incoming) {
             return Ok(unchanged(alloc));
@@ -439,13 +449,13 @@ impl MembershipState {
         alloc: Global,
         incoming: &Gossip,
         at_rest: &mut bool,
-        tally: &mut Tally,
+        tally: &mut KeptTally,
     ) -> Result<Received, GossipFault>
         requires rest { RestsIf at_rest.old self.old }
-        requires tally { IsTallyOf tally.old self.old.gossip }
+        requires tally { IsTallyOf self.old.settings.role tally.old self.old.gossip }
         ensures received { Receives incoming.now self.old result self.new }
         ensures rest { RestsIf at_rest.new self.new }
-        ensures tally { IsTallyOf tally.new self.new.gossip }
+        ensures tally { IsTallyOf self.new.settings.role tally.new self.new.gossip }
     {
         let before = match self.gossip.copy(alloc) {
             Ok(before) => before,
@@ -455,6 +465,7 @@ impl MembershipState {
             Ok(received) => {
                 if let Err(error) = keep_tally_received(
                     alloc,
+                    role_of(&self.settings),
                     received,
                     &before,
                     &self.gossip,
@@ -474,8 +485,8 @@ impl MembershipState {
     }
 
     // A gossip that was received so leaves all at rest.
-    fn stays_at_rest(&self, received: Received, tally: &Tally) -> bool
-        requires tally { IsTallyOf tally.now self.now.gossip }
+    fn stays_at_rest(&self, received: Received, tally: &KeptTally) -> bool
+        requires tally { IsTallyOf self.now.settings.role tally.now self.now.gossip }
         ensures { IsTrue result → LeavesAtRest received self.now }
     {
         match received {
@@ -523,308 +534,11 @@ impl MembershipState {
         Ok(())
     }
 
-    // The founder, Joining itself, founds the cluster.
-    fn founds(&self, tally: &Tally) -> bool
-        requires tally { IsTallyOf tally.now self.now.gossip }
-        ensures { result ≡ ticks.founds self.now }
-    {
-        if !self.founder {
-            return false;
-        }
-        if !is_joining(self.gossip.members(), &self.me) {
-            return false;
-        }
-        if !tally.converged() {
-            return false;
-        }
-        self.gossip.invariant();
-        self.settings.settling() <= joining_addresses(self.gossip.members())
-    }
-
-    pub(crate) fn has_settled(&self, tally: &Tally) -> bool
-        requires tally { IsTallyOf tally.now self.now.gossip }
-        ensures { result ≡ ticks.has_settled self.now }
-    {
-        tally.settled_by(self.settings.settling())
-    }
-
-    fn is_leader(&self) -> bool
-        ensures { result ≡ ticks.is_process self.now.me (leads.leader self.now.gossip.view) }
-    {
-        match leader(self.gossip.members(), self.gossip.rows()) {
-            Some(who) => who.is(&self.me),
-            None => false,
-        }
-    }
-
-    // The node leads, in a settled view.
-    fn leads(&self, tally: &Tally) -> bool
-        requires tally { IsTallyOf tally.now self.now.gossip }
-        ensures { result ≡ ticks.leads self.now }
-    {
-        if self.has_settled(tally) {
-            return self.is_leader();
-        }
-        false
-    }
-
-    // The Joining members become the first that are Up.
-    fn establish(&mut self, alloc: Global, tally: &mut Tally) -> Result<Change, AllocError>
-        requires member { IsTrue (rules.is_member self.old) }
-        requires tally { IsTallyOf tally.old self.old.gossip }
-        ensures ok { IfOk result (λ change. Makes (rules.update (leads.founding_effects self.old.gossip.view.standings) self.old) self.new change) }
-        ensures err { OnErr result (self.new ≡ self.old) }
-        ensures tally { IsTallyOf tally.new self.new.gossip }
-    {
-        self.gossip.invariant();
-        let effects = founding(alloc, self.gossip.members())?;
-        self.update(alloc, effects, tally)
-    }
-
-    // What the leader does.
-    fn lead(&mut self, alloc: Global, tally: &mut Tally) -> Result<Change, AllocError>
-        requires member { IsTrue (rules.is_member self.old) }
-        requires leads { true ≡ ticks.leads self.old }
-        requires tally { IsTallyOf tally.old self.old.gossip }
-        ensures ok { IfOk result (λ change. Makes (rules.update_any (leads.leaders_effects self.old.gossip.view self.old.confirmed) self.old) self.new change) }
-        ensures err { OnErr result (self.new ≡ self.old) }
-        ensures memory { OnErr result (IsTrue (ticks.has_effect (leads.leaders_effects self.old.gossip.view self.old.confirmed))) }
-        ensures tally { IsTallyOf tally.new self.new.gossip }
-    {
-        self.gossip.invariant();
-        let effects = self.leaders_effects(alloc)?;
-        self.update_any(alloc, effects, tally)
-    }
-
-    fn leaders_effects(&self, alloc: Global) -> Result<Effects, AllocError>
-        ensures ok { IfOk result (λ effects. effects ≡ leads.leaders_effects self.now.gossip.view self.now.confirmed) }
-        ensures memory { OnErr result (leads.leaders_effects self.now.gossip.view self.now.confirmed ≢ []) }
-    {
-        actions(
-            alloc,
-            self.gossip.members(),
-            self.gossip.rows(),
-            &self.confirmed,
-        )
-    }
-
-    // How long the view did not settle with this tick.
-    fn waited(&self, tally: &Tally) -> u32
-        requires tally { IsTallyOf tally.now self.now.gossip }
-        ensures { result ≡ ticks.waited self.now }
-    {
-        let settled = self.has_settled(tally);
-        if settled {
-            return 0;
-        }
-        if self.weak < self.settings.weakly {
-            return self.weak + 1;
-        }
-        self.settings.weakly
-    }
-
-    // The settings let members in, the view did not settle for long enough, and the node leads.
-    fn lets_in(&self, tally: &Tally) -> bool
-        requires tally { IsTallyOf tally.now self.now.gossip }
-        ensures { result ≡ ticks.lets_in self.now }
-    {
-        if self.settings.weakly == 0 || self.waited(tally) != self.settings.weakly {
-            return false;
-        }
-        self.is_leader()
-    }
-
-    // The Joining members that can be reached are let in.
-    fn let_in(&mut self, alloc: Global, tally: &mut Tally) -> Result<Change, AllocError>
-        requires member { IsTrue (rules.is_member self.old) }
-        requires tally { IsTallyOf tally.old self.old.gossip }
-        ensures ok { IfOk result (λ change. Makes (rules.update_any (leads.weak_effects self.old.gossip.view) self.old) self.new change) }
-        ensures err { OnErr result (self.new ≡ self.old) }
-        ensures memory { OnErr result (IsTrue (ticks.has_effect (leads.weak_effects self.old.gossip.view))) }
-        ensures tally { IsTallyOf tally.new self.new.gossip }
-    {
-        self.gossip.invariant();
-        let effects = self.weak_effects(alloc)?;
-        self.update_any(alloc, effects, tally)
-    }
-
-    fn weak_effects(&self, alloc: Global) -> Result<Effects, AllocError>
-        ensures ok { IfOk result (λ effects. effects ≡ leads.weak_effects self.now.gossip.view) }
-        ensures memory { OnErr result (leads.weak_effects self.now.gossip.view ≢ []) }
-    {
-        weak_effects(alloc, self.gossip.members(), self.gossip.rows())
-    }
-
-    // Whom the node finds silent with this tick.
-    fn silent(&self, alloc: Global) -> Result<Uniques, AllocError>
-        ensures { IfOk result (λ them. them ≡ ticks.silent self.now) }
-    {
-        self.settings.invariant();
-        let them = self.detector.silent_next(alloc, self.settings.deadline)?;
-        Ok(them)
-    }
-
-    // The node observes whom it finds silent.
-    fn observe(&mut self, alloc: Global, tally: &mut Tally) -> Result<Change, AllocError>
-        requires member { IsTrue (rules.is_member self.old) }
-        requires watching { IsWatching self.old }
-        requires tally { IsTallyOf tally.old self.old.gossip }
-        ensures ok { IfOk result (λ change. Makes (rules.update (Effect.Observed (ticks.silent self.old) ∷ []) self.old) self.new change) }
-        ensures err { OnErr result (self.new ≡ self.old) }
-        ensures tally { IsTallyOf tally.new self.new.gossip }
-    {
-        self.gossip.invariant();
-        let silent = self.silent(alloc)?;
-        let effects = one(alloc, Effect::Observed(silent))?;
-        self.update(alloc, effects, tally)
-    }
-
-    // How long the view stood still with this tick.
-    fn stood(&self) -> u32
-        ensures { result ≡ ticks.stood self.now }
-    {
-        if self.stable < self.settings.stable {
-            return self.stable + 1;
-        }
-        self.settings.stable
-    }
-
-    // The resolver decides.
-    fn decides(&self) -> bool
-        ensures { result ≡ ticks.decides self.now }
-    {
-        if self.stood() != self.settings.stable {
-            return false;
-        }
-        some_counts(self.gossip.members())
-            && has_lost(self.gossip.members(), self.gossip.rows(), &self.me)
-    }
-
-    fn strategy(&self) -> Strategy
-        ensures { result ≡ self.now.settings.strategy }
-    {
-        self.settings.strategy
-    }
-
-    fn decided(&self, alloc: Global) -> Result<Effects, AllocError>
-        ensures { IfOk result (λ effects. effects ≡ ticks.decided self.now) }
-    {
-        self.gossip.invariant();
-        let members = self.gossip.members();
-        let rows = self.gossip.rows();
-        let decision = decide(&self.strategy(), members, rows, &self.me);
-        let effects = downs(alloc, decision, members, rows, &self.me)?;
-        Ok(effects)
-    }
-
-    // Whom the decision is against goes Down.
-    fn resolve(&mut self, alloc: Global, tally: &mut Tally) -> Result<Change, AllocError>
-        requires member { IsTrue (rules.is_member self.old) }
-        requires tally { IsTallyOf tally.old self.old.gossip }
-        ensures ok { IfOk result (λ change. Makes (rules.update (ticks.decided self.old) self.old) self.new change) }
-        ensures err { OnErr result (self.new ≡ self.old) }
-        ensures tally { IsTallyOf tally.new self.new.gossip }
-    {
-        self.gossip.invariant();
-        let effects = self.decided(alloc)?;
-        self.update(alloc, effects, tally)
-    }
-
-    // At most one update, the first that applies, where a number is left for it.
-    fn updates(&mut self, alloc: Global, tally: &mut Tally) -> Result<Change, AllocError>
-        requires member { IsTrue (rules.is_member self.old) }
-        requires watching { IsWatching self.old }
-        requires tally { IsTallyOf tally.old self.old.gossip }
-        ensures ok { IfOk result (λ change. Makes (ticks.updates self.old) self.new change) }
-        ensures err { OnErr result (self.new ≡ self.old) }
-        ensures memory { OnErr result (IsTrue (ticks.is_due self.old)) }
-        ensures tally { IsTallyOf tally.new self.new.gossip }
-    {
-        if !self.may_count() {
-            return Ok(unchanged(alloc));
-        }
-        if self.observes() {
-            return self.observe(alloc, tally);
-        }
-        if self.decides() {
-            return self.resolve(alloc, tally);
-        }
-        if self.founds(tally) {
-            return self.establish(alloc, tally);
-        }
-        if self.leads(tally) {
-            return self.lead(alloc, tally);
-        }
-        if self.lets_in(tally) {
-            return self.let_in(alloc, tally);
-        }
-        Ok(unchanged(alloc))
-    }
-
-    // The tick is counted. It comes after what may fail, so that a tick that fails changes nothing.
-    fn count(&mut self, weak: u32)
-        requires { self.old.ticks < 2 ^ 62 }
-        ensures { self.new ≡ ticks.counted weak self.old }
-    {
-        self.settings.invariant();
-        self.ticks += 1;
-        self.stable = self.stood();
-        self.weak = weak;
-        self.settled.tick(self.settings.margin);
-        self.detector.tick(self.settings.deadline);
-    }
-
-    pub(crate) fn tick(&mut self, alloc: Global, tally: &mut Tally) -> Result<Change, AllocError>
-        requires ticks { self.old.ticks < 2 ^ 62 }
-        requires watching { IsWatching self.old }
-        requires tally { IsTallyOf tally.old self.old.gossip }
-        ensures ok { IfOk result (λ change. Makes (ticks.tick self.old) self.new change) }
-        ensures err { OnErr result (self.new ≡ self.old) }
-        ensures memory { OnErr result (IsTrue (rules.is_member self.old) × IsTrue (ticks.is_due self.old)) }
-        ensures tally { IsTallyOf tally.new self.new.gossip }
-    {
-        if !self.is_member() {
-            return Ok(unchanged(alloc));
-        }
-        let weak = self.waited(tally);
-        let change = self.updates(alloc, tally)?;
-        self.count(weak);
-        Ok(change)
-    }
-
-    pub(crate) fn gossip_peer(&self, word: u32) -> Option<&Unique>
-        ensures { option_copied result ≡ ticks.gossip_peer word self.now }
-    {
-        if !self.gossips() {
-            return None;
-        }
-        let gossip = &self.gossip;
-        peer(
-            word,
-            gossip.members(),
-            gossip.rows(),
-            gossip.seen(),
-            &self.me,
-        )
-    }
-
-    // The node gossips at every third tick, and while fewer than half of the members have seen what it knows.
-    fn gossips(&self) -> bool
-        ensures { result ≡ ticks.gossips self.now }
-    {
-        if self.ticks % 3 == 0 {
-            return true;
-        }
-        let seen = self.gossip.seen().len();
-        let members = self.gossip.members().len();
-        seen < members && seen < members - seen
-    }
-
-    pub(crate) fn forget(&mut self, alloc: Global, tally: &mut Tally)
+    pub(crate) fn forget(&mut self, alloc: Global, tally: &mut KeptTally)
         ensures forgot { self.new ≡ rules.started self.old.me self.old.settings }
-        ensures tally { IsTallyOf tally.new self.new.gossip }
+        ensures tally { IsTallyOf self.new.settings.role tally.new self.new.gossip }
     {
-        *tally = Tally::empty(alloc);
+        *tally = KeptTally::empty(alloc);
         self.gossip = Gossip::empty(alloc);
         self.shown = Version::empty(alloc);
         self.founder = false;

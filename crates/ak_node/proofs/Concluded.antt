@@ -19,7 +19,7 @@ use Rattle.ak_detector.proofs.DetectorLemmas.{keys-none}
 use Rattle.ak_detector.proofs.RingLaws.{watches_on}
 use Rattle.ak_member.specs.View.{empty_view}
 use Rattle.ak_membership.specs.declared.state.MembershipState.{MembershipState}
-use Rattle.ak_member.specs.Age.{counted_addresses, counted_pairs}
+use Rattle.ak_member.specs.Age.{role_addresses, role_pairs}
 use Rattle.ak_member.specs.declared.status.Status.{Status}
 use Rattle.ak_membership.specs.Closing as closing
 use Rattle.ak_settled.specs.Settled.{version_of, after_note}
@@ -34,7 +34,7 @@ use Rattle.ak_region.proofs.Forgetting.{forgets_once}
 use Rattle.ak_region.proofs.StoredLemmas.{none_strange}
 use Rattle.ak_settings.specs.Settings.{SettingsModel, IsStrategy, settling_size}
 use Rattle.ak_settings.specs.declared.settings.Strategy.{Strategy}
-use Rattle.ak_settings.specs.declared.settings.Strategy.TheVariants.{StaticQuorum, KeepMajority, DownAll}
+use Rattle.ak_settings.specs.declared.settings.Strategy.TheVariants.{StaticQuorum, KeepMajority, KeepOldest, DownAll}
 use Rattle.ak_settled.specs.SettledView.{SettledView}
 use Rattle.ak_sharding.specs.Hosts as hosts
 use Rattle.ak_sharding.specs.Sharding.{ShardingModel, new_sharding}
@@ -160,14 +160,14 @@ nobody_watched : (me : UniqueModel) (deadline : ℕ) → watching me finmap.empt
 unfolding others_among
 nobody_watched me deadline = watches_on me finmap.empty deadline finmap.empty no_one keys-none (λ i. set_of (take most_watched (others_among me (member_pairs (sym entries-empty i)))))
 
-nobody_counts : counted_addresses finmap.empty ≡ []
-nobody_counts = λ i. map (λ (pair : UniqueModel × ℕ). pair.0.address) (counted_pairs (member_pairs (entries-empty i)))
+nobody_counts : (role : List AddressModel) → role_addresses role finmap.empty ≡ []
+nobody_counts role = λ i. map (λ (pair : UniqueModel × ℕ). pair.0.address) (role_pairs role (member_pairs (entries-empty i)))
 
 above_none : (quorum : ℕ) → 1 ≤ quorum → nat_le quorum 0 ≡ false
 above_none quorum some = grind (arith, nat_tests, some)
 
-none_settled : (quorum : ℕ) (seen : UniqueSet) → 1 ≤ quorum → is_settled quorum empty_view seen ≡ false
-none_settled quorum seen some = (λ i. is_converged empty_view seen && nat_le quorum (distinct (nobody_counts i))) ∙ (λ i. is_converged empty_view seen && above_none quorum some i) ∙ and_false (is_converged empty_view seen)
+none_settled : (quorum : ℕ) (role : List AddressModel) (seen : UniqueSet) → 1 ≤ quorum → is_settled quorum role empty_view seen ≡ false
+none_settled quorum role seen some = (λ i. is_converged empty_view seen && nat_le quorum (distinct (nobody_counts role i))) ∙ (λ i. is_converged empty_view seen && above_none quorum some i) ∙ and_false (is_converged empty_view seen)
   where
     and_false : (b : Bool) → (b && false) ≡ false
     and_false true = refl
@@ -189,7 +189,7 @@ nobody_closes me settings some =
     stays = ap standing.is_gone (get-empty me)
 
     settles : has_settled (started me settings) ≡ false
-    settles = none_settled (settling_size settings.strategy) no_one some
+    settles = none_settled (settling_size settings.strategy) settings.role no_one some
 
     not_noted : Bool
     not_noted = not (is_some (started me settings).settled.view) || closing.is_other (version_of (started me settings).settled.view) finmap.empty
@@ -197,6 +197,7 @@ nobody_closes me settings some =
 pub settles_some : (strategy : Strategy) → IsStrategy strategy → 1 ≤ settling_size strategy
 settles_some (StaticQuorum quorum) within = within.from
 settles_some KeepMajority within = omega arith
+settles_some (KeepOldest alone) within = omega arith
 settles_some DownAll within = omega arith
 
 pub starts_concluded : (me : UniqueModel) (settings : SettingsModel) (m : MembershipState) (s : SingletonModel) (h : ShardingModel) → 1 ≤ settling_size settings.strategy

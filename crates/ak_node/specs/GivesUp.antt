@@ -7,8 +7,9 @@ use Rattle.ak_membership.specs.Tick.{observes, decides}
 use Rattle.ak_node.specs.declared.node.State.{State}
 use Rattle.ak_node.specs.Node.{known, me_of, is_member}
 
--- At a tick of this node the resolver decides, by static-quorum, and the node reaches fewer addresses than the quorum: it is a
--- member, its own row says already who is silent, the resolver's turn has come, and a number is left for the update.
+-- At a tick of this node the resolver decides, by static-quorum, and the node reaches fewer addresses with the role than the
+-- quorum: it is a member, its own row says already who is silent, the resolver's turn has come, and a number is left for the
+-- update.
 pub record GivesUp (n : State) : Type 0 where
   pub member : IsTrue (is_member n)
   pub observed : observes n.membership ≡ false
@@ -16,4 +17,4 @@ pub record GivesUp (n : State) : Type 0 where
   pub counts : IsTrue (may_count n.membership)
   pub quorum : ℕ
   pub strategy : n.membership.settings.strategy ≡ StaticQuorum quorum
-  pub lacks : reachable_addresses (known n).view (me_of n) < quorum
+  pub lacks : reachable_addresses n.membership.settings.role (known n).view (me_of n) < quorum

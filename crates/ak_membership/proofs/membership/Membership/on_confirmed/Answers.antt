@@ -1,6 +1,5 @@
 use Rattle.std.proofs.Common.{ap, ◌∙◌}
-use Rattle.ak_converge.specs.Tally.{tally_of}
-use Rattle.ak_gossip.specs.Gossip.{GossipState}
+use Rattle.ak_sight.specs.Counted.{kept_tally_of}
 use Rattle.std.proofs.Common.{subst, sym, true≢false}
 use Rattle.ak_membership.specs.declared.state.MembershipState.{MembershipState}
 use Rattle.ak_membership.specs.MembershipContracts.{IsSameProcess}
@@ -11,7 +10,8 @@ pub invariant_of-self : goal.invariant_of-self
 invariant_of-self c = (
   confirmed_keeps c.self.inside.state c.on_confirmed.new.self c.self.invariant.0 c.args.from.now c.on_confirmed.result c.on_confirmed.ensures.ok c.on_confirmed.ensures.err,
   λ is. absurd (true≢false (sym is)),
-  c.self.invariant.2 ∙ ap (λ (g : GossipState). tally_of g.view g.seen) (sym c.on_confirmed.ensures.gossip),
+  let same = confirmed_same c.self.inside.state c.on_confirmed.new.self c.args.from.now c.on_confirmed.result c.on_confirmed.ensures.ok c.on_confirmed.ensures.err in
+      c.self.invariant.2 ∙ (λ i. kept_tally_of (sym same.settings i).role (sym c.on_confirmed.ensures.gossip i)),
 )
 
 pub returns-clause-same : goal.returns-clause-same

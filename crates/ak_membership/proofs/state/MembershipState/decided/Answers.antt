@@ -11,4 +11,4 @@ returns c =
     let view : seen_with members rows ≡ m.gossip.view = λ i. seen_with (c.members-members.ensures i) (c.rows-rows.ensures i) in
     c.in_ok-effects.ensures.ok
     ∙ ap (λ d. downs d (seen_with members rows) m.me) c.decide-decision.ensures
-    ∙ (λ i. downs (decide (c.strategy.ensures i) (view i) m.me) (view i) m.me)
+    ∙ (λ i. downs (decide (c.strategy.ensures i) (c.role_of.ensures i) (view i) m.me) (view i) m.me)
