@@ -5,12 +5,12 @@ use Rattle.std.proofs.lemmas.Bool.{lt-leb}
 use Rattle.std.specs.Prelude as list
 use Rattle.ak_address.specs.Distinct.{distinct}
 use Rattle.ak_address.specs.Unique.{UniqueModel}
-use Rattle.ak_address.proofs.Elements.{contains_first, in_map}
+use Rattle.ak_address.proofs.Elements.{contains_first, in_filter, in_map}
 use Rattle.ak_clock.specs.Version.{Counts, count, Covers}
 use Rattle.ak_member.specs.declared.status.Status.TheVariants.{Up, Leaving}
 use Rattle.ak_member.specs.declared.effect.Effect.TheVariants.{Rise}
 use Rattle.ak_member.specs.Standing.{members_of}
-use Rattle.ak_member.specs.Age.{IsCounted, counted_pairs, counted_addresses}
+use Rattle.ak_member.specs.Age.{IsCounted, counted_pairs, has_role, role_pairs, role_addresses}
 use Rattle.ak_history.specs.declared.entry.Entry.{Entry}
 use Rattle.ak_history.specs.History.{is_covered, view}
 use Rattle.ak_history.specs.Shown.{Rose}
@@ -86,7 +86,7 @@ module _ (settings : SettingsModel) (r : Remembered) (k : Raised settings r) whe
     pub covered : IsTrue (is_covered v entry)
     pub up : ℕ
     pub does : Contains entry.effects (Rise who Up up)
-    pub may : MayUp r (settling_size settings.strategy) entry base who
+    pub may : MayUp r (settling_size settings.strategy) settings.role entry base who
     pub under : Covers v base
     pub less : size r.world.history base < size r.world.history v
 
@@ -111,13 +111,13 @@ module _ (settings : SettingsModel) (r : Remembered) (k : Raised settings r) whe
 
   -- ---- the founding is covered
   -- a view that counts an address counts a member
-  some_counted : (v : Counts) → 1 ≤ distinct (counted_addresses (view r.world.history v).standings) → (who : UniqueModel) × ((number : ℕ) × IsCounted (view r.world.history v).standings who number)
-  some_counted v enough = by_pairs (counted_pairs (members_of (view r.world.history v).standings)) refl enough
+  some_counted : (v : Counts) → 1 ≤ distinct (role_addresses settings.role (view r.world.history v).standings) → (who : UniqueModel) × ((number : ℕ) × IsCounted (view r.world.history v).standings who number)
+  some_counted v enough = by_pairs (role_pairs settings.role (members_of (view r.world.history v).standings)) refl enough
     where
-      by_pairs : (pairs : List (UniqueModel × ℕ)) → counted_pairs (members_of (view r.world.history v).standings) ≡ pairs → 1 ≤ distinct (list.map (λ pair. pair.0.address) pairs)
+      by_pairs : (pairs : List (UniqueModel × ℕ)) → role_pairs settings.role (members_of (view r.world.history v).standings) ≡ pairs → 1 ≤ distinct (list.map (λ pair. pair.0.address) pairs)
           → (who : UniqueModel) × ((number : ℕ) × IsCounted (view r.world.history v).standings who number)
       by_pairs [] is enough = absurd (omega arith)
-      by_pairs (pair ∷ pairs) is enough = (pair.0, (pair.1, counted_have (view r.world.history v).standings pair (subst (λ l. Contains l pair) (sym is) (contains_first pair pairs))))
+      by_pairs (pair ∷ pairs) is enough = (pair.0, (pair.1, counted_have (view r.world.history v).standings pair (in_filter (has_role settings.role) (counted_pairs (members_of (view r.world.history v).standings)) pair (subst (λ l. Contains l pair) (sym is) (contains_first pair pairs))).0))
 
   pub record Founded (v : Counts) : Type 0 where
     pub entry : Entry
@@ -126,10 +126,10 @@ module _ (settings : SettingsModel) (r : Remembered) (k : Raised settings r) whe
     pub foundation : IsFoundation r entry base
     pub covered : IsTrue (is_covered v entry)
 
-  founded_below : 1 ≤ settling_size settings.strategy → (n : ℕ) (v : Counts) → size r.world.history v < n → IsAgreed r (settling_size settings.strategy) v → Founded v
+  founded_below : 1 ≤ settling_size settings.strategy → (n : ℕ) (v : Counts) → size r.world.history v < n → IsAgreed r (settling_size settings.strategy) settings.role v → Founded v
   founded_below some zero v lt a = absurd (omega arith)
   founded_below some (suc n) v lt a =
-      let enough : settling_size settings.strategy ≤ distinct (counted_addresses (view r.world.history v).standings) = a.enough in
+      let enough : settling_size settings.strategy ≤ distinct (role_addresses settings.role (view r.world.history v).standings) = a.enough in
       let one = some_counted v (omega arith) in
       let h = risen v a.closed one.0 one.1.0 one.1.1 in
       elim h.may.1 [
@@ -140,5 +140,5 @@ module _ (settings : SettingsModel) (r : Remembered) (k : Raised settings r) whe
             record { entry = rest.entry; base = rest.base; made_from = rest.made_from; foundation = rest.foundation; covered = covered_by_more h.base v rest.entry h.under rest.covered }
       ]
 
-  pub founding_covered : 1 ≤ settling_size settings.strategy → (v : Counts) → IsAgreed r (settling_size settings.strategy) v → Founded v
+  pub founding_covered : 1 ≤ settling_size settings.strategy → (v : Counts) → IsAgreed r (settling_size settings.strategy) settings.role v → Founded v
   founding_covered some v a = founded_below some (suc (size r.world.history v)) v (omega arith) a

@@ -5,21 +5,21 @@ use Rattle.std.specs.List.{list_any}
 use Rattle.std.specs.Ordering.{is_eq}
 use Rattle.ak_address.specs.Distinct.{distinct}
 use Rattle.ak_address.specs.Unique.{AddressModel, UniqueModel, address_cmp}
-use Rattle.ak_address.proofs.Elements.{in_map}
+use Rattle.ak_address.proofs.Elements.{in_filter, in_map}
 use Rattle.ak_address.proofs.SharedAddress.{shared_address}
 use Rattle.ak_clock.specs.Version.{Counts, Covers}
 use Rattle.ak_clock.proofs.VersionLaws.{covers_along}
 use Rattle.ak_member.specs.declared.effect.Effect.TheVariants.{Joined, Rise}
 use Rattle.ak_member.specs.declared.status.Status.TheVariants.{Up}
 use Rattle.ak_member.specs.Standing.{members_of}
-use Rattle.ak_member.specs.Age.{IsCounted, counted_pairs, counted_addresses}
+use Rattle.ak_member.specs.Age.{IsCounted, counted_pairs, has_role, role_pairs, role_addresses}
 use Rattle.ak_history.specs.declared.entry.Entry.{Entry}
 use Rattle.ak_history.specs.History.{view}
 use Rattle.ak_history.specs.Shown.{IsNamed}
 use Rattle.ak_history.proofs.Covering.{size}
 use Rattle.ak_line.proofs.Comparable as line
 use Rattle.ak_settings.specs.Settings.{SettingsModel, settling_size, is_listed}
-use Rattle.ak_settings.proofs.ListedLemmas.{contains_from}
+use Rattle.ak_address.proofs.AmongLaws.{contains_from}
 use Rattle.ak_node.specs.declared.node.State.{State}
 use Rattle.ak_node.specs.Node.{me_of}
 use Rattle.ak_world.specs.Remembered.{Remembered}
@@ -39,7 +39,7 @@ distinct-length (a ∷ rest) = by_case (list_any (λ b. is_eq (address_cmp a b))
     by_case true le = omega arith
     by_case false le = omega arith
 
-module _ (settings : SettingsModel) (r : Remembered) (k : Raised settings r) (few : distinct settings.listed < 2 * settling_size settings.strategy) where
+module _ (settings : SettingsModel) (r : Remembered) (k : Raised settings r) (few : distinct settings.role < 2 * settling_size settings.strategy) where
   -- ---- the words of the argument: versions under one another, their sizes, what they name, who held them, who is at one address
   abbrev below : Counts → Counts → Type 0
   below v w = Covers w v
@@ -48,7 +48,7 @@ module _ (settings : SettingsModel) (r : Remembered) (k : Raised settings r) (fe
   size_of v = size r.world.history v
 
   abbrev on : Counts → Type 0
-  on v = IsAgreed r (settling_size settings.strategy) v
+  on v = IsAgreed r (settling_size settings.strategy) settings.role v
 
   abbrev names : Counts → ℕ → Type 0
   names v j = (m : State) × (slice_get r.world.nodes j ≡ Some m) × IsNamed r.world.history v (me_of m)
@@ -74,16 +74,17 @@ module _ (settings : SettingsModel) (r : Remembered) (k : Raised settings r) (fe
   abbrev CountedAt : Counts → AddressModel → Type 0
   CountedAt v a = (pair : UniqueModel × ℕ) × IsCounted (view r.world.history v).standings pair.0 pair.1 × (a ≡ pair.0.address)
 
-  counted_at : (v : Counts) (a : AddressModel) → Contains (counted_addresses (view r.world.history v).standings) a → CountedAt v a
+  counted_at : (v : Counts) (a : AddressModel) → Contains (role_addresses settings.role (view r.world.history v).standings) a → CountedAt v a
   counted_at v a there =
-      let h = in_map (λ (pair : UniqueModel × ℕ). pair.0.address) (counted_pairs (members_of (view r.world.history v).standings)) a there in
-      (h.0, counted_have (view r.world.history v).standings h.0 h.1, h.2)
+      let counted = counted_pairs (members_of (view r.world.history v).standings) in
+      let h = in_map (λ (pair : UniqueModel × ℕ). pair.0.address) (role_pairs settings.role (members_of (view r.world.history v).standings)) a there in
+      (h.0, counted_have (view r.world.history v).standings h.0 (in_filter (has_role settings.role) counted h.0 h.1).0, h.2)
 
-  all_listed : (v : Counts) (a : AddressModel) → Contains (counted_addresses (view r.world.history v).standings) a → Contains settings.listed a
-  all_listed v a there =
-      let c = counted_at v a there in
-      let n = counted_there v c.0.0 c.0.1 c.1 in
-      contains_from settings.listed a (ap (is_listed settings.listed) (c.2 ∙ ap (λ (u : UniqueModel). u.address) (sym n.is_who)) ∙ (k.basis.processes.sane n.index n.node n.at).listed)
+  all_with_role : (v : Counts) (a : AddressModel) → Contains (role_addresses settings.role (view r.world.history v).standings) a → Contains settings.role a
+  all_with_role v a there =
+      let counted = counted_pairs (members_of (view r.world.history v).standings) in
+      let h = in_map (λ (pair : UniqueModel × ℕ). pair.0.address) (role_pairs settings.role (members_of (view r.world.history v).standings)) a there in
+      contains_from settings.role a (ap (is_listed settings.role) h.2 ∙ (in_filter (has_role settings.role) counted h.0 h.1).1)
 
   -- ---- why a counted one counts, in the words of the argument
   rose_as : (w : Counts) → on w → (who : UniqueModel) (number : ℕ) → IsCounted (view r.world.history w).standings who number → (j : ℕ) (m : State) → slice_get r.world.nodes j ≡ Some m → me_of m ≡ who
@@ -113,7 +114,7 @@ module _ (settings : SettingsModel) (r : Remembered) (k : Raised settings r) (fe
   -- two agreed versions were held at one address
   sharing : (v w : Counts) → on v → on w → line.Shared Counts below size_of on names held_at beside v w
   sharing v w on_v on_w =
-      let a = shared_address settings.listed (counted_addresses (view r.world.history v).standings) (counted_addresses (view r.world.history w).standings) (settling_size settings.strategy) (all_listed v) (all_listed w) few on_v.enough on_w.enough in
+      let a = shared_address settings.role (role_addresses settings.role (view r.world.history v).standings) (role_addresses settings.role (view r.world.history w).standings) (settling_size settings.strategy) (all_with_role v) (all_with_role w) few on_v.enough on_w.enough in
       let c = counted_at v a.0 a.1 in
       let d = counted_at w a.0 a.2 in
       let n = counted_there v c.0.0 c.0.1 c.1 in

@@ -8,6 +8,7 @@ pub mod ByStart
 pub mod Closed
 pub mod ClosedRuns
 pub mod DoubleKept
+pub mod PlaceRuns
 pub mod DoubleLoops
 pub mod DoubleMargins
 pub mod DoubleMarks
@@ -58,3 +59,4 @@ pub mod WorkedRise
 pub mod WorkedSecond
 pub mod WorkedWorlds
 pub mod WorldLemmas
+pub mod RoleLemmas

@@ -94,7 +94,7 @@ module _ (settings : SettingsModel) where
               state = n2;
               at = set_here w.nodes index n n2 at;
               runs = new.runs;
-              settled = ap (λ (x : SettingsModel). is_settled (settling_size x.strategy) (known n2).view (known n2).seen) (sym (run_settings settings later index n2 at_then)) ∙ new.settled;
+              settled = ap (λ (x : SettingsModel). is_settled (settling_size x.strategy) x.role (known n2).view (known n2).seen) (sym (run_settings settings later index n2 at_then)) ∙ new.settled;
               version_is = sym new.version ∙ ap version_of is;
               noted = ap version_of is;
             },
@@ -127,7 +127,7 @@ module _ (settings : SettingsModel) where
 -- ---- in other words
 pub noted_now : (settings : SettingsModel) (events : List Event) (index : ℕ) (n : State) → slice_get (run settings events).nodes index ≡ Some n → IsTrue n.runs → HasSettled settings n → Covers (version_of (settled_of n)) (known n).version
 noted_now settings events index n at runs settled =
-    (all_note settings events index n at).now runs (ap (λ (x : SettingsModel). is_settled (settling_size x.strategy) (known n).view (known n).seen) (run_settings settings events index n at) ∙ settled)
+    (all_note settings events index n at).now runs (ap (λ (x : SettingsModel). is_settled (settling_size x.strategy) x.role (known n).view (known n).seen) (run_settings settings events index n at) ∙ settled)
 
 pub noted_here : (settings : SettingsModel) (events : List Event) (index : ℕ) (n : State) (view : NotedView) → slice_get (run settings events).nodes index ≡ Some n → n.membership.settled.view ≡ Some view → (time : ℕ) × NotesAt settings events time index view.version
 noted_here settings events index n view at is = (all_note settings events index n at).noted view is

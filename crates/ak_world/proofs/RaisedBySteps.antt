@@ -148,10 +148,10 @@ module _ (settings : SettingsModel) (r : Remembered) (k : Raised settings r) whe
       is_named : (who : UniqueModel) → HasMember n.membership who → IsNamed r.world.history (known n).version who
       is_named who is = member_named r.world.history (known n).version who (ap (λ (v : View). standing.is_member v.standings who) (sym n_shown) ∙ is)
 
-      settled_base : IsTrue (has_settled n.membership) → IsAgreed r size (known n).version
+      settled_base : IsTrue (has_settled n.membership) → IsAgreed r size settings.role (known n).version
       settled_base is =
-          settled_agreed r size (known n) (k.basis.processes.sound.each index n at).fold (k.basis.closing.at_nodes index n at) (k.basis.seeing.at_nodes index n at)
-          (ap (λ (x : SettingsModel). is_settled (settling_size x.strategy) (known n).view (known n).seen) (sym (k.basis.by_start.same_settings index n at)) ∙ is)
+          settled_agreed r size settings.role (known n) (k.basis.processes.sound.each index n at).fold (k.basis.closing.at_nodes index n at) (k.basis.seeing.at_nodes index n at)
+          (ap (λ (x : SettingsModel). is_settled (settling_size x.strategy) x.role (known n).view (known n).seen) (sym (k.basis.by_start.same_settings index n at)) ∙ is)
 
       founding_base : (entry : Entry) → entry.author ≡ me_of n → IsFounding n.membership entry.effects → IsFoundation r entry (known n).version
       founding_base entry author f = record {
@@ -166,7 +166,7 @@ module _ (settings : SettingsModel) (r : Remembered) (k : Raised settings r) whe
             (subst (λ (v : View). IsMemberWith v.standings (me_of n) Joining) n_shown (joining_member (known n).view.standings (me_of n) f.1));
       }
 
-      cause_may : (entry : Entry) → entry.author ≡ me_of n → (x : Effect) → IsCause (given_by e) n.membership entry.effects x → MayDo r size entry (known n).version x
+      cause_may : (entry : Entry) → entry.author ≡ me_of n → (x : Effect) → IsCause (given_by e) n.membership entry.effects x → MayDo r size settings.role entry (known n).version x
       cause_may entry author (Joined who) cause = tt
       cause_may entry author (Rise who Joining number) cause = cause.1
       cause_may entry author (Rise who WeaklyUp number) cause = tt
@@ -179,13 +179,13 @@ module _ (settings : SettingsModel) (r : Remembered) (k : Raised settings r) whe
       cause_may entry author (Removed who confirmed) cause = tt
       cause_may entry author (Observed subjects) cause = tt
 
-      may_next : (entry : Entry) (base : Counts) (x : Effect) → Contains s.based (entry, base) → Contains entry.effects x → MayDo s size entry base x
+      may_next : (entry : Entry) (base : Counts) (x : Effect) → Contains s.based (entry, base) → Contains entry.effects x → MayDo s size settings.role entry base x
       may_next entry base x there has_it = elim (old_or_update (me_of n) (known n).version r.based (step_changes e n runs).knowledge entry base (subst (λ b. Contains b (entry, base)) based_is there)) [
-        | inl old ↦ may_then r s grows founders size entry base x (base_bounded entry base old) (k.may entry base x old has_it)
+        | inl old ↦ may_then r s grows founders size settings.role entry base x (base_bounded entry base old) (k.may entry base x old has_it)
         | inr new ↦
             let lawful : IsLawful (given_by e) n.membership (Updates entry.effects) = subst (IsLawful (given_by e) n.membership) new.updates (step_changes e n runs).lawful in
-            subst (λ b. MayDo s size entry b x) (sym new.from)
-            (may_then r s grows founders size entry (known n).version x (k.basis.processes.sound.each index n at).fold.bounded (cause_may entry new.author x (lawful.1 x has_it)))
+            subst (λ b. MayDo s size settings.role entry b x) (sym new.from)
+            (may_then r s grows founders size settings.role entry (known n).version x (k.basis.processes.sound.each index n at).fold.bounded (cause_may entry new.author x (lawful.1 x has_it)))
       ]
 
       pub raised_by_step : Raised settings s

@@ -1,6 +1,7 @@
--- Why members rise: to Up at the one founding, or from an agreed version that names them; to Leaving from Up. What was a cause stays one.
-use Rattle.std.proofs.Common.{◌≡◌, ℕ, ◌<◌, ◌⊎◌, inl, inr, Some, slice_get, Contains, sym, ◌∙◌, subst}
-use Rattle.ak_address.specs.Unique.{UniqueModel}
+-- Why members rise: to Up at the one founding, or from an agreed version that names them; to Leaving from Up. What was a cause
+-- stays one.
+use Rattle.std.proofs.Common.{List, ◌≡◌, ℕ, ◌<◌, ◌⊎◌, inl, inr, Some, slice_get, Contains, sym, ◌∙◌, subst}
+use Rattle.ak_address.specs.Unique.{AddressModel, UniqueModel}
 use Rattle.ak_clock.specs.Version.{Counts}
 use Rattle.ak_member.specs.declared.effect.Effect.{Effect}
 use Rattle.ak_member.specs.declared.effect.Effect.TheVariants.{Joined, Rise, Removed, Observed}
@@ -31,23 +32,23 @@ pub record IsFoundation (r : Remembered) (entry : Entry) (base : Counts) : Type 
   pub joining : IsMemberWith (view r.world.history base).standings entry.author Joining
 
 -- why an entry raises a member to Up, and to Leaving
-abbrev pub MayUp : Remembered → ℕ → Entry → Counts → UniqueModel → Type 0
-MayUp r size entry base who = IsNamed r.world.history base who × (IsFoundation r entry base ⊎ IsAgreed r size base)
+abbrev pub MayUp : Remembered → ℕ → List AddressModel → Entry → Counts → UniqueModel → Type 0
+MayUp r size role entry base who = IsNamed r.world.history base who × (IsFoundation r entry base ⊎ IsAgreed r size role base)
 
 abbrev pub WasUp : Remembered → Counts → UniqueModel → Type 0
 WasUp r base who = (number : ℕ) × Rose r.world.history base who Up number
 
 -- why an entry that was made from this version has an effect: told is only why a member counts, and that none is raised to Joining
-abbrev pub MayDo : Remembered → ℕ → Entry → Counts → Effect → Type 0
-MayDo r size entry base (Joined who) = Unit {0}
-MayDo r size entry base (Rise who Joining number) = ⊥
-MayDo r size entry base (Rise who WeaklyUp number) = Unit {0}
-MayDo r size entry base (Rise who Up number) = MayUp r size entry base who
-MayDo r size entry base (Rise who Leaving number) = WasUp r base who
-MayDo r size entry base (Rise who Exiting number) = Unit {0}
-MayDo r size entry base (Rise who Down number) = Unit {0}
-MayDo r size entry base (Removed who confirmed) = Unit {0}
-MayDo r size entry base (Observed subjects) = Unit {0}
+abbrev pub MayDo : Remembered → ℕ → List AddressModel → Entry → Counts → Effect → Type 0
+MayDo r size role entry base (Joined who) = Unit {0}
+MayDo r size role entry base (Rise who Joining number) = ⊥
+MayDo r size role entry base (Rise who WeaklyUp number) = Unit {0}
+MayDo r size role entry base (Rise who Up number) = MayUp r size role entry base who
+MayDo r size role entry base (Rise who Leaving number) = WasUp r base who
+MayDo r size role entry base (Rise who Exiting number) = Unit {0}
+MayDo r size role entry base (Rise who Down number) = Unit {0}
+MayDo r size role entry base (Removed who confirmed) = Unit {0}
+MayDo r size role entry base (Observed subjects) = Unit {0}
 
 -- no foresight: a version that a process held names nobody that started at its address later
 abbrev pub NoForesight : Remembered → Type 0
@@ -58,7 +59,7 @@ pub record Raised (settings : SettingsModel) (r : Remembered) : Type 0 where
   pub basis : Basis settings r
   pub bounded : (who : UniqueModel) (v : Counts) → Contains r.held (who, v) → IsBounded r.world.history v
   pub no_foresight : NoForesight r
-  pub may : (entry : Entry) (base : Counts) (x : Effect) → Contains r.based (entry, base) → Contains entry.effects x → MayDo r (settling_size settings.strategy) entry base x
+  pub may : (entry : Entry) (base : Counts) (x : Effect) → Contains r.based (entry, base) → Contains entry.effects x → MayDo r (settling_size settings.strategy) settings.role entry base x
 
 -- the founder stays one
 abbrev pub FoundersStay : Remembered → Remembered → Type 0
@@ -79,16 +80,16 @@ module _ (r s : Remembered) (g : Grows r s) (founders : FoundersStay r s) where
         joining = subst (λ (v : View). IsMemberWith v.standings entry.author Joining) (sym (view_then r s g base bounded)) f.joining;
       }
 
-  pub may_then : (size : ℕ) (entry : Entry) (base : Counts) (x : Effect) → IsBounded r.world.history base → MayDo r size entry base x → MayDo s size entry base x
-  may_then size entry base (Joined who) bounded may = tt
-  may_then size entry base (Rise who Joining number) bounded may = may
-  may_then size entry base (Rise who WeaklyUp number) bounded may = tt
-  may_then size entry base (Rise who Up number) bounded may = (
+  pub may_then : (size : ℕ) (role : List AddressModel) (entry : Entry) (base : Counts) (x : Effect) → IsBounded r.world.history base → MayDo r size role entry base x → MayDo s size role entry base x
+  may_then size role entry base (Joined who) bounded may = tt
+  may_then size role entry base (Rise who Joining number) bounded may = may
+  may_then size role entry base (Rise who WeaklyUp number) bounded may = tt
+  may_then size role entry base (Rise who Up number) bounded may = (
     subst (λ h. IsNamed h base who) (sym g.grown) (named_then g.more r.world.history base who may.0),
-    elim may.1 [ inl f ↦ inl (foundation_then entry base bounded f) | inr a ↦ inr (agreed_then r s g size base a) ],
+    elim may.1 [ inl f ↦ inl (foundation_then entry base bounded f) | inr a ↦ inr (agreed_then r s g size role base a) ],
   )
-  may_then size entry base (Rise who Leaving number) bounded may = (may.0, subst (λ h. Did h base (Rise who Up may.0)) (sym g.grown) (did_then g.more r.world.history base (Rise who Up may.0) may.1))
-  may_then size entry base (Rise who Exiting number) bounded may = tt
-  may_then size entry base (Rise who Down number) bounded may = tt
-  may_then size entry base (Removed who confirmed) bounded may = tt
-  may_then size entry base (Observed subjects) bounded may = tt
+  may_then size role entry base (Rise who Leaving number) bounded may = (may.0, subst (λ h. Did h base (Rise who Up may.0)) (sym g.grown) (did_then g.more r.world.history base (Rise who Up may.0) may.1))
+  may_then size role entry base (Rise who Exiting number) bounded may = tt
+  may_then size role entry base (Rise who Down number) bounded may = tt
+  may_then size role entry base (Removed who confirmed) bounded may = tt
+  may_then size role entry base (Observed subjects) bounded may = tt

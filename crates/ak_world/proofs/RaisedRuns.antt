@@ -4,7 +4,7 @@ use Rattle.std.proofs.lemmas.Option.{slice_get_within}
 use Rattle.std.specs.List.{list_any}
 use Rattle.std.specs.Prelude.{false}
 use Rattle.std.specs.FinMap as map
-use Rattle.ak_address.specs.Unique.{UniqueModel}
+use Rattle.ak_address.specs.Unique.{AddressModel, UniqueModel}
 use Rattle.ak_address.proofs.Elements.{first_or_rest, contains_nothing, contains_rest}
 use Rattle.ak_clock.specs.Version.{Counts, count}
 use Rattle.ak_clock.proofs.VersionLaws.{count-empty}
@@ -93,7 +93,7 @@ module _ (settings : SettingsModel) (r : Remembered) (k : Raised settings r) whe
         no_foresight = begun_foresight;
         may = λ entry base x there has_it.
             let old : Contains r.based (entry, base) = subst (λ l. Contains l (entry, base)) begun_based there in
-            may_then r begun_r begun_grows begun_founders (settling_size settings.strategy) entry base x (base_bounded settings r k entry base old) (k.may entry base x old has_it);
+            may_then r begun_r begun_grows begun_founders (settling_size settings.strategy) settings.role entry base x (base_bounded settings r k entry base old) (k.may entry base x old has_it);
       }
 
   -- ---- each event
@@ -149,12 +149,12 @@ pub raised : (settings : SettingsModel) (events : List Event) → Raised setting
 raised settings events = run_raised settings nothing_remembered events (nothing_raised settings)
 
 -- what was agreed stays so through further events
-agreed_on : (settings : SettingsModel) (r : Remembered) (events : List Event) (v : Counts) → Raised settings r → (size : ℕ) → IsAgreed r size v → IsAgreed (remembered_from settings r events) size v
-agreed_on settings r [] v k size a = a
-agreed_on settings r (e ∷ events) v k size a =
+agreed_on : (settings : SettingsModel) (r : Remembered) (events : List Event) (v : Counts) → Raised settings r → (size : ℕ) (role : List AddressModel) → IsAgreed r size role v → IsAgreed (remembered_from settings r events) size role v
+agreed_on settings r [] v k size role a = a
+agreed_on settings r (e ∷ events) v k size role a =
     let next = remembers_answer r (happens settings e r.world) in
-    agreed_on settings next events v (raised_next settings r k e) size (agreed_then r next (grows_next settings r k e) size v a)
+    agreed_on settings next events v (raised_next settings r k e) size role (agreed_then r next (grows_next settings r k e) size role v a)
 
-pub agreed_later : (settings : SettingsModel) (first more : List Event) (size : ℕ) (v : Counts) → IsAgreed (remembered settings first) size v → IsAgreed (remembered settings (first ++ more)) size v
-agreed_later settings first more size v a =
-    subst (λ (q : Remembered). IsAgreed q size v) (sym (remembered-append settings nothing_remembered first more)) (agreed_on settings (remembered settings first) more v (raised settings first) size a)
+pub agreed_later : (settings : SettingsModel) (first more : List Event) (size : ℕ) (role : List AddressModel) (v : Counts) → IsAgreed (remembered settings first) size role v → IsAgreed (remembered settings (first ++ more)) size role v
+agreed_later settings first more size role v a =
+    subst (λ (q : Remembered). IsAgreed q size role v) (sym (remembered-append settings nothing_remembered first more)) (agreed_on settings (remembered settings first) more v (raised settings first) size role a)

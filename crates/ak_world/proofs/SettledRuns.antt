@@ -37,7 +37,7 @@ pub record SettledIn (settings : SettingsModel) (events : List Event) (quorum : 
   pub node : State
   pub at : slice_get (run settings first).nodes index ≡ Some node
   pub runs : IsTrue node.runs
-  pub settled : IsTrue (is_settled quorum (known node).view (known node).seen)
+  pub settled : IsTrue (is_settled quorum settings.role (known node).view (known node).seen)
   pub version_is : (known node).version ≡ version
 
 module _ (settings : SettingsModel) (quorum : ℕ) (v : Counts) where
@@ -75,25 +75,25 @@ module _ (settings : SettingsModel) (quorum : ℕ) (v : Counts) where
   settled_later events more s = at_time (events ++ more) (with_more events more (in_parts events s))
 
 -- ---- a settled version is agreed at the end
-pub was_agreed : (settings : SettingsModel) (events : List Event) (v : Counts) → WasSettled settings events (settling_size settings.strategy) v → IsAgreed (remembered settings events) (settling_size settings.strategy) v
+pub was_agreed : (settings : SettingsModel) (events : List Event) (v : Counts) → WasSettled settings events (settling_size settings.strategy) v → IsAgreed (remembered settings events) (settling_size settings.strategy) settings.role v
 was_agreed settings events v s =
     let past : List Event = take s.time events in
     let rest = take_rest s.time events in
     let r : Remembered = remembered settings past in
     let k : Raised settings r = raised settings past in
     let at : slice_get r.world.nodes s.index ≡ Some s.node = ap (λ (w : WorldState). slice_get w.nodes s.index) (remembered-world settings nothing_remembered past) ∙ s.at in
-    let now : IsAgreed r (settling_size settings.strategy) (known s.node).version =
-    settled_agreed r (settling_size settings.strategy) (known s.node) (k.basis.processes.sound.each s.index s.node at).fold (k.basis.closing.at_nodes s.index s.node at) (k.basis.seeing.at_nodes s.index s.node at) s.settled in
-    subst (λ (l : List Event). IsAgreed (remembered settings l) (settling_size settings.strategy) v) (sym rest.1)
-    (agreed_later settings past rest.0 (settling_size settings.strategy) v (subst (IsAgreed r (settling_size settings.strategy)) s.version_is now))
+    let now : IsAgreed r (settling_size settings.strategy) settings.role (known s.node).version =
+    settled_agreed r (settling_size settings.strategy) settings.role (known s.node) (k.basis.processes.sound.each s.index s.node at).fold (k.basis.closing.at_nodes s.index s.node at) (k.basis.seeing.at_nodes s.index s.node at) s.settled in
+    subst (λ (l : List Event). IsAgreed (remembered settings l) (settling_size settings.strategy) settings.role v) (sym rest.1)
+    (agreed_later settings past rest.0 (settling_size settings.strategy) settings.role v (subst (IsAgreed r (settling_size settings.strategy) settings.role) s.version_is now))
 
 -- ---- any two settled versions are comparable
 pub in_line : (settings : SettingsModel) (events : List Event) (quorum : ℕ) → IsOverHalf settings quorum → AreInLine settings events quorum
 in_line settings events quorum (is, over_half) one other settled_one settled_other =
     let size_is : quorum ≡ settling_size settings.strategy = sym (ap settling_size is) in
-    let most = distinct-length settings.listed in
-    let few : distinct settings.listed < 2 * settling_size settings.strategy = subst (λ q. distinct settings.listed < 2 * q) size_is (omega (arith, most, over_half)) in
-    let agreed : (v : Counts) → WasSettled settings events quorum v → IsAgreed (remembered settings events) (settling_size settings.strategy) v =
+    let most = distinct-length settings.role in
+    let few : distinct settings.role < 2 * settling_size settings.strategy = subst (λ q. distinct settings.role < 2 * q) size_is (omega (arith, most, over_half)) in
+    let agreed : (v : Counts) → WasSettled settings events quorum v → IsAgreed (remembered settings events) (settling_size settings.strategy) settings.role v =
     λ v s. was_agreed settings events v (subst (λ q. WasSettled settings events q v) size_is s) in
     agreed_comparable settings (remembered settings events) (raised settings events) few one other (agreed one settled_one) (agreed other settled_other)
 
@@ -138,7 +138,7 @@ module _ (settings : SettingsModel) (past : List Event) (event : Event) where
         node = (step e n).0;
         at = here;
         runs = new.runs;
-        settled = ap (λ (x : SettingsModel). is_settled (settling_size x.strategy) (known (step e n).0).view (known (step e n).0).seen) (sym ((run_by_start settings now).same_settings index (step e n).0 here)) ∙ new.settled;
+        settled = ap (λ (x : SettingsModel). is_settled (settling_size x.strategy) x.role (known (step e n).0).view (known (step e n).0).seen) (sym ((run_by_start settings now).same_settings index (step e n).0 here)) ∙ new.settled;
         version_is = sym new.version ∙ ap version_of is;
       }
 

@@ -1,4 +1,5 @@
 pub mod Double
+pub mod Places
 pub mod DoubleMark
 pub mod Fold
 pub mod Held

@@ -23,7 +23,7 @@ pub record TellsMarginEnd (settings : SettingsModel) (events : List Event) (time
 
 -- a view that a node runs with is settled
 abbrev pub HasSettled : SettingsModel → State → Type 0
-HasSettled settings n = IsTrue (is_settled (settling_size settings.strategy) (known n).view (known n).seen)
+HasSettled settings n = IsTrue (is_settled (settling_size settings.strategy) settings.role (known n).view (known n).seen)
 
 -- At a step the node of this number noted this version: it told that its view is settled; and at the end of the step it ran, its
 -- view was settled, and it had exactly this version.

@@ -18,12 +18,12 @@ pub record WasSettled (settings : SettingsModel) (events : List Event) (quorum :
   pub node : State
   pub at : slice_get (run settings (take time events)).nodes index ≡ Some node
   pub runs : IsTrue node.runs
-  pub settled : IsTrue (is_settled quorum (known node).view (known node).seen)
+  pub settled : IsTrue (is_settled quorum settings.role (known node).view (known node).seen)
   pub version_is : (known node).version ≡ version
 
--- the strategy is a static quorum, of more than half of the listed addresses
+-- the strategy is a static quorum, of more than half of the addresses that have the role
 abbrev pub IsOverHalf : SettingsModel → ℕ → Type 0
-IsOverHalf settings quorum = (settings.strategy ≡ StaticQuorum quorum) × (length settings.listed < 2 * quorum)
+IsOverHalf settings quorum = (settings.strategy ≡ StaticQuorum quorum) × (length settings.role < 2 * quorum)
 
 -- of any two versions that were settled one covers the other
 abbrev pub AreInLine : SettingsModel → List Event → ℕ → Type 0

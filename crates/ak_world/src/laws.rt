@@ -1,10 +1,11 @@
-ghost use Rattle.std.specs.Prelude.{◌≡◌, ◌⊎◌, ◌↔◌, ℕ, ◌+◌, ◌≤◌, List, ◌++◌, take, slice_get, true, Option, Some, None, Ok, Contains, IsTrue, IsSomeAnd};
+ghost use Rattle.std.specs.Prelude.{◌≡◌, ◌⊎◌, ◌↔◌, ℕ, ◌+◌, ◌*◌, ◌<◌, ◌≤◌, List, length, ◌++◌, take, slice_get, true, Option, Some, None, Ok, Contains, IsTrue, IsSomeAnd};
 ghost use Rattle.ak_address.specs.Unique.{UniqueModel};
 ghost use Rattle.ak_address.specs.Uniques.{has};
 ghost use Rattle.ak_clock.specs.Version.{Counts, count, Covers};
 ghost use Rattle.ak_member.specs.declared.effect.Effect.{Effect};
 ghost use Rattle.ak_wire.specs.declared.action.Action.TheVariants.{Update, MarginEnd};
-ghost use Rattle.ak_settings.specs.Settings.{SettingsModel, settling_size};
+ghost use Rattle.ak_settings.specs.declared.settings.Strategy.TheVariants.{StaticQuorum};
+ghost use Rattle.ak_settings.specs.Settings.{SettingsModel, IsSettings, settling_size};
 ghost use Rattle.ak_schedule.specs.declared.event.Event.{Event};
 ghost use Rattle.ak_node.specs.declared.node.State.{State};
 ghost use Rattle.ak_node.specs.Node.{known, me_of, settled_of, margin_of};
@@ -32,6 +33,7 @@ ghost use Rattle.ak_world.specs.Uids.{HaveUids};
 ghost use Rattle.ak_world.specs.Double.{Doubled, IsFirstDouble};
 ghost use Rattle.ak_sharding.specs.Alive.{IsActive};
 ghost use Rattle.ak_world.specs.Homes.{HasOneHome};
+ghost use Rattle.ak_world.specs.Places.{AreAtOneNode};
 ghost use Rattle.ak_world.specs.Margin.{IsStep, Runs, IsTold, IsUntold, IsMargin, IsBrokenBy};
 ghost use Rattle.ak_world.specs.Worked.{alone, passing, rise, three};
 ghost use Rattle.ak_world.specs.InRun.{WasStarted, HasStopped, AllServe, RunAlone, IsConfirmed, IsNamedIn, IsSettled, HasNoted};
@@ -115,11 +117,18 @@ pub fn settled_views_are_of_the_history()
         → HasNoted (run settings (take i events)) who earlier → HasNoted (run settings (take j events)) who later → Covers later earlier }
 {}
 
-/// Where the strategy is a static quorum of more than half of the listed addresses: of any two versions that were settled in a
-/// run, at whichever running nodes and after whichever events, one covers the other. What a node has noted as settled was settled.
+/// Where the strategy is a static quorum of more than half of the addresses that have the role: of any two versions that were
+/// settled in a run, at whichever running nodes and after whichever events, one covers the other. What a node has noted as
+/// settled was settled.
 pub fn settled_versions_are_in_line()
     ensures line { (settings : SettingsModel) (events : List Event) (quorum : ℕ) → IsOverHalf settings quorum → AreInLine settings events quorum }
     ensures noted { (settings : SettingsModel) (events : List Event) (index : ℕ) (n : State) (noted : NotedView) → slice_get (run settings events).nodes index ≡ Some n → n.membership.settled.view ≡ Some noted → WasSettled settings events (settling_size settings.strategy) noted.version }
+{}
+
+/// Those that have the role are listed: a static quorum of more than half of the listed addresses is one of more than half of
+/// those that have the role, in settings that are in their ranges. So whatever is said of the latter is said of the former.
+pub fn more_than_half_of_the_listed_is_more_than_half_of_the_role()
+    ensures { (settings : SettingsModel) (quorum : ℕ) → IsSettings settings → settings.strategy ≡ StaticQuorum quorum → length settings.listed < 2 * quorum → IsOverHalf settings quorum }
 {}
 
 /// The settled versions of a run are a line of which promises, singletons and shards may speak: who has aged and who was removed
@@ -163,9 +172,9 @@ pub fn each_run_has_one_margin()
     ensures one { (settings : SettingsModel) (events : List Event) (one other : Margin) → IsMargin settings events one → IsMargin settings events other → one ≡ other }
 {}
 
-/// Where the strategy is a static quorum of more than half of the listed addresses: after each number of events through which the
-/// removal margin was kept at most one node is an active singleton, by what nodes told (Akka's "Cluster Singleton"), also in a run
-/// that breaks the margin later. Each process has a uid from 1 on, as the type of a process says.
+/// Where the strategy is a static quorum of more than half of the addresses that have the role: after each number of events
+/// through which the removal margin was kept at most one node is an active singleton, by what nodes told (Akka's "Cluster
+/// Singleton"), also in a run that breaks the margin later. Each process has a uid from 1 on, as the type of a process says.
 pub fn at_most_one_node_is_active()
     ensures { (settings : SettingsModel) (events : List Event) (quorum time : ℕ) → IsOverHalf settings quorum → 1 ≤ settings.margin → HaveUids (run settings events) → IsMargin settings (take time events) Kept → OneIsActive settings (take time events) }
 {}
@@ -196,8 +205,9 @@ pub fn settled_views_are_noted_where_they_settle()
         → Covers (version_of (settled_of n)) (known n).version × Covers (known n).version (version_of (settled_of n)) }
 {}
 
-/// A node can become active while the margin is kept, under a static quorum of more than half of the listed addresses: where one
-/// address is listed, its process founds the cluster, comes Up, settles, and is an active singleton after these four events.
+/// A node can become active while the margin is kept, under a static quorum of more than half of the addresses that have the
+/// role: where one address is listed, and has it, its process founds the cluster, comes Up, settles, and is an active singleton
+/// after these four events.
 pub fn a_node_can_become_active()
     ensures over_half { IsOverHalf alone 1 }
     ensures waits { 1 ≤ alone.margin }
@@ -205,9 +215,9 @@ pub fn a_node_can_become_active()
     ensures active { IsActiveSingleton alone rise 0 }
 {}
 
-/// An activity can pass to another node while the margin is kept, under such a quorum: where three addresses are listed, the node
-/// that started first is an active singleton after 15 of these 33 events; it leaves, ends its activity and exits; and the node
-/// that started second is an active singleton after all of them.
+/// An activity can pass to another node while the margin is kept, under such a quorum: where three addresses are listed, and all
+/// have the role, the node that started first is an active singleton after 15 of these 33 events; it leaves, ends its activity
+/// and exits; and the node that started second is an active singleton after all of them.
 pub fn an_activity_can_pass_to_another_node()
     ensures over_half { IsOverHalf three 2 }
     ensures waits { 1 ≤ three.margin }
@@ -216,10 +226,10 @@ pub fn an_activity_can_pass_to_another_node()
     ensures second { IsActiveSingleton three passing 1 }
 {}
 
-/// Where the strategy is a static quorum of more than half of the listed addresses: after each number of events through which the
-/// removal margin was kept no entity started at a node, by what nodes told, while it was active at another one (Akka's "Cluster
-/// Sharding"), also in a run that breaks the margin later; so where there is a double the margin was broken at its step, or
-/// earlier. Each process has a uid from 1 on, as the type of a process says.
+/// Where the strategy is a static quorum of more than half of the addresses that have the role: after each number of events
+/// through which the removal margin was kept no entity started at a node, by what nodes told, while it was active at another one
+/// (Akka's "Cluster Sharding"), also in a run that breaks the margin later; so where there is a double the margin was broken at
+/// its step, or earlier. Each process has a uid from 1 on, as the type of a process says.
 pub fn no_entity_starts_twice()
     ensures kept { (settings : SettingsModel) (events : List Event) (quorum time : ℕ) → IsOverHalf settings quorum → 1 ≤ settings.margin → HaveUids (run settings events) → IsMargin settings (take time events) Kept → IsFirstDouble settings (take time events) None }
     ensures broken { (settings : SettingsModel) (events : List Event) (quorum : ℕ) (double : Doubled) (margin : Margin) → IsOverHalf settings quorum → 1 ≤ settings.margin → HaveUids (run settings events) → IsFirstDouble settings events (Some double) → IsMargin settings events margin → IsBrokenBy margin double.step }
@@ -231,9 +241,10 @@ pub fn a_shard_has_one_home()
     ensures { (settings : SettingsModel) (events : List Event) (quorum time : ℕ) → IsOverHalf settings quorum → 1 ≤ settings.margin → HaveUids (run settings events) → IsMargin settings (take time events) Kept → HasOneHome settings (take time events) }
 {}
 
-/// Under the same premises no entity is kept active at two running nodes.
+/// Under the same premises no entity is kept active at two running nodes, and none is active at two nodes by what nodes told.
 pub fn an_entity_is_at_one_node()
-    ensures { (settings : SettingsModel) (events : List Event) (quorum : ℕ) → IsOverHalf settings quorum → 1 ≤ settings.margin → IsMargin settings events Kept → HaveUids (run settings events)
+    ensures told { (settings : SettingsModel) (events : List Event) (quorum time : ℕ) → IsOverHalf settings quorum → 1 ≤ settings.margin → HaveUids (run settings events) → IsMargin settings (take time events) Kept → AreAtOneNode settings (take time events) }
+    ensures kept { (settings : SettingsModel) (events : List Event) (quorum : ℕ) → IsOverHalf settings quorum → 1 ≤ settings.margin → IsMargin settings events Kept → HaveUids (run settings events)
         → (i j : ℕ) (n m : State) → slice_get (run settings events).nodes i ≡ Some n → slice_get (run settings events).nodes j ≡ Some m → IsTrue n.runs → IsTrue m.runs → (entity : List ℕ) → IsActive n.sharding entity → IsActive m.sharding entity → i ≡ j }
 {}
 

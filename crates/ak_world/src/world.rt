@@ -23,6 +23,7 @@ ghost use Rattle.ak_node.specs.Node as rules_of_nodes;
 ghost use Rattle.ak_node.specs.Sends.{AreValid, ComesValid};
 ghost use Rattle.ak_world.specs.Double.{IsFirstDouble};
 ghost use Rattle.ak_world.specs.Homes.{HasOneHome};
+ghost use Rattle.ak_world.specs.Places.{AreAtOneNode};
 ghost use Rattle.ak_world.specs.WorldContracts.{AreSpelled, Applies, Scenes, IsNoMemory, IsReady, Acts, Keeps, state_of, doubled_of};
 ghost use Rattle.ak_world.specs.DoubleMark.{NextDouble};
 ghost use Rattle.ak_world.specs.Stored.{AreToldApart, LeavesToldApart, different};
@@ -623,16 +624,16 @@ impl World {
     /// of its steps; what the node knows covers it, and it shows the node neither as Down nor as a tombstone. Of two versions
     /// that one process noted as settled, the later covers the earlier.
     ///
-    /// Where the strategy is a static quorum of more than half of the listed addresses, any two versions that were settled so
-    /// far, at whichever running nodes and whenever, are comparable: one covers the other. It matters neither what was delivered
-    /// nor who stopped. What a node has noted as settled was settled.
+    /// Where the strategy is a static quorum of more than half of the addresses that have the role, any two versions that were
+    /// settled so far, at whichever running nodes and whenever, are comparable: one covers the other. It matters neither what was
+    /// delivered nor who stopped. What a node has noted as settled was settled.
     ///
     /// Under such a quorum, after each number of accepted events through which the removal margin was kept, also where it is broken
     /// later: at most one node is an active singleton, by what nodes told (Akka's "Cluster Singleton"); no shard is hosted at two
     /// running nodes, and while a node is active its table has each shard that a running node hosts, with that node and number;
-    /// and no entity started at a node, by what nodes told, while it was active at another one (Akka's "Cluster Sharding"). Under
-    /// any strategy,
-    /// while the margin is kept, whoever is finished by the settled view of a node has stopped.
+    /// each entity is active at one node at most, and none started at a node, by what nodes told, while it was active at another
+    /// one (Akka's "Cluster Sharding"). Under any strategy, while the margin is kept, whoever is finished by the settled view of a
+    /// node has stopped.
     pub fn apply(&mut self, alloc: Global, event: &Event) -> Result<Step, Refused>
         requires { length self.old.events < 2 ^ 62 }
         ensures applied { Applies event.now self.old result self.new }
@@ -654,6 +655,7 @@ impl World {
         ensures noted { self.new.spent ≡ false → (index : ℕ) (n : State) (noted : NotedView) → slice_get self.new.state.nodes index ≡ Some n → n.membership.settled.view ≡ Some noted → WasSettled self.new.settings self.new.events (settling_size self.new.settings.strategy) noted.version }
         ensures one_active { (quorum time : ℕ) → IsOverHalf self.new.settings quorum → IsMargin self.new.settings (take time self.new.events) Kept → OneIsActive self.new.settings (take time self.new.events) }
         ensures one_home { (quorum time : ℕ) → IsOverHalf self.new.settings quorum → IsMargin self.new.settings (take time self.new.events) Kept → HasOneHome self.new.settings (take time self.new.events) }
+        ensures one_node { (quorum time : ℕ) → IsOverHalf self.new.settings quorum → IsMargin self.new.settings (take time self.new.events) Kept → AreAtOneNode self.new.settings (take time self.new.events) }
         ensures no_double { (quorum time : ℕ) → IsOverHalf self.new.settings quorum → IsMargin self.new.settings (take time self.new.events) Kept → IsFirstDouble self.new.settings (take time self.new.events) None }
         ensures finished { (time : ℕ) → IsMargin self.new.settings (take time self.new.events) Kept → FinishedHaveStopped self.new.settings (take time self.new.events) }
     {

@@ -16,6 +16,7 @@ use Rattle.ak_world.proofs.MarginRuns.{went_margin}
 use Rattle.ak_world.specs.Uids.{HaveUids}
 use Rattle.ak_world.proofs.OneActiveRuns.{finished-of_run, one_active-of_run}
 use Rattle.ak_world.proofs.OneHomeRuns.{one_home-of_run}
+use Rattle.ak_world.proofs.PlaceRuns.{one_node}
 use Rattle.ak_world.proofs.DoubleMarks.{went_double}
 use Rattle.ak_world.proofs.DoubleRuns.{no_double-of_run}
 use Rattle.ak_world.proofs.UidsOfStarts.{next_uids}
@@ -257,6 +258,35 @@ returns-in-Err-NoMemory-clause-one_home c =
 pub returns-in-Err-Invalid-clause-one_home : goal.returns-in-Err-Invalid-clause-one_home
 returns-in-Err-Invalid-clause-one_home c =
     one_home-of_run _ _ (subst (λ (s : SettingsModel). HaveUids (run s c.self.inside.accepted)) (sym c.happens.ensures.settings) c.self.invariant.uids) (subst (λ (s : SettingsModel). 1 ≤ s.margin) (sym c.happens.ensures.settings) c.invariant.ensures.margin.from)
+
+pub returns-in-Some-clause-one_node : goal.returns-in-Some-clause-one_node
+returns-in-Some-clause-one_node c =
+    one_node _ _ (subst (λ (w : WorldModel). HaveUids (run w.settings w.events)) c.self.view_is c.self.invariant.uids) (subst (λ (w : WorldModel). 1 ≤ w.settings.margin) c.self.view_is c.invariant.ensures.margin.from)
+
+pub returns-in_default-kept-clause-one_node : goal.returns-in_default-kept-clause-one_node
+returns-in_default-kept-clause-one_node c =
+    let kept : c.keep_step-kept.new.accepted ≡ c.self.inside.accepted ++ c.args.event.now ∷ [] =
+    at-ok c.keep_step-kept.result _ (ap is_ok c.in_default-kept.is) c.keep_step-kept.ensures.kept in
+    let uids =
+    subst (λ (s : SettingsModel). HaveUids (run s c.keep_step-kept.new.accepted)) (sym c.happens.ensures.settings)
+    (subst (λ (l : List Event). HaveUids (run c.self.inside.scene.settings l)) (sym kept) (next_uids c.self.inside.scene.settings c.self.inside.accepted c.args.event.now c.self.invariant.uids c.start_has_uid.ensures)) in
+    one_node _ _ uids (subst (λ (s : SettingsModel). 1 ≤ s.margin) (sym c.happens.ensures.settings) c.invariant.ensures.margin.from)
+
+pub returns-in-Err-clause-one_node : goal.returns-in-Err-clause-one_node
+returns-in-Err-clause-one_node c =
+    let same : c.keep_step-kept.new.accepted ≡ c.self.inside.accepted = grind (arith, common_steps) in
+    let uids =
+    subst (λ (s : SettingsModel). HaveUids (run s c.keep_step-kept.new.accepted)) (sym (c.clear.ensures.settings ∙ c.happens.ensures.settings))
+    (subst (λ (l : List Event). HaveUids (run c.self.inside.scene.settings l)) (sym same) c.self.invariant.uids) in
+    one_node _ _ uids (subst (λ (s : SettingsModel). 1 ≤ s.margin) (sym (c.clear.ensures.settings ∙ c.happens.ensures.settings)) c.invariant.ensures.margin.from)
+
+pub returns-in-Err-NoMemory-clause-one_node : goal.returns-in-Err-NoMemory-clause-one_node
+returns-in-Err-NoMemory-clause-one_node c =
+    one_node _ _ (subst (λ (s : SettingsModel). HaveUids (run s c.self.inside.accepted)) (sym (c.clear-in-Err-NoMemory.ensures.settings ∙ c.happens.ensures.settings)) c.self.invariant.uids) (subst (λ (s : SettingsModel). 1 ≤ s.margin) (sym (c.clear-in-Err-NoMemory.ensures.settings ∙ c.happens.ensures.settings)) c.invariant.ensures.margin.from)
+
+pub returns-in-Err-Invalid-clause-one_node : goal.returns-in-Err-Invalid-clause-one_node
+returns-in-Err-Invalid-clause-one_node c =
+    one_node _ _ (subst (λ (s : SettingsModel). HaveUids (run s c.self.inside.accepted)) (sym c.happens.ensures.settings) c.self.invariant.uids) (subst (λ (s : SettingsModel). 1 ≤ s.margin) (sym c.happens.ensures.settings) c.invariant.ensures.margin.from)
 
 pub returns-in-Some-clause-no_double : goal.returns-in-Some-clause-no_double
 returns-in-Some-clause-no_double c =
