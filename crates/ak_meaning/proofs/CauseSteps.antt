@@ -26,7 +26,7 @@ use Rattle.ak_leader.proofs.WeakLaws.{weak_from}
 use Rattle.ak_member.specs.declared.effect.Effect.{Effect}
 use Rattle.ak_member.specs.declared.effect.Effect.TheVariants.{Joined, Rise, Observed}
 use Rattle.ak_member.specs.declared.status.Status.{Status}
-use Rattle.ak_member.specs.declared.status.Status.TheVariants.{Joining, WeaklyUp, Up, Leaving, Exiting, Down}
+use Rattle.ak_member.specs.declared.status.Status.TheVariants.{Up, Leaving, Exiting, Down}
 use Rattle.ak_member.specs.Standing as standing
 use Rattle.ak_member.specs.Standing.{members_of, member_of, is_down, is_up, is_joining, is_member_with}
 use Rattle.ak_member.proofs.MembersLaws.{members_have}
@@ -184,7 +184,7 @@ module _ (n : State) (ev : NodeEvent) where
         let s = m.gossip.view.standings in
         let j = is_member_with is_joining s m.me in
         let agree = is_converged m.gossip.view m.gossip.seen in
-        let enough = nat_le (settling_size m.settings.strategy) (distinct (joining_addresses s)) in
+        let enough = nat_le (settling_size m.settings.strategy) (distinct (joining_addresses m.settings.role s)) in
         let three = first_so (m.founder && j && agree) enough is in
         let both = first_so (m.founder && j) agree three in
         let at = index_of (founding_effects s) x there in
@@ -195,13 +195,13 @@ module _ (n : State) (ev : NodeEvent) where
           founder = first_so m.founder j both;
           joining = joining_member s m.me (second_so m.founder j both);
           agreed = second_so (m.founder && j) agree three;
-          enough = leb-true (settling_size m.settings.strategy) (distinct (joining_addresses s)) (second_so (m.founder && j && agree) enough is);
+          enough = leb-true (settling_size m.settings.strategy) (distinct (joining_addresses m.settings.role s)) (second_so (m.founder && j && agree) enough is);
         })
         d.1)
 
     decides_it : decides m ≡ true → (x : Effect) → Contains (decided m) x → Why x
     decides_it is x there =
-        let d = downed_has (is_against (decide m.settings.strategy m.gossip.view m.me) (unreachable_members m.gossip.view) m.me) (members_of m.gossip.view.standings) x there in
+        let d = downed_has (is_against (decide m.settings.strategy m.settings.role m.gossip.view m.me) (unreachable_members m.gossip.view) m.me) (members_of m.gossip.view.standings) x there in
         let before = decision_presupposes n is in
         subst Why (sym d.4) (cause.IsCause.downs_decided d.0.0 ticks (record { decides = is; counted = before.0; lost = before.1; downed = subst (Contains (decided m)) d.4 there }))
 

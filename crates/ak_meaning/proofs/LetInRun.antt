@@ -28,7 +28,7 @@ leader_is = record { node = a_14; at = at_world lenient letting_in done_14.world
 pub leader_runs : Runs (run lenient (take 9 letting_in)).nodes a_1
 leader_runs = record { index = 0; node = a_9; at = at_world lenient (take 9 letting_in) done_9.world 0 a_9 comes_9 refl; is_who = refl; runs = refl }
 
-tests_unsettled : is_settled (settling_size lenient.strategy) (known a_9).view (known a_9).seen ≡ false
+tests_unsettled : is_settled (settling_size lenient.strategy) lenient.role (known a_9).view (known a_9).seen ≡ false
 tests_unsettled = simp listed
 
 pub is_unsettled_first : ¬ RunsSettled lenient (take 9 letting_in) 0

@@ -1,5 +1,7 @@
 pub mod CountingLemmas
 pub mod ResolverLaws
+pub mod OldestSides
+pub mod RoleMembers
 pub mod RingLaws
 pub mod SilenceLaws
 pub mod MembershipOf

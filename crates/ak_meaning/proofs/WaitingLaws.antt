@@ -1,28 +1,27 @@
 -- Whether a waiting member is Joining or WeaklyUp makes no difference to who counts, who is unreachable, whether a view is converged
 -- or settled, who leads, and what the resolver decides and whom it downs.
-use Rattle.std.proofs.Common.{◌≡◌, ℕ, ◌*◌, ◌⊎◌, inl, inr, nat_lt, nat_le, true, not, ◌&&◌, if◌then◌else◌, IsTrue, ◌↔◌, List, length, Option, Some, None, is_some, option_map, refl, sym, ap, ◌∙◌, true≢false}
+use Rattle.std.proofs.Common.{◌≡◌, ℕ, ◌⊎◌, inl, inr, nat_le, true, ◌&&◌, IsTrue, ◌↔◌, List, Option, Some, None, is_some, option_map, sym, ap, ◌∙◌, true≢false}
 use Rattle.std.proofs.lemmas.Option.{same_Some}
 use Rattle.std.specs.Prelude as list
 use Rattle.std.specs.FinMap as map
 use Rattle.std.specs.List.{filter, list_all}
 use Rattle.ak_address.specs.Distinct.{distinct}
-use Rattle.ak_address.specs.Unique.{UniqueModel}
+use Rattle.ak_address.specs.Unique.{AddressModel, UniqueModel}
 use Rattle.ak_address.specs.Uniques.{UniqueSet, set_of}
 use Rattle.ak_converge.specs.Convergence.{IsOut, IsConverged, agrees, is_converged, is_settled}
 use Rattle.ak_downing.specs.declared.decision.Decision.{Decision}
-use Rattle.ak_downing.specs.declared.decision.Decision.TheVariants as decision
-use Rattle.ak_downing.specs.Downing.{is_beside, counted_beside, counted_apart, reachable_addresses, by_quorum, by_first, by_majority, decide, is_against, all_downed, downs}
+use Rattle.ak_downing.specs.Downing.{is_beside, decide, is_against, all_downed, downs}
+use Rattle.ak_downing.proofs.RoleLaws.{decided_alike}
 use Rattle.ak_leader.specs.Leader.{MayLead, IsLeader}
 use Rattle.ak_leader.proofs.LedLaws.{waiting_not_counted}
 use Rattle.ak_member.specs.declared.status.Status.{Status}
 use Rattle.ak_member.specs.declared.status.Status.TheVariants.{Exiting, Down}
-use Rattle.ak_member.specs.Age.{counted_pairs, counted_addresses, IsCounted}
+use Rattle.ak_member.specs.Age.{counted_pairs, has_role, role_pairs, role_addresses, IsCounted}
 use Rattle.ak_member.specs.Standing.{member_of, members_of, is_waiting, is_member, members_with, all_members}
 use Rattle.ak_member.specs.View.{View, RowTable}
 use Rattle.ak_reach.specs.Reach.{unreachable}
 use Rattle.ak_reach.specs.Unreachable.{observes, unreachable_members, IsUnreachable}
 use Rattle.ak_settings.specs.declared.settings.Strategy.{Strategy}
-use Rattle.ak_settings.specs.declared.settings.Strategy.TheVariants.{StaticQuorum, KeepMajority, DownAll}
 use Rattle.ak_meaning.specs.Waiting.{AreAlikeBut}
 use Rattle.ak_meaning.proofs.PlainMembers.{plain_member, plain_waiting, plain_pairs, plain_members, plain_counted, plain_uniques, plain_observers, plain_agree, plain_downed, same_plain_members}
 
@@ -136,40 +135,22 @@ module _ (v w : View) (a : AreAlikeBut v w) where
   same_lost : unreachable_members v ≡ unreachable_members w
   same_lost = λ i. unreachable (a.rows i) (same_observers i) (same_all i)
 
-  same_addresses : counted_addresses v.standings ≡ counted_addresses w.standings
-  same_addresses = ap (list.map (λ (pair : UniqueModel × ℕ). pair.0.address)) same_pairs
+  -- the counted ones that have the role, and their addresses
+  same_role : (role : List AddressModel) → role_pairs role (members_of v.standings) ≡ role_pairs role (members_of w.standings)
+  same_role role = ap (filter (has_role role)) same_pairs
+
+  same_addresses : (role : List AddressModel) → role_addresses role v.standings ≡ role_addresses role w.standings
+  same_addresses role = ap (list.map (λ (pair : UniqueModel × ℕ). pair.0.address)) (same_role role)
 
   same_converged : (seen : UniqueSet) → is_converged v seen ≡ is_converged w seen
   same_converged seen = of_members (list_all (agrees (unreachable_members v) seen)) (plain_agree (unreachable_members v) seen) ∙ ap (λ lost. list_all (agrees lost seen) (members_of w.standings)) same_lost
 
-  pub settle_alike : (quorum : ℕ) (seen : UniqueSet) → is_settled quorum v seen ≡ is_settled quorum w seen
-  settle_alike quorum seen = λ i. same_converged seen i && nat_le quorum (distinct (same_addresses i))
+  pub settle_alike : (quorum : ℕ) (role : List AddressModel) (seen : UniqueSet) → is_settled quorum role v seen ≡ is_settled quorum role w seen
+  settle_alike quorum role seen = λ i. same_converged seen i && nat_le quorum (distinct (same_addresses role i))
 
   -- ---- the resolver
-  same_beside : (me : UniqueModel) → counted_beside v me ≡ counted_beside w me
-  same_beside me = λ i. filter (λ (pair : UniqueModel × ℕ). is_beside (same_lost i) me pair.0) (same_pairs i)
-
-  same_apart : (me : UniqueModel) → counted_apart v me ≡ counted_apart w me
-  same_apart me = λ i. filter (λ (pair : UniqueModel × ℕ). not (is_beside (same_lost i) me pair.0)) (same_pairs i)
-
-  same_reachable : (me : UniqueModel) → reachable_addresses v me ≡ reachable_addresses w me
-  same_reachable me = ap (λ pairs. distinct (list.map (λ (pair : UniqueModel × ℕ). pair.0.address) pairs)) (same_beside me)
-
-  quorum_alike : (quorum : ℕ) (me : UniqueModel) → by_quorum quorum v me ≡ by_quorum quorum w me
-  quorum_alike quorum me = λ i.
-      if nat_le (2 * quorum) (distinct (same_addresses i)) then decision.DownAll
-      else (if nat_le quorum (same_reachable me i) then decision.DownUnreachable else decision.DownReachable)
-
-  majority_alike : (me : UniqueModel) → by_majority v me ≡ by_majority w me
-  majority_alike me = λ i.
-      if nat_lt (length (same_apart me i)) (length (same_beside me i)) then decision.DownUnreachable
-      else (if nat_lt (length (same_beside me i)) (length (same_apart me i)) then decision.DownReachable
-      else by_first (same_lost i) me (same_pairs i))
-
-  pub decide_alike : (strategy : Strategy) (me : UniqueModel) → decide strategy v me ≡ decide strategy w me
-  decide_alike (StaticQuorum quorum) me = quorum_alike quorum me
-  decide_alike KeepMajority me = majority_alike me
-  decide_alike DownAll me = refl
+  pub decide_alike : (strategy : Strategy) (role : List AddressModel) (me : UniqueModel) → decide strategy role v me ≡ decide strategy role w me
+  decide_alike strategy role me = decided_alike role v w me (same_role role) (λ pair there. ap (λ lost. is_beside lost me pair.0) same_lost) strategy
 
   pub down_alike : (decided : Decision) (me : UniqueModel) → downs decided v me ≡ downs decided w me
   down_alike decided me =

@@ -1,8 +1,7 @@
 -- Whoever lets somebody in at a tick has been unsettled for as long as the settings ask.
-use Rattle.std.proofs.Common.{◌≡◌, ℕ, zero, suc, ◌+◌, ◌<◌, ◌≤◌, ◌==◌, nat_le, Bool, true, false, ◌&&◌, ◌⊎◌, inl, inr, if◌then◌else◌, min, List, [], ◌∷◌, length, take, Option, Some, None, is_some, Result, Ok, Err, slice_get, Contains, IsTrue, refl, sym, ap, ◌∙◌, subst, arith, true≢false}
-use Rattle.std.proofs.lemmas.Bool.{eqb-true, leb-true, leb-false}
+use Rattle.std.proofs.Common.{◌≡◌, ℕ, zero, suc, ◌+◌, ◌<◌, ◌≤◌, nat_le, Bool, true, false, ◌⊎◌, inl, inr, if◌then◌else◌, min, List, [], ◌∷◌, length, take, Option, Some, None, is_some, Result, Ok, Err, slice_get, Contains, IsTrue, refl, sym, ap, ◌∙◌, subst, arith, true≢false}
+use Rattle.std.proofs.lemmas.Bool.{leb-true, leb-false}
 use Rattle.std.proofs.lemmas.Option.{same_Some}
-use Rattle.std.specs.Cmp.{first_so}
 use Rattle.ak_address.specs.Unique.{UniqueModel}
 use Rattle.ak_address.proofs.Elements.{first_or_rest, contains_nothing}
 use Rattle.ak_member.specs.declared.effect.Effect.{Effect}
@@ -11,9 +10,8 @@ use Rattle.ak_member.specs.declared.status.Status.TheVariants.{WeaklyUp}
 use Rattle.ak_membership.specs.Membership as membership
 use Rattle.ak_membership.specs.Tick.{has_settled, waited}
 use Rattle.ak_node.specs.declared.node.NodeEvent.{NodeEvent}
-use Rattle.ak_node.specs.declared.node.NodeEvent.TheVariants as event
 use Rattle.ak_node.specs.declared.node.State.{State}
-use Rattle.ak_node.specs.Node.{known, me_of, is_member, started, step}
+use Rattle.ak_node.specs.Node.{me_of, is_member, started, step}
 use Rattle.ak_node.proofs.ChangeLemmas.{update_made}
 use Rattle.ak_wire.specs.Wire.{updates_of}
 use Rattle.ak_settings.specs.Settings.{SettingsModel}
@@ -23,7 +21,7 @@ use Rattle.ak_schedule.specs.declared.event.Event.TheVariants as schedule
 use Rattle.ak_wire.specs.declared.action.Action.TheVariants.{Update}
 use Rattle.ak_world.specs.World.{WorldState, Done, stepped, happens, after, run}
 use Rattle.ak_world.specs.declared.world.Reason.{Reason}
-use Rattle.ak_world.proofs.IndexLemmas.{set_at, set_here, push_at}
+use Rattle.ak_world.proofs.IndexLemmas.{set_at, push_at}
 use Rattle.ak_world.proofs.WaitedRuns.{run_settings}
 use Rattle.ak_meaning.specs.Counting.{HasEachOnce}
 use Rattle.ak_meaning.specs.Causes.{Gives, IsCause, LetsIn}

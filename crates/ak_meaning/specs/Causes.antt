@@ -69,23 +69,23 @@ members_at n = (known n).view.standings
 
 -- it leads, in a view that is settled
 abbrev pub LeadsSettled : State → Type 0
-LeadsSettled n = IsTrue (is_settled (settling_size n.membership.settings.strategy) (known n).view (known n).seen) × (leader (known n).view ≡ Some (me_of n))
+LeadsSettled n = IsTrue (is_settled (settling_size n.membership.settings.strategy) n.membership.settings.role (known n).view (known n).seen) × (leader (known n).view ≡ Some (me_of n))
 
 -- the settings let members in, it leads, and its view has not settled for as many ticks as they ask, this one included
 pub record LetsIn (n : State) : Type 0 where
   pub asked : 1 ≤ n.membership.settings.weakly
   pub waited : waited n.membership ≡ n.membership.settings.weakly
-  pub unsettled : is_settled (settling_size n.membership.settings.strategy) (known n).view (known n).seen ≡ false
+  pub unsettled : is_settled (settling_size n.membership.settings.strategy) n.membership.settings.role (known n).view (known n).seen ≡ false
   pub leads : leader (known n).view ≡ Some (me_of n)
 
--- it is the founder and Joining itself, all agree, and Joining members have enough addresses
+-- it is the founder and Joining itself, all agree, and Joining members have enough addresses with the role
 pub record Founds (n : State) : Type 0 where
   pub founder : IsTrue n.membership.founder
   pub joining : IsMemberWith (members_at n) (me_of n) Joining
   pub agreed : IsTrue (is_converged (known n).view (known n).seen)
-  pub enough : settling_size n.membership.settings.strategy ≤ distinct (joining_addresses (members_at n))
+  pub enough : settling_size n.membership.settings.strategy ≤ distinct (joining_addresses n.membership.settings.role (members_at n))
 
--- some process is a member with a status that counts
+-- some process is an Up or a Leaving member, whether it has the role or not
 pub record SomebodyCounts (n : State) : Type 0 where
   pub who : UniqueModel
   pub status : Status
@@ -101,12 +101,12 @@ pub record SomebodyIsLost (n : State) : Type 0 where
   pub not_down : status ≢ Down
   pub unreachable : IsUnreachable (known n).view who
 
--- its resolver's turn has come, somebody counts and somebody else is lost, and the decision downs this process
+-- its resolver's turn has come, somebody is Up or Leaving and somebody else is lost, and the decision downs this process
 pub record DecidesAgainst (n : State) (who : UniqueModel) : Type 0 where
   pub decides : IsTrue (decides n.membership)
   pub counted : SomebodyCounts n
   pub lost : SomebodyIsLost n
-  pub downed : Contains (downs (decide n.membership.settings.strategy (known n).view (me_of n)) (known n).view (me_of n)) (Rise who Down 0)
+  pub downed : Contains (downs (decide n.membership.settings.strategy n.membership.settings.role (known n).view (me_of n)) (known n).view (me_of n)) (Rise who Down 0)
 
 -- ---- why a node writes an effect
 pub data IsCause (n : State) (ev : NodeEvent) : Effect → Type 0 where

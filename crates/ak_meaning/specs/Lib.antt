@@ -8,6 +8,7 @@ pub mod Moved
 pub mod Receiving
 pub mod Resolver
 pub mod Ring
+pub mod Roles
 pub mod Standstill
 pub mod Watching
 pub mod Unsettled

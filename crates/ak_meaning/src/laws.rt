@@ -1,13 +1,13 @@
-ghost use Rattle.std.specs.Prelude.{◌≡◌, ◌↔◌, ◌<◌, ◌++◌, ◌∷◌, ℕ, false, IsTrue, List, Option, Ok, Err, Some, Contains, slice_get, take, true};
+ghost use Rattle.std.specs.Prelude.{◌≡◌, ◌↔◌, ◌<◌, ◌++◌, ◌∷◌, ℕ, Bool, false, IsTrue, List, Option, Ok, Err, Some, Contains, slice_get, take, true};
 ghost use Rattle.std.specs.FinMap as map;
 ghost use Rattle.ak_address.specs.Counters.{Counters};
-ghost use Rattle.ak_address.specs.Unique.{UniqueModel};
+ghost use Rattle.ak_address.specs.Unique.{AddressModel, UniqueModel};
 ghost use Rattle.ak_address.specs.Uniques.{UniqueSet, has};
 ghost use Rattle.ak_converge.specs.Convergence.{IsConverged, is_settled};
 ghost use Rattle.ak_detector.specs.Detector.{silent, watch_ring, watching};
 ghost use Rattle.ak_downing.specs.declared.decision.Decision.{Decision};
 ghost use Rattle.ak_downing.specs.declared.decision.Decision.TheVariants.{DownAll, DownUnreachable};
-ghost use Rattle.ak_downing.specs.Downing.{decide, downs};
+ghost use Rattle.ak_downing.specs.Downing.{decide, downs, reachable_addresses};
 ghost use Rattle.ak_gossip.specs.declared.gossip.GossipFault.{GossipFault};
 ghost use Rattle.ak_gossip.specs.declared.gossip.Received.{Received};
 ghost use Rattle.ak_gossip.specs.Gossip.{GossipState, is_known, receive};
@@ -19,7 +19,8 @@ ghost use Rattle.ak_meaning.specs.LetIn.{lenient, letting_in};
 ghost use Rattle.ak_meaning.specs.Listening.{SilentSince};
 ghost use Rattle.ak_meaning.specs.Moved.{cart, moving, spread};
 ghost use Rattle.ak_meaning.specs.Receiving.{AreMerged};
-ghost use Rattle.ak_meaning.specs.Resolver.{AreDivided, DecidesByMajority, DecidesByQuorum, DoesCount, DownsRightly};
+ghost use Rattle.ak_meaning.specs.Resolver.{AreDivided, DecidesByMajority, DecidesByOldest, DecidesByQuorum, DoesCount, DownsRightly, IsOldest, IsWith};
+ghost use Rattle.ak_meaning.specs.Roles.{EachHasRole, EachJoiningHasRole, HaveSameCounted, all_joining, all_reachable, decide_over_all, settles_over_all};
 ghost use Rattle.ak_meaning.specs.Ring.{Happening, HasLast, IsLast, IsRing, IsSilent, IsWatched, ticks_in};
 ghost use Rattle.ak_meaning.specs.Standstill.{DownsAt, IsAt, StoodStill};
 ghost use Rattle.ak_meaning.specs.Unsettled.{LetsInAt, StoodUnsettled};
@@ -33,6 +34,7 @@ ghost use Rattle.ak_member.specs.declared.effect.Effect.TheVariants.{Removed, Ri
 ghost use Rattle.ak_member.specs.declared.status.Status.TheVariants.{Up, WeaklyUp};
 ghost use Rattle.ak_member.specs.Standing.{Standings, is_member};
 ghost use Rattle.ak_member.specs.View.{View};
+ghost use Rattle.ak_membership.specs.Tick.{joining_addresses};
 ghost use Rattle.ak_node.specs.declared.node.NodeEvent.TheVariants.{Packet};
 ghost use Rattle.ak_node.specs.declared.node.State.{State};
 ghost use Rattle.ak_node.specs.Node.{is_for, known, me_of, step};
@@ -43,32 +45,70 @@ ghost use Rattle.ak_settings.specs.declared.settings.Strategy.TheVariants as str
 ghost use Rattle.ak_wire.specs.declared.envelope.Envelope.{Envelope};
 ghost use Rattle.ak_wire.specs.Wire.{gossip_of};
 ghost use Rattle.ak_world.specs.declared.margin.Margin.TheVariants.{Broken, Kept};
+ghost use Rattle.ak_world.specs.Fold.{IsIn};
 ghost use Rattle.ak_world.specs.Margin.{HasNumber, IsMargin, Runs};
 ghost use Rattle.ak_world.specs.SettledLine.{IsOverHalf};
 ghost use Rattle.ak_world.specs.Worked.{a_1, b_1, c_1, passing, three};
 ghost use Rattle.ak_world.specs.World.{run};
 
-/// Under static-quorum a node downs the unreachable ones exactly where at least the quorum's addresses are on its side and fewer
-/// than twice the quorum count; it downs all exactly where at least twice the quorum count; else it gives up its side (Akka's
-/// Split Brain Resolver, "Static Quorum"; that different addresses of counted members are counted is this project's choice).
+/// Members count that are Up or Leaving, at an address that has the role. Under static-quorum a node downs the unreachable ones
+/// exactly where the counted members on its side have at least as many addresses as the quorum and all that count have fewer than
+/// twice as many; it downs all exactly where they have at least twice as many; else it gives up its side (Akka's Split Brain
+/// Resolver, "Static Quorum"; that different addresses are counted is this project's choice).
 pub fn a_quorum_decides()
-    ensures { (quorum : ℕ) (v : View) (me : UniqueModel) → DecidesByQuorum quorum v me }
+    ensures { (quorum : ℕ) (role : List AddressModel) (v : View) (me : UniqueModel) → DecidesByQuorum quorum role v me }
 {}
 
-/// Under keep-majority a node downs the unreachable ones exactly where more counted members are on its side than are not, or as
-/// many and the first one is; else it gives up its side. Of two sides that divide the counted members exactly one goes on where
-/// somebody counts (Akka's Split Brain Resolver, "Keep Majority").
+/// Members count that are Up or Leaving, at an address that has the role. Under keep-majority a node downs the unreachable ones
+/// exactly where more counted members are on its side than are not, or as many and the first one is; else it gives up its side.
+/// Of two sides that divide the counted members exactly one goes on where somebody counts (Akka's Split Brain Resolver, "Keep
+/// Majority").
 pub fn a_majority_decides()
-    ensures numbers { (v : View) (me : UniqueModel) → DecidesByMajority v me }
-    ensures sides { (v w : View) (me you who : UniqueModel) → AreDivided v w me you → DoesCount v who → (decide strategy.KeepMajority v me ≡ DownUnreachable) ↔ (¬ (decide strategy.KeepMajority w you ≡ DownUnreachable)) }
+    ensures numbers { (role : List AddressModel) (v : View) (me : UniqueModel) → DecidesByMajority role v me }
+    ensures sides { (role : List AddressModel) (v w : View) (me you who : UniqueModel) → AreDivided role v w me you → DoesCount role v who → (decide strategy.KeepMajority role v me ≡ DownUnreachable) ↔ (¬ (decide strategy.KeepMajority role w you ≡ DownUnreachable)) }
 {}
 
-/// Under down-all all are downed. Under each strategy a decision downs members that are not Down and nobody else: the node itself
-/// exactly where it gives up its side or downs all; another one exactly where all are downed, where it is unreachable and the
-/// unreachable ones are, and where it is not and the reachable ones are.
+/// Members count that are Up or Leaving, at an address that has the role; the oldest of them has the least up number, and at
+/// equal numbers is the first. Under keep-oldest the side of the oldest goes on, and the other gives up; only where that is asked
+/// for, the oldest is the one counted member on its side, and somebody counts on the other, the other goes on, and the side of
+/// the oldest gives up. Where nobody counts each side gives up, and never are all downed. Where it is not asked for, a node on
+/// the side of the oldest always goes on. Of two sides that divide the counted members exactly one goes on where somebody counts,
+/// whether it is asked for or not (Akka's Split Brain Resolver, "Keep Oldest"; that an oldest that is alone gives way also to a
+/// single other one, and that each side gives up where nobody counts, is this project's choice).
+pub fn the_oldest_decides()
+    ensures exactly { (asked : Bool) (role : List AddressModel) (v : View) (me : UniqueModel) → DecidesByOldest asked role v me }
+    ensures kept { (role : List AddressModel) (v : View) (me who : UniqueModel) → IsOldest role v who → IsWith v me who → decide (strategy.KeepOldest false) role v me ≡ DownUnreachable }
+    ensures sides { (asked : Bool) (role : List AddressModel) (v w : View) (me you who : UniqueModel) → AreDivided role v w me you → DoesCount role v who → (decide (strategy.KeepOldest asked) role v me ≡ DownUnreachable) ↔ (¬ (decide (strategy.KeepOldest asked) role w you ≡ DownUnreachable)) }
+{}
+
+/// Under down-all all are downed. Under each strategy a decision downs members that are not Down and nobody else, at whichever
+/// addresses, with the role or without it: the node itself exactly where it gives up its side or downs all; another one exactly
+/// where all are downed, where it is unreachable and the unreachable ones are, and where it is not and the reachable ones are.
 pub fn a_decision_downs_its_members()
-    ensures all { (v : View) (me : UniqueModel) → decide strategy.DownAll v me ≡ DownAll }
-    ensures downs { (strategy : Strategy) (v : View) (me : UniqueModel) → DownsRightly strategy v me }
+    ensures all { (role : List AddressModel) (v : View) (me : UniqueModel) → decide strategy.DownAll role v me ≡ DownAll }
+    ensures downs { (strategy : Strategy) (role : List AddressModel) (v : View) (me : UniqueModel) → DownsRightly strategy role v me }
+{}
+
+/// A decision is made over the members that have the role alone. Take two views in which the same members with the role are Up or
+/// Leaving, with the same numbers, and of which the same are on the side of a node: it decides the same in both, under each
+/// strategy, and reaches as many addresses. A member without the role makes a difference by its row, where that is why one that
+/// has it is unreachable, and is downed like any other; else it makes none, whether it is there or not, and whether it is
+/// reachable or not (Akka's Split Brain Resolver, "Strategies").
+pub fn a_decision_depends_on_role_members()
+    ensures decision { (role : List AddressModel) (v w : View) (me : UniqueModel) → HaveSameCounted role v w me → (strategy : Strategy) → decide strategy role v me ≡ decide strategy role w me }
+    ensures reached { (role : List AddressModel) (v w : View) (me : UniqueModel) → HaveSameCounted role v w me → reachable_addresses role v me ≡ reachable_addresses role w me }
+{}
+
+/// Where each Up and each Leaving member has the role, all of them count: whether a view is settled, how many addresses a node
+/// reaches, and what it decides, are what they are over all of them, wherever they are; and so the addresses of Joining members
+/// that a founding counts, where each Joining one has it. Over every list of events it is so where all listed addresses have the
+/// role, in whatever a node knows or a packet carries.
+pub fn where_all_have_the_role_all_count()
+    ensures settled { (role : List AddressModel) (v : View) → EachHasRole role v.standings → (quorum : ℕ) (seen : UniqueSet) → is_settled quorum role v seen ≡ settles_over_all quorum v seen }
+    ensures reached { (role : List AddressModel) (v : View) → EachHasRole role v.standings → (me : UniqueModel) → reachable_addresses role v me ≡ all_reachable v me }
+    ensures decision { (role : List AddressModel) (v : View) → EachHasRole role v.standings → (strategy : Strategy) (me : UniqueModel) → decide strategy role v me ≡ decide_over_all strategy v me }
+    ensures founding { (role : List AddressModel) (s : Standings) → EachJoiningHasRole role s → joining_addresses role s ≡ all_joining s }
+    ensures runs { (settings : SettingsModel) (events : List Event) → settings.role ≡ settings.listed → (g : GossipState) → IsIn g (run settings events) → EachHasRole settings.role g.view.standings × EachJoiningHasRole settings.role g.view.standings }
 {}
 
 /// With five or more other members the ring of a node has exactly five, with fewer all; and whoever comes on the ring before one
@@ -120,18 +160,19 @@ pub fn a_member_is_let_in_after_a_wait()
 {}
 
 /// Whether a member that waits is Joining or WeaklyUp makes no difference to the rest. Take two views that have the same rows and
-/// show the same members, but that some who wait are Joining in one and WeaklyUp in the other. The same members count in both, and the
-/// same are unreachable; both are converged for the same who have seen them, or neither is, and so with settled; both have the same
-/// leader; and in both the resolver decides the same, and downs the same members in the same order. It is not said that a waiting
-/// member makes no difference at all: while it is unreachable no view converges, and a member that it has in its row is unreachable
-/// (Akka's Cluster Specification, "WeaklyUp Members"; Split Brain Resolver).
+/// show the same members, but that some who wait are Joining in one and WeaklyUp in the other. The same members are Up or Leaving
+/// in both, with the same numbers, and the same are unreachable; both are converged for the same who have seen them, or neither
+/// is, and so with settled, for each quorum and each role; both have the same leader; and in both the resolver decides the same,
+/// by each strategy and over each role, and downs the same members in the same order. It is not said that a waiting member makes
+/// no difference at all: while it is unreachable no view converges, and a member that it has in its row is unreachable (Akka's
+/// Cluster Specification, "WeaklyUp Members"; Split Brain Resolver).
 pub fn joining_or_weakly_up_is_the_same_to_the_rest()
     ensures counted { (v w : View) → AreAlikeBut v w → (who : UniqueModel) (number : ℕ) → IsCounted v.standings who number ↔ IsCounted w.standings who number }
     ensures reached { (v w : View) → AreAlikeBut v w → (who : UniqueModel) → IsUnreachable v who ↔ IsUnreachable w who }
     ensures converged { (v w : View) → AreAlikeBut v w → (seen : UniqueSet) → IsConverged v seen ↔ IsConverged w seen }
-    ensures settled { (v w : View) → AreAlikeBut v w → (quorum : ℕ) (seen : UniqueSet) → is_settled quorum v seen ≡ is_settled quorum w seen }
+    ensures settled { (v w : View) → AreAlikeBut v w → (quorum : ℕ) (role : List AddressModel) (seen : UniqueSet) → is_settled quorum role v seen ≡ is_settled quorum role w seen }
     ensures leader { (v w : View) → AreAlikeBut v w → (o : Option UniqueModel) → IsLeader v o ↔ IsLeader w o }
-    ensures decision { (v w : View) → AreAlikeBut v w → (strategy : Strategy) (me : UniqueModel) → decide strategy v me ≡ decide strategy w me }
+    ensures decision { (v w : View) → AreAlikeBut v w → (strategy : Strategy) (role : List AddressModel) (me : UniqueModel) → decide strategy role v me ≡ decide strategy role w me }
     ensures downed { (v w : View) → AreAlikeBut v w → (decided : Decision) (me : UniqueModel) → downs decided v me ≡ downs decided w me }
 {}
 
@@ -148,12 +189,13 @@ pub fn an_accepted_gossip_leaves_the_merge()
 {}
 
 /// Over every list of events: each effect of each entry of the history was written at a step of its author, a running node, for a
-/// cause. It founded, or admitted who asked. A rise to Up was made by the founding or by a leader in a settled view, of a
-/// member that was Joining or WeaklyUp; one to WeaklyUp by a leader whose view had not settled for long enough, of a Joining member
-/// that it reached; one to Exiting by a leader in a settled view, one to Leaving where it was asked, one to Down where it was asked, where another process at that
-/// address asked to join, or by a decision, where some member counted, and another one than the author was unreachable and not
-/// Down. A removal was made by such a leader: as confirmed only of one that said that it stops, and else of one that was Down and
-/// unreachable. Who founds was given the event to found the cluster before (Akka's Cluster Specification, "Membership Lifecycle").
+/// cause. It founded, or admitted who asked. A rise to Up was made by the founding or by a leader in a settled view, of a member
+/// that was Joining or WeaklyUp; one to WeaklyUp by a leader whose view had not settled for long enough, of a Joining member that
+/// it reached; one to Exiting by a leader in a settled view, one to Leaving where it was asked, one to Down where it was asked,
+/// where another process at that address asked to join, or by a decision, where some member, with the role or without it, was Up
+/// or Leaving, and another one than the author was unreachable and not Down. A removal was made by such a leader: as confirmed
+/// only of one that said that it stops, and else of one that was Down and unreachable. Who founds was given the event to found
+/// the cluster before (Akka's Cluster Specification, "Membership Lifecycle").
 pub fn each_entry_has_a_cause()
     ensures caused { (settings : SettingsModel) (events : List Event) (entry : Entry) → Contains (run settings events).history entry → (effect : Effect) → Contains entry.effects effect → IsCaused settings events entry effect }
     ensures founder { (settings : SettingsModel) (events : List Event) (time index : ℕ) (n : State) → IsAt settings events time index n → IsTrue n.membership.founder → WasToldToFound settings events index time }

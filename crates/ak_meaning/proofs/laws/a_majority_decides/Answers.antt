@@ -2,4 +2,4 @@ use Rattle.ak_meaning.proofs.ResolverLaws.{decides_by_majority, one_side_goes_on
 use Rattle.ak_meaning.proofs.laws.a_majority_decides.Goals as goal
 
 pub returns : goal.returns
-returns c = record { numbers = decides_by_majority; sides = λ v w me you who divided counts. one_side_goes_on v w me you divided who counts }
+returns c = record { numbers = decides_by_majority; sides = λ role v w me you who divided counts. one_side_goes_on role v w me you divided who counts }
