@@ -1,4 +1,4 @@
--- A replay that ends with its margin kept, under a static quorum of more than half of the listed addresses, has no double.
+-- A replay that ends with its margin kept, under a static quorum of more than half of the addresses with the role, has no double.
 use Rattle.std.proofs.Common.{◌≡◌, ◌≢◌, ℕ, ◌<◌, ◌≤◌, List, [], ◌∷◌, ◌++◌, Option, None, Some, length, refl, sym, ap, subst, inl, inr, ◌∙◌, take, take_all, arith, append_assoc}
 use Rattle.std.specs.Prelude.{codes, IfSome}
 use Rattle.std.specs.List.{concat}
@@ -53,6 +53,7 @@ margin_set header.TheVariants.Limit ws old new least s = subst (λ (x : Settings
 
 margin_kept : (which : extra.Extra) (ws : List (List ℕ)) (old new : SettingsModel) → SetsExtra which ws old new → new.margin ≡ old.margin
 margin_kept extra.TheVariants.Weakly ws old new s = ap (λ (x : SettingsModel). x.margin) s.2
+margin_kept extra.TheVariants.Role ws old new s = ap (λ (x : SettingsModel). x.margin) s.2
 
 -- ---- of a replay
 record Sound (p : Progress) : Type 0 where

@@ -10,6 +10,7 @@ pub mod OneReplay
 pub mod PromiseLemmas
 pub mod ReplayLemmas
 pub mod ReplayLoop
+pub mod RoleRuns
 pub mod RunLemmas
 pub mod SomeReplay
 pub mod Streamed

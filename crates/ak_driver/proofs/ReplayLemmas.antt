@@ -1,8 +1,7 @@
 -- What one line does to a replay, from what its calls answer.
-use Rattle.std.proofs.Common.{◌≡◌, ◌≢◌, ℕ, ◌+◌, ◌<◌, ◌≤◌, Bool, true, false, List, [], ◌∷◌, ◌++◌, if◌then◌else◌, Result, Ok, Err, OnOk, length, refl, sym, ap, subst, ◌∙◌, arith, append-nil, length-append, inl, inr}
-use Rattle.ak_schedule.specs.declared.fault.LineFault.{LineFault}
-use Rattle.ak_schedule.specs.declared.fault.LineFault as fault
-use Rattle.ak_schedule.specs.Draft.{Drafted, ReadsExtra, ReadsHeader, ExtraAnswers, HeaderAnswers}
+use Rattle.std.proofs.Common.{◌≡◌, ℕ, ◌+◌, ◌<◌, ◌≤◌, Bool, true, false, List, [], ◌∷◌, ◌++◌, if◌then◌else◌, Result, Ok, Err, length, refl, sym, ap, subst, ◌∙◌, arith, append-nil, length-append, inl, inr}
+use Rattle.ak_schedule.specs.declared.draft.Extra.TheVariants.{Role}
+use Rattle.ak_schedule.specs.Draft.{Drafted, ReadsExtra, ReadsHeader}
 use Rattle.ak_schedule.specs.Line.{words, most_bytes, IsPassedOver}
 use Rattle.ak_schedule.specs.Schedule.{NamesExtra, extras}
 use Rattle.ak_schedule.proofs.OneWay.{begins_extra}
@@ -17,7 +16,7 @@ use Rattle.ak_world.specs.StepText.{step_text}
 use Rattle.ak_world.specs.World.{empty_world}
 use Rattle.ak_world.specs.WorldContracts.{WorldModel}
 use Rattle.ak_driver.specs.ReplayText.{Progress, Passes, Sets, SetsExtra, Steps, most_lines, header_count}
-use Rattle.ak_driver.specs.ReplayContracts.{progress, progress_of, world_of, IsReady, IsOpened, Opens, IsFor, Stands, Turns, TurnAnswers, HeaderLineAnswers, HeadingAnswers, RunningAnswers, FinishAnswers}
+use Rattle.ak_driver.specs.ReplayContracts.{progress, progress_of, world_of, IsReady, IsOpened, Opens, IsFor, Stands, Turns, TurnAnswers, HeadingAnswers, RunningAnswers, FinishAnswers}
 
 -- a line that is passed over changes nothing but its number
 passed_turn : (line before after : List ℕ) (p : Progress) → p.line ≤ most_lines → IsPassedOver line → after ≡ before
@@ -27,19 +26,6 @@ passed_turn line before after p few passed same = (
   record { judgement = Passes; judged = (few, passed); next = refl; text_is = refl },
   same ∙ sym (append-nil before),
 )
-
--- ---- what is read of a line while headers are
-pub of_extra : (r : Result Bool LineFault) (line : List ℕ) (old new : Drafted) → old.read ≡ header_count → ExtraAnswers r line old new → HeaderLineAnswers r line old new
-of_extra (Ok true) line old new all h = inr (all, h)
-of_extra (Ok false) line old new all h = (all, h.0, h.1)
-of_extra (Err fault.TheVariants.Malformed) line old new all h = h
-of_extra (Err fault.TheVariants.BadHeader) line old new all h = (h.0, inr (all, h.1, h.2))
-of_extra (Err (fault.TheVariants.NoMemory error)) line old new all h = absurd h
-
-pub of_header : (e : LineFault) (line : List ℕ) (old new : Drafted) → old.read < header_count → HeaderAnswers (Err e) line old new → HeaderLineAnswers (Err e) line old new
-of_header fault.TheVariants.Malformed line old new few h = h
-of_header fault.TheVariants.BadHeader line old new few h = (h.0, inl (few, h.1))
-of_header (fault.TheVariants.NoMemory error) line old new few h = h
 
 -- ---- a line while headers are read
 -- the next header
@@ -108,7 +94,10 @@ heading_refused (Refused BadHeader) line before after old new q n (kept, wanted,
   ),
   same,
 )
-heading_refused NoMemory line before after old new q n h short few same = (inl h.1, same)
+heading_refused NoMemory line before after old new q n (kept, wanted, inl first) short few same =
+    (inl (record { in_limit = few; not_passed = wanted; heading = omega (arith, first) }, first), same)
+heading_refused NoMemory line before after old new q n (kept, wanted, inr h) short few same =
+    (inr (inl (record { in_limit = few; not_passed = wanted; running = omega (arith, h.0); none_yet = refl; short = short; named = (Role, h.1.0, h.1.1) }, h.1)), same)
 
 -- ---- a line in the world
 -- the progress of a replay that has reached this world, by its next line and the first optional header that may still come
@@ -167,12 +156,12 @@ running_refused (Refused BadHeader) line before after old new q n extra steps h 
 running_refused (Refused PastLimit) line before after old new q n extra steps h same few none =
     (inr (record { in_limit = few; not_passed = h.1; running = omega arith; no_extra = none }, omega (arith, same, h.0)), h.2)
 running_refused NoMemory line before after old new q n extra steps h same few none = (
-  inr (
+  inr (inr (
     record { in_limit = few; not_passed = λ passed. no_event line h.1 passed h.2; running = omega arith; no_extra = none },
     omega (arith, same, h.0),
     h.1,
     h.2,
-  ),
+  )),
   h.3,
 )
 

@@ -3,7 +3,7 @@ use Rattle.std.proofs.Common.{◌≡◌, ℕ, ◌<◌, ◌≤◌, List, [], ◌�
 use Rattle.std.proofs.lemmas.Option.{slice_get-get_or}
 use Rattle.ak_schedule.specs.declared.event.Event.{Event}
 use Rattle.ak_schedule.specs.declared.draft.Header as header
-use Rattle.ak_schedule.specs.Draft.{Drafted, ReadsExtra}
+use Rattle.ak_schedule.specs.Draft.{ReadsExtra}
 use Rattle.ak_schedule.specs.Line.{lines, words, most_bytes, IsPassedOver}
 use Rattle.ak_settings.specs.Settings.{SettingsModel}
 use Rattle.ak_schedule.specs.Schedule.{headers, NamesExtra, SetsHeader, SpellsEvent}
@@ -14,7 +14,7 @@ use Rattle.ak_driver.specs.declared.replay.Code.{Code}
 use Rattle.ak_driver.specs.declared.replay.Code.TheVariants.{Malformed, BadHeader, PastLimit, Invalid}
 use Rattle.ak_world.proofs.MarginRuns.{some_margin}
 use Rattle.ak_world.proofs.SomeDouble.{some_double}
-use Rattle.ak_driver.specs.ReplayText.{Progress, Judgement, Passes, Sets, SetsExtra, Steps, Ending, Finished, Stopped, Judged, IsRefused, WantsHeader, WantsExtra, WantsEvent, HasRoom, SetsNext, SetsLater, Replays, IsReplay, turn, at_start, ending_status, most_lines, most_events, header_count}
+use Rattle.ak_driver.specs.ReplayText.{Progress, Judgement, Passes, Sets, SetsExtra, Steps, Ending, Finished, Stopped, Judged, IsRefused, WantsHeader, WantsExtra, WantsEvent, HasRoom, SetsNext, Replays, IsReplay, turn, at_start, ending_status, most_lines, most_events, header_count}
 
 -- ---- each line is accepted or refused
 abbrev pub Found : Progress → List ℕ → Type 0

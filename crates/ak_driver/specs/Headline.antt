@@ -1,5 +1,5 @@
 -- The headline: under a static quorum, where fewer addresses are listed than twice its size and the margin is kept, no entity is
--- ever active on two nodes at once in a replayed schedule.
+-- ever active on two nodes at once in a replayed schedule. It is enough that fewer addresses have the role.
 use Rattle.std.specs.Prelude.{◌≡◌, ◌≢◌, ℕ, List, [], ◌∷◌, ◌++◌, Option, None, Some, codes}
 use Rattle.std.specs.Io.KnownBytes.{Appends}
 use Rattle.ak_outside.specs.declared.status.Status.{Status}
@@ -27,8 +27,8 @@ pub record AreApart (margin : Margin) (double : Option Doubled) (answer : Status
   pub broken : (d : Doubled) → double ≡ Some d → IsBrokenBy margin d.step
 
 -- What the end of a replay of these bytes says of entities, where it comes to its end under a static quorum of more than half of the
--- listed addresses. (That a double is an entity which is active on two nodes at once, and that the margin and the double of the end
--- are those of the accepted events, say their definitions.)
+-- addresses with the role. (That a double is an entity which is active on two nodes at once, and that the margin and the double of
+-- the end are those of the accepted events, say their definitions.)
 abbrev pub KeepsEntitiesApart : List ℕ → Status → Option (List ℕ) → Option (List ℕ) → Type 0
 KeepsEntitiesApart bytes answer old new =
     (steps : List (List ℕ)) (end : Progress) (margin : Margin) (double : Option Doubled) (quorum : ℕ) → ReplaysAs bytes steps (Finished end margin double) → IsOverHalf end.settings quorum

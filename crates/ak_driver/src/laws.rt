@@ -1,7 +1,10 @@
-ghost use Rattle.std.specs.Prelude.{◌≡◌, ℕ, ◌⊎◌, ◌++◌, List, Option};
+ghost use Rattle.std.specs.Prelude.{◌≡◌, ℕ, ◌*◌, ◌<◌, ◌⊎◌, ◌++◌, List, Option, length};
+ghost use Rattle.ak_settings.specs.declared.settings.Strategy.TheVariants.{StaticQuorum};
+ghost use Rattle.ak_settings.specs.Settings.{IsRole};
 ghost use Rattle.ak_driver.specs.ReplayText.{IsReplay, IsFirstSteps, IsTextOfEnded, ReplaysAs, Replays, Accepts, Progress, Ending, Finished};
 ghost use Rattle.ak_world.specs.declared.margin.Margin.{Margin};
 ghost use Rattle.ak_world.specs.Double.{Doubled};
+ghost use Rattle.ak_world.specs.SettledLine.{IsOverHalf};
 ghost use Rattle.ak_world.specs.World.{run};
 ghost use Rattle.ak_driver.specs.Worked.{empty_schedule, empty_text, founding_schedule, founding_text};
 
@@ -16,6 +19,14 @@ pub fn replays_are_determined()
 /// The world that a replay has reached after its last line is the run of the settings over the events that it accepted.
 pub fn replays_reach_runs()
     ensures { (bytes : List ℕ) (steps : List (List ℕ)) (end : Progress) (margin : Margin) (double : Option Doubled) → ReplaysAs bytes steps (Finished end margin double) → end.world ≡ run end.settings end.events }
+{}
+
+/// The headline asks that fewer addresses have the role than twice the quorum, and is so kept where fewer are listed: at the end of
+/// each replay those that have the role are different ones, and listed.
+pub fn the_headlines_premise_is_weaker()
+    ensures role { (bytes : List ℕ) (steps : List (List ℕ)) (end : Progress) (margin : Margin) (double : Option Doubled) → ReplaysAs bytes steps (Finished end margin double) → IsRole end.settings.listed end.settings.role }
+    ensures listed { (bytes : List ℕ) (steps : List (List ℕ)) (end : Progress) (margin : Margin) (double : Option Doubled) (quorum : ℕ) → ReplaysAs bytes steps (Finished end margin double)
+        → end.settings.strategy ≡ StaticQuorum quorum → length end.settings.listed < 2 * quorum → IsOverHalf end.settings quorum }
 {}
 
 /// What a replay has printed when its source fails is how the replay of the whole schedule begins, whatever bytes were still to come:

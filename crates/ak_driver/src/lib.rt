@@ -27,7 +27,8 @@ use ak_outside::{Arguments, Clock, Folder, Link, Sink, Source, written};
 use ak_sweeps::run_sweep;
 use ak_turns::{run_ctl, run_node};
 pub use laws::{
-    failed_reads_print_first_steps, replays_are_determined, replays_reach_runs, worked_schedules,
+    failed_reads_print_first_steps, replays_are_determined, replays_reach_runs,
+    the_headlines_premise_is_weaker, worked_schedules,
 };
 use replay::replay_with_notes;
 pub use replay::run_replay;
@@ -110,7 +111,8 @@ fn refuse<W: Sink>(output: &mut W) -> Status
 ///
 /// Under a static quorum, with fewer listed addresses than twice its size and the margin kept, no entity is ever active on two
 /// nodes at once in a replayed schedule: a replay whose run kept the margin says `doubles none` after `margin kept`, and does not
-/// answer `Double`. Of a node on a network nothing is said of members or entities, since a network may give anything.
+/// answer `Double`. It is enough that fewer addresses have the role than twice its size. Of a node on a network nothing is said of
+/// members or entities, since a network may give anything.
 pub fn run<R: Threads + Sync, A: Arguments, F: Folder, S: Source, W: Sink, L: Link, C: Clock>(
     rt: &R,
     alloc: Global,

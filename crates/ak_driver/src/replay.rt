@@ -312,7 +312,7 @@ fn read_header(alloc: Global, draft: &mut Draft, line: &[u8]) -> Result<bool, Li
     ensures { HeaderLineAnswers result line.now draft.old draft.new }
 {
     if draft.headers_read() == MOST_HEADERS {
-        return draft.extra(line);
+        return draft.extra(alloc, line);
     }
     draft.header(alloc, line)?;
     Ok(true)
@@ -469,7 +469,7 @@ fn next_line<S: Source, W: Sink>(
 /// Where neither the source nor the sink fails, the replay is complete: a schedule whose lines are all accepted gives `Done` or
 /// `Double` and its whole text, and one with a refused line gives `Schedule` and its whole text, unless memory ends.
 ///
-/// Where the strategy is a static quorum of more than half of the listed addresses and the margin of the run was kept, no entity
+/// Where the strategy is a static quorum of more than half of the addresses with the role and the margin of the run was kept, no entity
 /// was active on two nodes at once: the text says `margin kept` and `doubles none`, and the status is not `Double`. Where an
 /// entity was, the margin was broken at the step at which it started the second time, or earlier.
 pub fn run_replay<S: Source, W: Sink>(alloc: Global, input: &mut S, output: &mut W) -> Status

@@ -9,13 +9,12 @@ use crate::end::End;
 use crate::explain::explain;
 use crate::process::Process;
 use crate::turns::take_turns;
-use ak_address::{Address, Text, print_number, print_wide_number};
+use ak_address::{Address, Text, contains_address, print_number, print_wide_number};
 use ak_config::{Config, ConfigFault, read_config};
 use ak_node::Node;
 use ak_notes::{Notes, warn_of_name, warn_of_quorum};
 use ak_outside::{Bound, Clock, Folder, Link, Loaded, Looked, Sink, Status, written};
 use ak_report::print_bytes;
-use ak_settings::contains_address;
 use std::alloc::{AllocError, Global};
 
 // A configuration may have this many bytes.
