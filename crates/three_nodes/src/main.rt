@@ -1,5 +1,6 @@
-//! Three nodes in one program form a cluster; one of them is lost, and the others remove it. It shows how the core is called: an
-//! event goes in, actions come out, and what is sent is carried as bytes to whom it is for (docs/USING.md).
+//! Three nodes in one program form a cluster, with a fourth that does not count toward its quorum; one of the three is lost, and the
+//! others remove it; when one more is lost, the two that are left give up, since one of them counts alone. It shows how the core is
+//! called: an event goes in, actions come out, and what is sent is carried as bytes to whom it is for (docs/USING.md).
 #![tactic(auto)]
 
 mod words;
@@ -17,12 +18,18 @@ use std::alloc::{AllocError, AllocFailed, Global};
 use std::process::ExitCode;
 use words::{tell_loss, tell_update};
 
-static PROCESSES: [&[u8]; 3] = [b"a:1#1", b"b:1#1", b"c:1#1"];
+static PROCESSES: [&[u8]; 4] = [b"a:1#1", b"b:1#1", b"c:1#1", b"d:1#1"];
 
-// Each running node ticks once a round. Before this round the last node is lost.
+// The addresses of the first so many have the role: a quorum is counted over them. The last process is a member like any other, and
+// does not count toward it.
+const VOTERS: usize = 3;
+
+// Each running node ticks once a round. Before each of these rounds a node is lost.
 const ROUNDS: u32 = 40;
 
 const LOSS: u32 = 10;
+
+const SECOND_LOSS: u32 = 25;
 
 // A node takes at most so many events, and so many packets are carried in a round.
 const MOST_STEPS: u64 = 1_000_000;
@@ -54,11 +61,13 @@ fn listed(alloc: Global) -> Result<Vec<Address>, Fault> {
     Ok(listed)
 }
 
-// A side with two of the three addresses goes on. A removed process counts as stopped after 5 ticks, one that is silent for 3 is
-// unreachable, and a side is decided upon after 4 in which nothing changed.
+// A side with two of the three addresses that have the role goes on. A removed process counts as stopped after 5 ticks, one that is
+// silent for 3 is unreachable, and a side is decided upon after 4 in which nothing changed.
 fn settings(alloc: Global) -> Result<Settings, Fault> {
-    match Settings::of_membership(listed(alloc)?, Strategy::StaticQuorum(2), 5, 3, 4) {
+    match Settings::of_membership(alloc, listed(alloc)?, Strategy::StaticQuorum(2), 5, 3, 4)? {
         Some(mut settings) => {
+            // Every listed address has the role until somebody says another thing.
+            settings.role.truncate(VOTERS);
             // Nothing is put into a shard here, so there are few.
             settings.shards = 10;
             Ok(settings)
@@ -244,12 +253,13 @@ fn round<W: Sink>(
     deliver_all(alloc, nodes, post, output)
 }
 
-// The last node is gone: nothing reaches it any more, and it sends nothing.
+// The second node is gone: nothing reaches it any more, and it sends nothing.
 fn lose<W: Sink>(alloc: Global, nodes: &mut Vec<Node>, output: &mut W) -> Result<(), Fault> {
-    match nodes.pop() {
-        Some(lost) => tell_loss(alloc, lost.me(), output),
-        None => Ok(()),
+    if nodes.len() < 2 {
+        return Ok(());
     }
+    let lost = nodes.remove(1);
+    tell_loss(alloc, lost.me(), output)
 }
 
 fn play<W: Sink>(
@@ -260,7 +270,7 @@ fn play<W: Sink>(
 ) -> Result<(), Fault> {
     found_and_join(alloc, nodes, post, output)?;
     'rounds: for word in 0..ROUNDS {
-        if word == LOSS {
+        if word == LOSS || word == SECOND_LOSS {
             lose(alloc, nodes, output)?;
         }
         round(alloc, nodes, word, post, output)?;
