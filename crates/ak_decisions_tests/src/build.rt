@@ -1,5 +1,5 @@
 // What the tests are made of, from letters and numbers.
-use ak_address::{Unique, Uniques, parse_unique};
+use ak_address::{Address, Unique, Uniques, parse_address, parse_unique};
 use ak_clock::Version;
 use ak_member::{Members, Standing, Status};
 use ak_promise::Ballot;
@@ -43,6 +43,15 @@ pub(crate) fn is_of(set: &Uniques, letters: &[u8]) -> bool {
     set.len() == letters.len()
 }
 
+// Port 1 of the hosts of these letters.
+pub(crate) fn addresses_of(alloc: Global, letters: &[u8]) -> Result<Vec<Address>, Fail> {
+    let mut addresses = Vec::new(alloc);
+    'letters: for letter in letters {
+        addresses.push(parse_address(alloc, &[*letter, b':', b'1'])?)?;
+    }
+    Ok(addresses)
+}
+
 fn stand(
     alloc: Global,
     members: &mut Members,
@@ -55,7 +64,8 @@ fn stand(
     }
 }
 
-fn stand_letter(
+// The process of this letter stands so.
+pub(crate) fn stand_letter(
     alloc: Global,
     members: &mut Members,
     letter: u8,

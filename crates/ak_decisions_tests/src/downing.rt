@@ -1,6 +1,8 @@
-use ak_address::{Unique, Uniques, parse_unique};
+use crate::build::addresses_of;
+use crate::decision::downed;
+use ak_address::{Address, Unique, Uniques, parse_unique};
 use ak_downing::{Decision, decide, downs, reachable_addresses};
-use ak_member::{Effect, Members, Status};
+use ak_member::{Members, Status};
 use ak_reach::Rows;
 use ak_settings::Strategy;
 use std::alloc::Global;
@@ -8,6 +10,8 @@ use std::test::Fail;
 
 // Sides are written in bits: the last one is a's.
 const NAMES: [&str; 6] = ["a:1#1", "b:1#1", "c:1#1", "d:1#1", "e:1#1", "f:1#1"];
+
+const HOSTS: &[u8] = b"abcdef";
 
 fn members_of(alloc: Global, texts: &[&str]) -> Result<Members, Fail> {
     let mut members = Members::empty(alloc);
@@ -51,6 +55,7 @@ fn rows_of(alloc: Global, observer: &Unique, other: u32) -> Result<Rows, Fail> {
 fn decided(
     alloc: Global,
     strategy: &Strategy,
+    role: &[Address],
     members: &Members,
     side: u32,
     other: u32,
@@ -58,19 +63,9 @@ fn decided(
     let me = parse_unique(alloc, first_of(side).as_bytes())?;
     let rows = rows_of(alloc, &me, other)?;
     if members.uniques() < 100 {
-        return Ok(Some(decide(strategy, members, &rows, &me)));
+        return Ok(Some(decide(strategy, role, members, &rows, &me)));
     }
     Ok(None)
-}
-
-// Whose status the effect raises to Down, by the first letter; 0 for another effect, and for none.
-fn downed(effect: Option<&Effect>) -> u8 {
-    match effect {
-        Some(Effect::Rise(who, Status::Down, 0)) => {
-            who.address.host.bytes().first().copied().unwrap_or(0)
-        }
-        _ => 0,
-    }
 }
 
 // The first three that the decision downs at that node.
@@ -88,6 +83,7 @@ fn first_downed(alloc: Global, decision: Decision, side: u32, other: u32) -> Res
 
 #[test]
 fn quorum_decisions(rt: HostRuntime) -> Result<(), Fail> {
+    let role = addresses_of(rt.alloc(), HOSTS)?;
     let members = members_of(rt.alloc(), &NAMES[..5])?;
     for (quorum, side, other, wanted) in [
         (3, 0b00111, 0b11000, Decision::DownUnreachable),
@@ -97,7 +93,7 @@ fn quorum_decisions(rt: HostRuntime) -> Result<(), Fail> {
         (4294967295, 0b00111, 0b11000, Decision::DownReachable),
     ] {
         let strategy = Strategy::StaticQuorum(quorum);
-        let decision = decided(rt.alloc(), &strategy, &members, side, other)?;
+        let decision = decided(rt.alloc(), &strategy, &role, &members, side, other)?;
         assert_eq!(rt; decision, Some(wanted), "{quorum}");
     }
     Ok(())
@@ -105,13 +101,15 @@ fn quorum_decisions(rt: HostRuntime) -> Result<(), Fail> {
 
 #[test]
 fn majority_decisions(rt: HostRuntime) -> Result<(), Fail> {
+    let role = addresses_of(rt.alloc(), HOSTS)?;
     let members = members_of(rt.alloc(), &NAMES[..4])?;
     for (side, other, wanted) in [
         (0b0011, 0b1100, Decision::DownUnreachable),
         (0b1100, 0b0011, Decision::DownReachable),
         (0b1110, 0b0001, Decision::DownUnreachable),
     ] {
-        let decision = decided(rt.alloc(), &Strategy::KeepMajority, &members, side, other)?;
+        let strategy = Strategy::KeepMajority;
+        let decision = decided(rt.alloc(), &strategy, &role, &members, side, other)?;
         assert_eq!(rt; decision, Some(wanted));
     }
     Ok(())
@@ -128,13 +126,36 @@ fn a_decision_downs_its_members(rt: HostRuntime) -> Result<(), Fail> {
     Ok(())
 }
 
+fn reached(
+    alloc: Global,
+    role: &[u8],
+    members: &Members,
+    rows: &Rows,
+    me: &Unique,
+) -> Result<u32, Fail> {
+    let role = addresses_of(alloc, role)?;
+    if members.uniques() < 100 {
+        return Ok(reachable_addresses(&role, members, rows, me));
+    }
+    Err("too many members")?
+}
+
+// Of the two processes at the address of a one is reachable, b is, and c is the node.
 #[test]
 fn an_address_counts_once(rt: HostRuntime) -> Result<(), Fail> {
-    let members = members_of(rt.alloc(), &["a:1#1", "a:1#2", "b:1#1", "c:1#1"])?;
+    let members = members_of(rt.alloc(), &["a:1#1", "a:1#2", "b:1#1", "c:1#1", "d:1#1"])?;
     let me = parse_unique(rt.alloc(), b"c:1#1")?;
-    let rows = rows_of(rt.alloc(), &me, 0b101)?;
-    assert!(rt; members.uniques() < 100);
-    assert_eq!(rt; reachable_addresses(&members, &rows, &me), 3);
+    let rows = rows_of(rt.alloc(), &me, 0b1101)?;
+    for (role, wanted) in [
+        (HOSTS, 3),
+        (b"ca", 2),
+        (b"a", 1),
+        (b"c", 1),
+        (b"d", 0),
+        (b"z", 0),
+    ] {
+        assert_eq!(rt; reached(rt.alloc(), role, &members, &rows, &me)?, wanted);
+    }
     Ok(())
 }
 
@@ -142,12 +163,13 @@ fn an_address_counts_once(rt: HostRuntime) -> Result<(), Fail> {
 fn both_go_on(
     alloc: Global,
     strategy: &Strategy,
+    role: &[Address],
     members: &Members,
     side: u32,
     other: u32,
 ) -> Result<bool, Fail> {
-    let one = decided(alloc, strategy, members, side, other)?;
-    let another = decided(alloc, strategy, members, other, side)?;
+    let one = decided(alloc, strategy, role, members, side, other)?;
+    let another = decided(alloc, strategy, role, members, other, side)?;
     Ok(one == Some(Decision::DownUnreachable) && another == one)
 }
 
@@ -155,11 +177,38 @@ fn both_go_on(
 fn some_split_goes_on_twice(
     alloc: Global,
     strategy: &Strategy,
+    role: &[Address],
     members: &Members,
     all: u32,
 ) -> Result<bool, Fail> {
     for side in 1..all {
-        if both_go_on(alloc, strategy, members, side, all - side)? {
+        if both_go_on(alloc, strategy, role, members, side, all - side)? {
+            return Ok(true);
+        }
+    }
+    Ok(false)
+}
+
+// None of these lets both sides of a split go on.
+static SAFE: [Strategy; 6] = [
+    Strategy::StaticQuorum(3),
+    Strategy::StaticQuorum(4),
+    Strategy::KeepMajority,
+    Strategy::KeepOldest(true),
+    Strategy::KeepOldest(false),
+    Strategy::DownAll,
+];
+
+// Whether some strategy lets both sides of a split of these members go on where these hosts have the role.
+fn some_strategy_goes_on_twice(
+    alloc: Global,
+    role: &[u8],
+    members: &Members,
+    all: u32,
+) -> Result<bool, Fail> {
+    let role = addresses_of(alloc, role)?;
+    for strategy in &SAFE {
+        if some_split_goes_on_twice(alloc, strategy, &role, members, all)? {
             return Ok(true);
         }
     }
@@ -170,16 +219,9 @@ fn some_split_goes_on_twice(
 fn no_split_goes_on_twice(rt: HostRuntime) -> Result<(), Fail> {
     let five = members_of(rt.alloc(), &NAMES[..5])?;
     let six = members_of(rt.alloc(), &NAMES)?;
-    for strategy in [
-        Strategy::StaticQuorum(3),
-        Strategy::StaticQuorum(4),
-        Strategy::KeepMajority,
-        Strategy::DownAll,
-    ] {
-        let twice = some_split_goes_on_twice(rt.alloc(), &strategy, &five, 0b11111)?;
-        assert!(rt; !twice);
-        let twice = some_split_goes_on_twice(rt.alloc(), &strategy, &six, 0b111111)?;
-        assert!(rt; !twice);
+    for role in [HOSTS, b"bcef", b"da", b"z"] {
+        assert!(rt; !some_strategy_goes_on_twice(rt.alloc(), role, &five, 0b11111)?);
+        assert!(rt; !some_strategy_goes_on_twice(rt.alloc(), role, &six, 0b111111)?);
     }
     Ok(())
 }

@@ -1,4 +1,4 @@
-use ak_address::parse_address;
+use ak_address::{Address, parse_address};
 use ak_schedule::{Draft, Event, LineFault, print_event, read_line};
 use ak_settings::{Settings, Strategy};
 use std::alloc::{AllocError, Global};
@@ -106,7 +106,7 @@ fn settings_with(alloc: Global, index: usize, other: &str) -> Result<Settings, u
 }
 
 // The index of a header line, and another line there.
-static ACCEPTED: [(usize, &str); 20] = [
+static ACCEPTED: [(usize, &str); 22] = [
     (0, "listed a:1"),
     (
         0,
@@ -115,6 +115,8 @@ static ACCEPTED: [(usize, &str); 20] = [
     (1, "strategy static-quorum 1"),
     (1, "strategy static-quorum 32"),
     (1, "strategy keep-majority"),
+    (1, "strategy keep-oldest on"),
+    (1, " strategy  keep-oldest  off "),
     (1, "  strategy   down-all "),
     (2, "margin 1"),
     (2, "margin 1000000"),
@@ -132,7 +134,7 @@ static ACCEPTED: [(usize, &str); 20] = [
     (8, "limit 1000"),
 ];
 
-static REFUSED: [(usize, &str); 28] = [
+static REFUSED: [(usize, &str); 36] = [
     (0, "listed"),
     (0, "listed a:1 b:1 a:01"),
     (0, "listed a:1 b"),
@@ -145,7 +147,15 @@ static REFUSED: [(usize, &str); 28] = [
     (1, "strategy static-quorum 33"),
     (1, "strategy static-quorum"),
     (1, "strategy keep-majority 1"),
+    (1, "strategy keep-majority on"),
+    (1, "strategy down-all off"),
+    (1, "strategy static-quorum on"),
     (1, "strategy keep-oldest"),
+    (1, "strategy keep-oldest 1"),
+    (1, "strategy keep-oldest true"),
+    (1, "strategy keep-oldest On"),
+    (1, "strategy keep-oldest on off"),
+    (1, "strategy keep-oldests on"),
     (1, "margin 6"),
     (2, "margin 0"),
     (2, "margin 1000001"),
@@ -177,6 +187,29 @@ fn headers_are_read_in_their_order_and_ranges(rt: HostRuntime) -> Result<(), Fai
     Ok(())
 }
 
+// The strategy of a header line, if it is one.
+fn strategy_of(alloc: Global, line: &str) -> Option<Strategy> {
+    match settings_with(alloc, 1, line) {
+        Ok(settings) => Some(settings.strategy),
+        Err(_) => None,
+    }
+}
+
+#[test]
+fn strategies_are_those_of_their_lines(rt: HostRuntime) -> Result<(), Fail> {
+    for (line, wanted) in [
+        ("strategy static-quorum 1", Strategy::StaticQuorum(1)),
+        ("strategy static-quorum 32", Strategy::StaticQuorum(32)),
+        ("strategy keep-majority", Strategy::KeepMajority),
+        ("strategy keep-oldest on", Strategy::KeepOldest(true)),
+        ("strategy keep-oldest off", Strategy::KeepOldest(false)),
+        ("strategy down-all", Strategy::DownAll),
+    ] {
+        assert!(rt; strategy_of(rt.alloc(), line) == Some(wanted), "{line}");
+    }
+    Ok(())
+}
+
 // How many addresses are listed, the quorum, and then the settings in their order.
 fn numbers(settings: &Settings) -> [usize; 9] {
     [
@@ -192,8 +225,10 @@ fn numbers(settings: &Settings) -> [usize; 9] {
     ]
 }
 
-fn lists(alloc: Global, settings: &Settings, address: &str) -> Result<bool, Fail> {
-    Ok(settings.is_listed(&parse_address(alloc, address.as_bytes())?))
+// Whether the address is listed, and whether it has the role.
+fn knows(alloc: Global, settings: &Settings, address: &str) -> Result<(bool, bool), Fail> {
+    let at = parse_address(alloc, address.as_bytes())?;
+    Ok((settings.is_listed(&at), settings.has_role(&at)))
 }
 
 // A copy of the settings that all nine usual lines make.
@@ -209,13 +244,32 @@ fn settings_are_those_of_the_lines(rt: HostRuntime) -> Result<(), Fail> {
     let settings = usual(rt.alloc())?;
     assert_eq!(rt; numbers(&settings), [2, 2, 6, 5, 4, 10, 7, 3, 2]);
     assert_eq!(rt; settings.strategy, Strategy::StaticQuorum(2));
-    assert!(rt; lists(rt.alloc(), &settings, "n2:1")?);
-    assert!(rt; !lists(rt.alloc(), &settings, "n2:2")?);
+    assert!(rt; knows(rt.alloc(), &settings, "n2:1")? == (true, true));
+    assert!(rt; knows(rt.alloc(), &settings, "n2:2")? == (false, false));
     Ok(())
 }
 
-// Optional headers after the nine, what came of the last one, and how long a member waits then.
-type Later = (&'static [&'static str], Read, u32);
+// What the settings of the nine lines and of a role of the second address know of it and of the first.
+fn known_with_role(alloc: Global) -> Result<[(bool, bool); 2], Fail> {
+    let mut draft = draft_with(alloc, HEADER_LINES[0])?;
+    read_later(alloc, &mut draft, "role n2:1");
+    match draft.finish() {
+        Ok(settings) => Ok([
+            knows(alloc, &settings, "n1:1")?,
+            knows(alloc, &settings, "n2:1")?,
+        ]),
+        Err(_) => Err("refused")?,
+    }
+}
+
+#[test]
+fn an_address_without_the_role_is_listed(rt: HostRuntime) -> Result<(), Fail> {
+    assert!(rt; known_with_role(rt.alloc())? == [(true, false), (true, true)]);
+    Ok(())
+}
+
+// Optional headers after the nine, what came of the last one, how long a member waits then, and which addresses have the role.
+type Later = (&'static [&'static str], Read, u32, &'static [&'static str]);
 
 // What comes of a line after the ninth header.
 #[derive(Clone, Copy, PartialEq, Eq)]
@@ -228,35 +282,97 @@ enum Read {
 }
 
 static LATER: [Later; 11] = [
-    (&["weakly 3"], Read::Header, 3),
-    (&["weakly 0"], Read::Header, 0),
-    (&["  weakly  0001000000 "], Read::Header, 1000000),
-    (&["weakly 1000001"], Read::Refused, 0),
-    (&["weakly -1"], Read::Refused, 0),
-    (&["weakly"], Read::Refused, 0),
-    (&["weakly 3 3"], Read::Refused, 0),
-    (&["weakly 3", "weakly 4"], Read::Refused, 3),
-    (&["weakly 3", "weaklyup 4"], Read::None, 3),
-    (&["limit 2"], Read::None, 0),
-    (&["start n1:1#1"], Read::None, 0),
+    (&["weakly 3"], Read::Header, 3, &["n1:1", "n2:1"]),
+    (&["weakly 0"], Read::Header, 0, &["n1:1", "n2:1"]),
+    (
+        &["  weakly  0001000000 "],
+        Read::Header,
+        1000000,
+        &["n1:1", "n2:1"],
+    ),
+    (&["weakly 1000001"], Read::Refused, 0, &["n1:1", "n2:1"]),
+    (&["weakly -1"], Read::Refused, 0, &["n1:1", "n2:1"]),
+    (&["weakly"], Read::Refused, 0, &["n1:1", "n2:1"]),
+    (&["weakly 3 3"], Read::Refused, 0, &["n1:1", "n2:1"]),
+    (
+        &["weakly 3", "weakly 4"],
+        Read::Refused,
+        3,
+        &["n1:1", "n2:1"],
+    ),
+    (
+        &["weakly 3", "weaklyup 4"],
+        Read::None,
+        3,
+        &["n1:1", "n2:1"],
+    ),
+    (&["limit 2"], Read::None, 0, &["n1:1", "n2:1"]),
+    (&["start n1:1#1"], Read::None, 0, &["n1:1", "n2:1"]),
+];
+
+static ROLES: [Later; 25] = [
+    (&["role n1:1"], Read::Header, 0, &["n1:1"]),
+    (&["role n1:1 n2:1"], Read::Header, 0, &["n1:1", "n2:1"]),
+    (&["role n2:1 n1:1"], Read::Header, 0, &["n2:1", "n1:1"]),
+    (&["  role   n2:0001 "], Read::Header, 0, &["n2:1"]),
+    (&["weakly 3", "role n2:1"], Read::Header, 3, &["n2:1"]),
+    (&["role"], Read::Refused, 0, &["n1:1", "n2:1"]),
+    (&["role n1:1 n1:1"], Read::Refused, 0, &["n1:1", "n2:1"]),
+    (
+        &["role n1:1 n2:1 n1:01"],
+        Read::Refused,
+        0,
+        &["n1:1", "n2:1"],
+    ),
+    (&["role z:1"], Read::Refused, 0, &["n1:1", "n2:1"]),
+    (&["role n1:1 n3:1"], Read::Refused, 0, &["n1:1", "n2:1"]),
+    (&["role n1:2"], Read::Refused, 0, &["n1:1", "n2:1"]),
+    (&["role n1"], Read::Refused, 0, &["n1:1", "n2:1"]),
+    (&["role n1:1#1"], Read::Refused, 0, &["n1:1", "n2:1"]),
+    (&["role 1"], Read::Refused, 0, &["n1:1", "n2:1"]),
+    (&["role n1:1,n2:1"], Read::Refused, 0, &["n1:1", "n2:1"]),
+    (&["role\tn1:1"], Read::None, 0, &["n1:1", "n2:1"]),
+    (&["roles n1:1"], Read::None, 0, &["n1:1", "n2:1"]),
+    (&["Role n1:1"], Read::None, 0, &["n1:1", "n2:1"]),
+    (&["listed n1:1"], Read::None, 0, &["n1:1", "n2:1"]),
+    // Twice, and out of order.
+    (&["role n1:1", "role n1:1"], Read::Refused, 0, &["n1:1"]),
+    (&["role n1:1", "role n2:1"], Read::Refused, 0, &["n1:1"]),
+    (&["role n1:1", "weakly 3"], Read::Refused, 0, &["n1:1"]),
+    (
+        &["weakly 3", "role n1:1", "weakly 3"],
+        Read::Refused,
+        3,
+        &["n1:1"],
+    ),
+    // What is refused leaves nothing behind.
+    (&["role n2:1 z:1", "role n1:1"], Read::Header, 0, &["n1:1"]),
+    (
+        &["role n2:1 z:1", "weakly 3"],
+        Read::Header,
+        3,
+        &["n1:1", "n2:1"],
+    ),
 ];
 
 // Nothing is asked of a draft without its nine headers, or of a line that is too long.
-fn read_later(draft: &mut Draft, line: &str) -> Read {
+fn read_later(alloc: Global, draft: &mut Draft, line: &str) -> Read {
     let line = line.as_bytes();
     if draft.headers_read() != 9 || line.len() > 4096 {
         return Read::None;
     }
-    match draft.extra(line) {
+    match draft.extra(alloc, line) {
         Ok(true) => Read::Header,
         Ok(false) => Read::None,
         Err(_) => Read::Refused,
     }
 }
 
-fn whole_draft(alloc: Global) -> Result<Draft, LineFault> {
+// A draft of nine headers, of which the first is this one.
+fn draft_with(alloc: Global, listed: &str) -> Result<Draft, LineFault> {
     let mut draft = Draft::new(alloc);
-    'headers: for line in &HEADER_LINES {
+    draft.header(alloc, listed.as_bytes())?;
+    'headers: for line in &HEADER_LINES[1..] {
         if draft.headers_read() < 9 {
             draft.header(alloc, line.as_bytes())?;
         }
@@ -264,19 +380,43 @@ fn whole_draft(alloc: Global) -> Result<Draft, LineFault> {
     Ok(draft)
 }
 
-fn last_read(draft: &mut Draft, lines: &[&str]) -> Read {
+fn last_read(alloc: Global, draft: &mut Draft, lines: &[&str]) -> Read {
     let mut last = Read::None;
     'lines: for line in lines {
-        last = read_later(draft, line);
+        last = read_later(alloc, draft, line);
     }
     last
 }
 
+fn is_address(alloc: Global, address: Option<&Address>, name: &str) -> Result<bool, Fail> {
+    let wanted = parse_address(alloc, name.as_bytes())?;
+    match address {
+        Some(address) => Ok(address.compare(&wanted).is_eq()),
+        None => Ok(false),
+    }
+}
+
+// Whether these are the addresses of a role, in this order.
+fn is_role(alloc: Global, role: &[Address], names: &[&str]) -> Result<bool, Fail> {
+    for (index, name) in names.iter().enumerate() {
+        if !is_address(alloc, role.get(index), name)? {
+            return Ok(false);
+        }
+    }
+    Ok(role.len() == names.len())
+}
+
+// Whether a copy of the settings has that waiting time and that role.
+fn are_so(alloc: Global, settings: &Settings, later: &Later) -> Result<bool, Fail> {
+    let copy = settings.copy(alloc)?;
+    Ok(copy.weakly == later.2 && is_role(alloc, &copy.role, later.3)?)
+}
+
 fn goes_on(alloc: Global, later: &Later) -> Result<bool, Fail> {
-    let mut draft = whole_draft(alloc)?;
-    let last = last_read(&mut draft, later.0);
+    let mut draft = draft_with(alloc, HEADER_LINES[0])?;
+    let last = last_read(alloc, &mut draft, later.0);
     match draft.finish() {
-        Ok(settings) => Ok(last == later.1 && settings.weakly == later.2),
+        Ok(settings) => Ok(last == later.1 && are_so(alloc, &settings, later)?),
         Err(_) => Ok(false),
     }
 }
@@ -285,6 +425,46 @@ fn goes_on(alloc: Global, later: &Later) -> Result<bool, Fail> {
 fn optional_headers_come_after_the_ninth(rt: HostRuntime) -> Result<(), Fail> {
     for (index, later) in LATER.iter().enumerate() {
         assert!(rt; goes_on(rt.alloc(), later)?, "{index}");
+    }
+    for (index, later) in ROLES.iter().enumerate() {
+        assert!(rt; goes_on(rt.alloc(), later)?, "{index}");
+    }
+    Ok(())
+}
+
+const LISTED: &str =
+    "listed a:1 a:2 a:3 a:4 a:5 a:6 a:7 a:8 b:1 b:2 b:3 b:4 b:5 b:6 b:7 b:8 c:1 c:2 c:3 c:4 c:5 c:6 c:7 c:8 d:1 d:2 d:3 d:4 d:5 d:6 d:7 d:8";
+
+// A role, and how many of as many addresses as there may be have it; none where it is refused.
+static SIZES: [(&str, Option<usize>); 4] = [
+    ("role c:8", Some(1)),
+    (
+        "role a:1 a:2 a:3 a:4 a:5 a:6 a:7 a:8 b:1 b:2 b:3 b:4 b:5 b:6 b:7 b:8 c:1 c:2 c:3 c:4 c:5 c:6 c:7 c:8 d:1 d:2 d:3 d:4 d:5 d:6 d:7 d:8",
+        Some(32),
+    ),
+    (
+        "role a:1 a:2 a:3 a:4 a:5 a:6 a:7 a:8 b:1 b:2 b:3 b:4 b:5 b:6 b:7 b:8 c:1 c:2 c:3 c:4 c:5 c:6 c:7 c:8 d:1 d:2 d:3 d:4 d:5 d:6 d:7 d:8 a:1",
+        None,
+    ),
+    (
+        "role a:1 a:2 a:3 a:4 a:5 a:6 a:7 a:8 b:1 b:2 b:3 b:4 b:5 b:6 b:7 b:8 c:1 c:2 c:3 c:4 c:5 c:6 c:7 c:8 d:1 d:2 d:3 d:4 d:5 d:6 d:7 d:8 e:1",
+        None,
+    ),
+];
+
+fn size_of(alloc: Global, role: &str) -> Result<Option<usize>, Fail> {
+    let mut draft = draft_with(alloc, LISTED)?;
+    let read = read_later(alloc, &mut draft, role);
+    match draft.finish() {
+        Ok(settings) => Ok((read == Read::Header).then_some(settings.role.len())),
+        Err(_) => Ok(None),
+    }
+}
+
+#[test]
+fn as_many_as_32_addresses_have_the_role(rt: HostRuntime) -> Result<(), Fail> {
+    for (role, wanted) in &SIZES {
+        assert!(rt; size_of(rt.alloc(), role)? == *wanted, "{role}");
     }
     Ok(())
 }

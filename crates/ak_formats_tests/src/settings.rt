@@ -6,21 +6,22 @@ use std::test::Fail;
 
 static LISTED: [&str; 5] = ["n1:1", "n2:1", "n3:1", "n4:1", "n5:1"];
 
-fn is_listed(alloc: Global, settings: &Settings, name: &str) -> Result<bool, Fail> {
+// The address is listed, and has the role.
+fn is_known(alloc: Global, settings: &Settings, name: &str) -> Result<bool, Fail> {
     let address = parse_address(alloc, name.as_bytes())?;
-    Ok(settings.is_listed(&address))
+    Ok(settings.is_listed(&address) && settings.has_role(&address))
 }
 
 fn lists_five(alloc: Global, settings: &Settings) -> Result<bool, Fail> {
     'names: for name in &LISTED {
-        if !is_listed(alloc, settings, name)? {
+        if !is_known(alloc, settings, name)? {
             return Ok(false);
         }
     }
-    Ok(settings.listed.len() == 5)
+    Ok(settings.listed.len() == 5 && settings.role.len() == 5)
 }
 
-fn numbers(settings: &Settings) -> [u32; 7] {
+fn numbers(settings: &Settings) -> [u32; 8] {
     [
         settings.margin,
         settings.deadline,
@@ -29,6 +30,7 @@ fn numbers(settings: &Settings) -> [u32; 7] {
         settings.buffer,
         settings.threshold,
         settings.limit,
+        settings.weakly,
     ]
 }
 
@@ -37,6 +39,6 @@ fn the_settings_are_fixed(rt: HostRuntime) -> Result<(), Fail> {
     let settings = fixed_settings(rt.alloc())?;
     assert!(rt; lists_five(rt.alloc(), &settings)?);
     assert!(rt; settings.strategy == Strategy::StaticQuorum(3));
-    assert!(rt; numbers(&settings) == [6, 3, 3, 10, 4, 1, 1]);
+    assert!(rt; numbers(&settings) == [6, 3, 3, 10, 4, 1, 1, 0]);
     Ok(())
 }

@@ -1,5 +1,5 @@
 // What the tests are made of, from texts.
-use ak_address::{Unique, Uniques, parse_unique};
+use ak_address::{Address, Unique, Uniques, parse_address, parse_unique};
 use ak_member::{Members, Standing};
 use ak_reach::Rows;
 use std::alloc::{AllocError, Global};
@@ -22,6 +22,15 @@ pub(crate) fn set_of(alloc: Global, texts: &[&str]) -> Result<Uniques, Fail> {
         insert(alloc, &mut set, text)?;
     }
     Ok(set)
+}
+
+// The addresses of these texts.
+pub(crate) fn addresses_of(alloc: Global, texts: &[&str]) -> Result<Vec<Address>, Fail> {
+    let mut addresses = Vec::new(alloc);
+    'texts: for text in texts {
+        addresses.push(parse_address(alloc, text.as_bytes())?)?;
+    }
+    Ok(addresses)
 }
 
 fn set_row(alloc: Global, rows: &mut Rows, observer: &Unique, seen: &Seen) -> Result<(), Fail> {

@@ -1,5 +1,5 @@
-use crate::build::members_of;
-use ak_address::{Unique, Uniques, parse_unique};
+use crate::build::{addresses_of, members_of};
+use ak_address::{Address, Unique, Uniques, parse_unique};
 use ak_member::{Effect, Effects, Member, Members, Standing, Status};
 use std::alloc::Global;
 use std::test::Fail;
@@ -168,28 +168,67 @@ fn views_merge_wherever_their_processes_stand(rt: HostRuntime) -> Result<(), Fai
     Ok(())
 }
 
-// Whether b is the oldest, two addresses are counted, and the three members of them stand in this order by age.
+// Whether b is the oldest, and the three members that are Up or Leaving stand in this order by age.
 fn stand_by_age(alloc: Global, members: &Members) -> Result<bool, Fail> {
     if members.uniques() >= 100 {
         return Ok(false);
     }
     let oldest = members.oldest().map(name) == Some((b'b', 1));
-    let counted = members.counted() == 2;
     let indices = members.by_age(alloc)?;
-    Ok(oldest && counted && indices.as_slice() == [1, 2, 0].as_slice())
+    Ok(oldest && indices.as_slice() == [1, 2, 0].as_slice())
 }
 
-#[test]
-fn up_and_leaving_members_have_an_age(rt: HostRuntime) -> Result<(), Fail> {
+// Three members are Up or Leaving, two of them at one address, and the others are not.
+fn some_counted(alloc: Global) -> Result<Members, Fail> {
     let pairs = [
         ("a:1#1", up(3)),
         ("b:1#1", Standing::Member(Status::Leaving, 1)),
         ("b:1#2", up(1)),
         ("c:1#1", JOINING),
         ("d:1#1", down(2)),
+        ("e:1#1", Standing::Buried(false)),
     ];
-    let members = members_of(rt.alloc(), &pairs)?;
+    members_of(alloc, &pairs)
+}
+
+#[test]
+fn up_and_leaving_members_have_an_age(rt: HostRuntime) -> Result<(), Fail> {
+    let members = some_counted(rt.alloc())?;
     assert!(rt; stand_by_age(rt.alloc(), &members)?);
+    Ok(())
+}
+
+// A role, and how many addresses with it are counted.
+static ROLES: [(&[&str], u32); 8] = [
+    (&["a:1", "b:1", "c:1", "d:1", "e:1"], 2),
+    (&["e:1", "b:1", "x:1", "a:1"], 2),
+    (&["a:1", "c:1"], 1),
+    (&["b:1"], 1),
+    (&["c:1", "d:1", "e:1"], 0),
+    (&["x:1"], 0),
+    // Other ports of their hosts.
+    (&["a:2", "b:11"], 0),
+    (&[], 0),
+];
+
+fn counted(members: &Members, role: &[Address]) -> u32 {
+    if members.uniques() >= 100 {
+        return 100;
+    }
+    members.counted(role)
+}
+
+fn count_so(alloc: Global, members: &Members, role: &[&str], wanted: u32) -> Result<bool, Fail> {
+    let role = addresses_of(alloc, role)?;
+    Ok(counted(members, &role) == wanted)
+}
+
+#[test]
+fn addresses_with_the_role_are_counted(rt: HostRuntime) -> Result<(), Fail> {
+    let members = some_counted(rt.alloc())?;
+    for (role, wanted) in &ROLES {
+        assert!(rt; count_so(rt.alloc(), &members, role, *wanted)?, "{role:?}");
+    }
     Ok(())
 }
 

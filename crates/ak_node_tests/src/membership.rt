@@ -12,7 +12,7 @@ fn listed(alloc: Global) -> Result<Vec<Address>, Fail> {
 
 // The membership of a process that has founded its cluster.
 fn founded(alloc: Global, me: Unique) -> Result<Membership, Fail> {
-    let made = Settings::of_membership(listed(alloc)?, Strategy::StaticQuorum(1), 2, 9, 9);
+    let made = Settings::of_membership(alloc, listed(alloc)?, Strategy::StaticQuorum(1), 2, 9, 9)?;
     let settings = made.ok_or("the settings are out of range")?;
     let mut membership = Membership::start(alloc, me, &settings)?;
     let _ = membership.found(alloc)?;

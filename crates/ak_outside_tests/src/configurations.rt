@@ -1,7 +1,7 @@
-use ak_address::Text;
+use ak_address::{Address, Text};
 use ak_config::{Config, ConfigFault, read_config};
 use ak_outside::{Folder, Loaded, MemoryFile, MemoryFolder};
-use ak_settings::Strategy;
+use ak_settings::{Settings, Strategy};
 use std::alloc::{AllocError, Global};
 use std::test::Fail;
 
@@ -9,7 +9,7 @@ use std::test::Fail;
 const NEEDED: &str = "self = \"a:1\"\nuid = 1\nlisted = [\"a:1\"]\nstrategy = \"down-all\"\n";
 
 // A document, and the code and the key of its first fault; no code where it is accepted.
-static WHOLE: [(&str, &str, &str); 27] = [
+static WHOLE: [(&str, &str, &str); 41] = [
     (NEEDED, "", ""),
     ("", "C2", "self"),
     ("self = 1", "C4", "self"),
@@ -72,6 +72,77 @@ static WHOLE: [(&str, &str, &str); 27] = [
         "C8",
         "listed",
     ),
+    (
+        "self = \"a:1\"\nuid = 1\nlisted = [\"a:1\"]\nstrategy = \"keep-oldest\"",
+        "",
+        "",
+    ),
+    (
+        "self = \"a:1\"\nuid = 1\nlisted = [\"a:1\"]\nstrategy = \"keep-oldest\"\ndown-if-alone = 0",
+        "C4",
+        "down-if-alone",
+    ),
+    (
+        "self = \"a:1\"\nuid = 1\nlisted = [\"a:1\"]\nstrategy = \"keep-oldest\"\ndown-if-alone = 0\nquorum = 33",
+        "C5",
+        "quorum",
+    ),
+    (
+        "self = \"a:1\"\nuid = 1\nlisted = [\"a:1\"]\nstrategy = \"keep-oldest\"\ndown-if-alone = 0\nmargin = 0",
+        "C4",
+        "down-if-alone",
+    ),
+    (
+        "self = \"a:1\"\nuid = 1\nlisted = [\"a:1\"]\nstrategy = \"keep-majority\"\ndown-if-alone = 0",
+        "C4",
+        "down-if-alone",
+    ),
+    (
+        "self = \"a:1\"\nuid = 1\nlisted = [\"a:1\"]\nstrategy = \"static-quorum\"\ndown-if-alone = 0",
+        "C2",
+        "quorum",
+    ),
+    (
+        "self = \"a:1\"\nuid = 1\nlisted = [\"a:1\"]\nstrategy = \"static-quorum\"\nquorum = 1\ndown-if-alone = 0",
+        "C4",
+        "down-if-alone",
+    ),
+    (
+        "self = \"a:1\"\nuid = 1\nlisted = [\"a:1\"]\nstrategy = \"keep\"\ndown-if-alone = 0",
+        "C5",
+        "strategy",
+    ),
+    // An address is not listed, also where one is listed twice.
+    (
+        "self = \"a:1\"\nuid = 1\nlisted = [\"a:1\", \"a:1\"]\nstrategy = \"down-all\"\nrole = [\"a:1\", \"b:1\"]",
+        "C5",
+        "role",
+    ),
+    (
+        "self = \"a:1\"\nuid = 1\nlisted = [\"a:1\", \"a:1\"]\nstrategy = \"down-all\"\nrole = [\"a:1\", \"a:1\"]",
+        "C8",
+        "listed",
+    ),
+    (
+        "self = \"b:1\"\nuid = 1\nlisted = [\"a:1\"]\nstrategy = \"down-all\"\nrole = [\"a:1\", \"a:01\"]",
+        "C8",
+        "role",
+    ),
+    (
+        "self = \"b:1\"\nuid = 1\nlisted = [\"a:1\"]\nstrategy = \"down-all\"\nrole = [\"a:1\"]",
+        "C7",
+        "self",
+    ),
+    (
+        "self = \"b:1\"\nuid = 1\nlisted = [\"a:1\"]\nstrategy = \"down-all\"\nrole = [\"b:1\"]",
+        "C5",
+        "role",
+    ),
+    (
+        "self = \"a:1\"\nuid = 1\nlisted = []\nstrategy = \"down-all\"\nrole = 1",
+        "C5",
+        "listed",
+    ),
     ("self = 1\nz = 1\nb = 1\nuid = 0", "C3", "b"),
     ("\"\" = 1\nself = 1", "C3", ""),
     ("self = \"a:1\"\nself = \"a:1\"", "C1", ""),
@@ -80,11 +151,18 @@ static WHOLE: [(&str, &str, &str); 27] = [
 ];
 
 // What follows the needed keys, and the first fault then.
-static FURTHER: [(&str, &str, &str); 50] = [
+static FURTHER: [(&str, &str, &str); 79] = [
     ("quorum = 0", "C5", "quorum"),
     ("quorum = 33", "C5", "quorum"),
     ("quorum = \"3\"", "C4", "quorum"),
     ("quorum = 32", "", ""),
+    ("down-if-alone = true", "", ""),
+    ("down-if-alone = false", "", ""),
+    ("down-if-alone = 1", "C4", "down-if-alone"),
+    ("down-if-alone = \"true\"", "C4", "down-if-alone"),
+    ("down-if-alone = 1\nquorum = 0", "C5", "quorum"),
+    ("down-if-alone = 1\nmargin = 0", "C4", "down-if-alone"),
+    ("down_if_alone = true", "C3", "down_if_alone"),
     ("margin = 0", "C5", "margin"),
     ("margin = 1", "", ""),
     ("margin = 1000000", "", ""),
@@ -127,6 +205,29 @@ static FURTHER: [(&str, &str, &str); 50] = [
     ("weakly = -1", "C5", "weakly"),
     ("weakly = true", "C4", "weakly"),
     ("weakly = true\njoin = \"a\"", "C6", "join"),
+    ("role = [\"a:1\"]", "", ""),
+    ("role = [\"a:00001\"]", "", ""),
+    ("role = 1", "C4", "role"),
+    ("role = \"a:1\"", "C4", "role"),
+    ("role = { a = \"a:1\" }", "C4", "role"),
+    ("role = []", "C5", "role"),
+    ("role = [1]", "C4", "role"),
+    ("role = [[\"a:1\"]]", "C4", "role"),
+    ("role = [\"a\"]", "C6", "role"),
+    ("role = [\"a:1#1\"]", "C6", "role"),
+    ("role = [\"b:1\"]", "C5", "role"),
+    ("role = [\"a:2\"]", "C5", "role"),
+    ("role = [\"a:1\", \"a:1\"]", "C8", "role"),
+    ("role = [\"a:1\", \"a:01\"]", "C8", "role"),
+    // No string comes first, and then the others from the left.
+    ("role = [\"a\", \"b:1\", 1]", "C4", "role"),
+    ("role = [\"a\", \"b:1\"]", "C6", "role"),
+    ("role = [\"b:1\", \"a\"]", "C5", "role"),
+    ("role = [\"a:1\", \"a:1\", \"b:1\"]", "C5", "role"),
+    ("role = [\"a:1\", \"a:1\", \"a\"]", "C6", "role"),
+    ("role = 1\nweakly = 1000001", "C5", "weakly"),
+    ("role = 1\nroles = 1", "C3", "roles"),
+    ("Role = [\"a:1\"]", "C3", "Role"),
     ("limit = 0\nmargin = 0", "C5", "margin"),
     ("limit = true\nmargin = 0", "C5", "margin"),
     ("margin = 0\nlimits = 1", "C3", "limits"),
@@ -228,23 +329,64 @@ fn faults_show_their_codes(rt: HostRuntime) -> Result<(), Fail> {
     Ok(())
 }
 
-// A document that lists so many addresses, its own first.
-fn listing(alloc: Global, count: u16) -> Result<String, AllocError> {
-    let mut document = format!(in alloc;
-        "self = \"a:1\"\nuid = 1\nstrategy = \"down-all\"\nlisted = ["
-    )?;
+// So many addresses, the node's own first, as a document lists them.
+fn addresses(alloc: Global, count: u16) -> Result<String, AllocError> {
+    let mut addresses = String::new(alloc);
     'ports: for port in 1..=count {
-        document.push_str(format!(in alloc; "\"a:{port}\",")?.as_str())?;
+        addresses.push_str(format!(in alloc; "\"a:{port}\",")?.as_str())?;
     }
-    document.push_str("]\n")?;
-    Ok(document)
+    Ok(addresses)
+}
+
+// A document that lists these.
+fn listing(alloc: Global, listed: &str) -> Result<String, AllocError> {
+    format!(in alloc; "self = \"a:1\"\nuid = 1\nstrategy = \"down-all\"\nlisted = [{listed}]\n")
+}
+
+// The first fault of a document that lists so many.
+fn lists(alloc: Global, count: u16, code: &str, key: &str) -> Result<bool, AllocError> {
+    let listed = addresses(alloc, count)?;
+    let document = listing(alloc, listed.as_str())?;
+    Ok(is_answered(alloc, document.as_bytes(), code, key))
 }
 
 #[test]
 fn as_many_as_32_addresses_are_listed(rt: HostRuntime) -> Result<(), Fail> {
-    let alloc = rt.alloc();
-    assert!(rt; is_answered(alloc, listing(alloc, 32)?.as_bytes(), "", ""));
-    assert!(rt; is_answered(alloc, listing(alloc, 33)?.as_bytes(), "C5", "listed"));
+    assert!(rt; lists(rt.alloc(), 32, "", "")?);
+    assert!(rt; lists(rt.alloc(), 33, "C5", "listed")?);
+    Ok(())
+}
+
+// The first fault of a document in which these have the role, and 32 are listed.
+fn role_has_fault(alloc: Global, role: &str, code: &str) -> Result<bool, AllocError> {
+    let listed = addresses(alloc, 32)?;
+    let document = listing(alloc, listed.as_str())?;
+    let whole = format!(in alloc; "{}role = [{role}]\n", document.as_str())?;
+    Ok(is_answered(alloc, whole.as_bytes(), code, "role"))
+}
+
+// What stands before so many addresses in the role, how many there are, and the first fault.
+static ROLES: [(&str, u16, &str); 6] = [
+    ("", 32, ""),
+    ("\"a:1\",", 32, "C5"),
+    ("", 33, "C5"),
+    // The number comes before what they are, and what is no string before the number.
+    ("\"a\",", 32, "C5"),
+    ("1,", 32, "C4"),
+    ("\"a:1\",", 31, "C8"),
+];
+
+fn role_goes_so(alloc: Global, case: &(&str, u16, &str)) -> Result<bool, AllocError> {
+    let others = addresses(alloc, case.1)?;
+    let role = format!(in alloc; "{}{}", case.0, others.as_str())?;
+    role_has_fault(alloc, role.as_str(), case.2)
+}
+
+#[test]
+fn as_many_as_32_addresses_have_the_role(rt: HostRuntime) -> Result<(), Fail> {
+    for (index, case) in ROLES.iter().enumerate() {
+        assert!(rt; role_goes_so(rt.alloc(), case)?, "{index}");
+    }
     Ok(())
 }
 
@@ -266,11 +408,24 @@ fn what_is_not_said_has_its_default(rt: HostRuntime) -> Result<(), Fail> {
     assert!(rt; has_defaults(&config));
     assert!(rt; runs_by_default(&config));
     assert!(rt; config.me.uid == 1 && config.me.address.port == 1);
+    assert!(rt; ports(&config.settings.role) == [1, 0]);
     Ok(())
 }
 
+fn port(addresses: &[Address], index: usize) -> u16 {
+    match addresses.get(index) {
+        Some(address) => address.port,
+        None => 0,
+    }
+}
+
+// The ports of the first two addresses, 0 where there is none.
+fn ports(addresses: &[Address]) -> [u16; 2] {
+    [port(addresses, 0), port(addresses, 1)]
+}
+
 const ALL_SAID: &str =
-    "self = \"b:2\"\nuid = 7\nlisted = [\"a:1\", \"b:2\"]\nstrategy = \"static-quorum\"\nquorum = 2\nmargin = 11\ndeadline = 12\nstable = 13\nshards = 14\nbuffer = 15\nthreshold = 16\nlimit = 17\ntick-ms = 50\nseed = 0\nfound = true\njoin = \"a:1\"\nweakly = 18\n";
+    "self = \"b:2\"\nuid = 7\nlisted = [\"a:1\", \"b:2\"]\nstrategy = \"static-quorum\"\nquorum = 2\nmargin = 11\ndeadline = 12\nstable = 13\nshards = 14\nbuffer = 15\nthreshold = 16\nlimit = 17\ntick-ms = 50\nseed = 0\nfound = true\njoin = \"a:1\"\nweakly = 18\nrole = [\"b:2\", \"a:1\"]\n";
 
 fn has_numbers(config: &Config) -> bool {
     let settings = &config.settings;
@@ -285,10 +440,58 @@ fn what_is_said_is_read(rt: HostRuntime) -> Result<(), Fail> {
     let config = read_config(rt.alloc(), ALL_SAID.as_bytes())?;
     assert!(rt; has_numbers(&config));
     assert!(rt; config.me.uid == 7 && config.me.address.port == 2);
-    assert!(rt; config.settings.listed.len() == 2);
+    assert!(rt; ports(&config.settings.listed) == [1, 2]);
+    assert!(rt; ports(&config.settings.role) == [2, 1]);
     assert!(rt; config.settings.strategy == Strategy::StaticQuorum(2));
     assert!(rt; config.tick_ms == 50 && config.seed == 0 && config.found);
     assert!(rt; config.join.is_some());
+    Ok(())
+}
+
+// What stands for the strategy, and the strategy.
+static STRATEGIES: [(&str, Strategy); 7] = [
+    ("\"keep-oldest\"", Strategy::KeepOldest(true)),
+    (
+        "\"keep-oldest\"\ndown-if-alone = true",
+        Strategy::KeepOldest(true),
+    ),
+    (
+        "\"keep-oldest\"\ndown-if-alone = false\nquorum = 2",
+        Strategy::KeepOldest(false),
+    ),
+    (
+        "\"static-quorum\"\nquorum = 2\ndown-if-alone = false",
+        Strategy::StaticQuorum(2),
+    ),
+    ("\"keep-majority\"", Strategy::KeepMajority),
+    (
+        "\"keep-majority\"\ndown-if-alone = true",
+        Strategy::KeepMajority,
+    ),
+    ("\"down-all\"\ndown-if-alone = false", Strategy::DownAll),
+];
+
+// It has this strategy, two are listed, and the second of them has the role.
+fn has_strategy(settings: &Settings, wanted: Strategy) -> bool {
+    let roles = ports(&settings.listed) == [1, 2] && ports(&settings.role) == [2, 0];
+    roles && settings.strategy == wanted
+}
+
+fn reads_strategy(alloc: Global, text: &str, wanted: Strategy) -> Result<bool, AllocError> {
+    let document = format!(in alloc;
+        "self = \"a:1\"\nuid = 1\nlisted = [\"a:1\", \"b:2\"]\nrole = [\"b:2\"]\nstrategy = {text}\n"
+    )?;
+    match read_config(alloc, document.as_bytes()) {
+        Ok(config) => Ok(has_strategy(&config.settings, wanted)),
+        Err(_) => Ok(false),
+    }
+}
+
+#[test]
+fn strategies_and_roles_are_read(rt: HostRuntime) -> Result<(), Fail> {
+    for (text, wanted) in &STRATEGIES {
+        assert!(rt; reads_strategy(rt.alloc(), text, *wanted)?, "{text}");
+    }
     Ok(())
 }
 

@@ -85,7 +85,7 @@ fn listed(alloc: Global) -> Result<Vec<Address>, Fail> {
 }
 
 pub(crate) fn settings(alloc: Global) -> Result<Settings, Fail> {
-    let made = Settings::of_membership(listed(alloc)?, Strategy::DownAll, 2, 9, 9);
+    let made = Settings::of_membership(alloc, listed(alloc)?, Strategy::DownAll, 2, 9, 9)?;
     let mut settings = made.ok_or("the settings are out of range")?;
     settings.shards = 10;
     settings.buffer = 2;

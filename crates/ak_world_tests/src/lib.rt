@@ -18,3 +18,5 @@ mod seen;
 mod stored;
 #[cfg(test)]
 mod story;
+#[cfg(test)]
+mod voters;

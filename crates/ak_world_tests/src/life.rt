@@ -92,7 +92,7 @@ static DOWNED: [Life; 3] = [
 ];
 
 // What the founder knows of the process.
-fn known_of(world: &World, who: &Unique) -> Option<Standing> {
+pub(crate) fn known_of(world: &World, who: &Unique) -> Option<Standing> {
     let members = world.node(0)?.gossip().members();
     if let Some(member) = members.get(who) {
         return Some(Standing::Member(member.status, member.up_number));

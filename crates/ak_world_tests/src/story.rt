@@ -1,7 +1,7 @@
 ghost use Rattle.std.specs.Prelude.{◌+◌, ◌<◌, ◌≤◌, length, OnOk};
 
 // The stories of all tests of worlds, and how one goes.
-use crate::{double, fold, life, line, margin, seen, stored};
+use crate::{double, fold, life, line, margin, seen, stored, voters};
 use ak_address::{Address, parse_address};
 use ak_schedule::{Event, LineFault, read_line};
 use ak_settings::{Settings, Strategy};
@@ -9,7 +9,7 @@ use ak_world::{Reason, Refused, World};
 use std::alloc::Global;
 use std::test::Fail;
 
-// In what the settings of the stories differ: the hosts whose port 1 is listed, the strategy and the deadline.
+// In what the settings of the stories without a role differ: the hosts whose port 1 is listed, the strategy and the deadline.
 #[derive(Clone, Copy)]
 pub(crate) struct Cluster {
     pub(crate) hosts: &'static str,
@@ -25,9 +25,9 @@ fn listed(alloc: Global, hosts: &str) -> Result<Vec<Address>, Fail> {
     Ok(listed)
 }
 
-fn settings_of(alloc: Global, cluster: Cluster) -> Result<Settings, Fail> {
+fn settings_with(alloc: Global, cluster: Cluster) -> Result<Settings, Fail> {
     let listed = listed(alloc, cluster.hosts)?;
-    let made = Settings::of_membership(listed, cluster.strategy, 2, cluster.deadline, 9);
+    let made = Settings::of_membership(alloc, listed, cluster.strategy, 2, cluster.deadline, 9)?;
     let mut settings = made.ok_or("the settings are out of range")?;
     settings.shards = 10;
     settings.buffer = 2;
@@ -156,6 +156,8 @@ pub(crate) enum Story {
     IsReplaced,
     IsDowned,
     StoredOnce,
+    SettleWithoutOthers,
+    WaitForAVoter,
 }
 
 fn cluster_of(story: Story) -> Cluster {
@@ -167,6 +169,13 @@ fn cluster_of(story: Story) -> Cluster {
         Story::Leaves | Story::IsReplaced | Story::IsDowned => life::CLUSTER,
         Story::StoredOnce => stored::CLUSTER,
         _ => fold::CLUSTER,
+    }
+}
+
+fn settings_of(alloc: Global, story: Story) -> Result<Settings, Fail> {
+    match story {
+        Story::SettleWithoutOthers | Story::WaitForAVoter => voters::settings(alloc),
+        _ => settings_with(alloc, cluster_of(story)),
     }
 }
 
@@ -189,12 +198,14 @@ fn goes_so(alloc: Global, world: &mut World, story: Story) -> Result<bool, Fail>
         Story::IsReplaced => life::is_replaced(alloc, world),
         Story::IsDowned => life::is_downed(alloc, world),
         Story::StoredOnce => stored::is_stored_once(alloc, world),
+        Story::SettleWithoutOthers => voters::settle_without_others(alloc, world),
+        Story::WaitForAVoter => voters::wait_for_a_voter(alloc, world),
     }
 }
 
 // Whether the story goes so in a new world. A function that owns a world is proved to let it go at each of its ends, which takes
 // long, so this one alone owns one, and the others borrow it.
 pub(crate) fn is_so(alloc: Global, story: Story) -> Result<bool, Fail> {
-    let mut world = World::new(alloc, settings_of(alloc, cluster_of(story))?);
+    let mut world = World::new(alloc, settings_of(alloc, story)?);
     goes_so(alloc, &mut world, story)
 }
