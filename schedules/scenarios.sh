@@ -76,6 +76,10 @@ refused_optional_headers() {
         'weakly 2' 'weaker 2'
     only_refuses "line 1: the program refuses \"weakly 2\" as S2: the next header, with a value in its range, is wanted here" \
         'weakly 2' 'listed a:1'
+    sketch_refuses "line 10: the program refuses \"role a:1 c:1\" as S2: $once" 'role a:1 c:1' 'start a:1#1'
+    sketch_refuses "line 11: the program refuses \"weakly 2\" as S2: $once" 'role b:1' 'weakly 2' 'start a:1#1' 'tick all 0'
+    sketch_refuses 'line 12: the program refuses "role a:1" as S1: it is a header, and may stand before the first event alone' \
+        'weakly 2' 'start a:1#1' 'role a:1'
 }
 
 # A sketch with everything: its comments, its repeats, and what is lost.
@@ -92,23 +96,23 @@ a_sketch() {
     compare "a sketch with everything" "$?" 0 "$work/wanted"
 }
 
-# A sketch with a header more than nine: what is sent by then is known as without it.
-a_sketch_with_an_optional_header() {
+# A sketch with more headers than nine: what is sent by then is known as without them.
+a_sketch_with_optional_headers() {
     {
-        printf '%s\n' "${headers[@]}" '# more' ' weakly 2' 'start a:1#1' 'start b:1#1' 'found a:1#1' 'repeat 2' \
+        printf '%s\n' "${headers[@]}" '# more' ' weakly 2' 'role b:1  a:1' 'start a:1#1' 'start b:1#1' 'found a:1#1' 'repeat 2' \
             'join b:1#1 a:1' 'end' 'deliver all' 'tick all 7' 'deliver last'
     } >"$work/right.sketch"
     {
-        printf '%s\n' "${headers[@]}" '# more' ' weakly 2' 'start a:1#1' 'start b:1#1' 'found a:1#1' 'join b:1#1 a:1' \
-            'join b:1#1 a:1' 'deliver 1' 'deliver 2' 'deliver 3' 'deliver 4' 'deliver 5' 'deliver 6' 'tick a:1#1 7' \
-            'tick b:1#1 7' 'deliver 8'
+        printf '%s\n' "${headers[@]}" '# more' ' weakly 2' 'role b:1  a:1' 'start a:1#1' 'start b:1#1' 'found a:1#1' \
+            'join b:1#1 a:1' 'join b:1#1 a:1' 'deliver 1' 'deliver 2' 'deliver 3' 'deliver 4' 'deliver 5' 'deliver 6' \
+            'tick a:1#1 7' 'tick b:1#1 7' 'deliver 8'
     } >"$work/wanted"
     schedules/sketch "$work/right.sketch" "$program" >"$work/actual"
-    compare "a sketch with an optional header" "$?" 0 "$work/wanted"
+    compare "a sketch with optional headers" "$?" 0 "$work/wanted"
     # (and again with the schedule beside it, by which replays are saved)
     cp -- "$work/wanted" "$work/right.schedule" || exit 1
     schedules/sketch "$work/right.sketch" "$program" >"$work/actual"
-    compare "a sketch with an optional header and its schedule" "$?" 0 "$work/wanted"
+    compare "a sketch with optional headers and its schedule" "$?" 0 "$work/wanted"
     rm -- "$work/right.schedule"
 }
 
@@ -161,19 +165,19 @@ TEXT
 # Under a header stands no step, also under one that may follow the nine ones.
 shown_under_headers() {
     {
-        printf '> %s\n' "${headers[@]}" 'weakly 2' 'start a:1#1'
-        printf '%s\n' '1 start a:1#1' '> weakly 2' 'error 4 S1 line 12'
+        printf '> %s\n' "${headers[@]}" 'weakly 2' 'role b:1' 'start a:1#1'
+        printf '%s\n' '1 start a:1#1' '> weakly 2' 'error 4 S1 line 13'
     } >"$work/wanted"
-    printf '%s\n' "${headers[@]}" 'weakly 2' 'start a:1#1' 'weakly 2' >"$work/headers.schedule"
+    printf '%s\n' "${headers[@]}" 'weakly 2' 'role b:1' 'start a:1#1' 'weakly 2' >"$work/headers.schedule"
     schedules/show "$work/headers.schedule" "$program" >"$work/actual"
-    compare "schedules/show of an optional header" "$?" 0 "$work/wanted"
+    compare "schedules/show of optional headers" "$?" 0 "$work/wanted"
 }
 
 # What schedules/show prints is the schedule after "> ", and between its lines the output as it is.
 shown() {
     local name status
     for name in joining/first_join joining/spaces_comments_and_zeros refusals/unknown_event refusals/weakly_twice \
-        weakly_up/let_in; do
+        refusals/role_after_an_event roles/role_in_another_order weakly_up/let_in; do
         schedules/show "schedules/$name.schedule" "$program" >"$work/shown"
         status=$?
         grep -v '^> ' "$work/shown" >"$work/actual"
@@ -268,7 +272,7 @@ check_scenarios() {
     refused_sketches
     refused_optional_headers
     a_sketch
-    a_sketch_with_an_optional_header
+    a_sketch_with_optional_headers
     a_new_sketch
     shown
     shown_under_headers
