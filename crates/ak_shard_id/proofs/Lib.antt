@@ -1,2 +1,3 @@
 pub mod Hashing
 pub mod Walks
+pub mod DivisionLaws
