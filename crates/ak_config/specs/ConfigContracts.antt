@@ -2,7 +2,7 @@
 use Rattle.std.specs.Prelude.{◌≡◌, ◌<◌, ◌≤◌, ◌^◌, IsTrue, List, length, Option, Some, Result, Ok, Err}
 use Rattle.std.specs.List.{AllByRecursion}
 use Rattle.ak_address.specs.Unique.{AddressModel, IsAddress}
-use Rattle.ak_settings.specs.Settings.{IsWithin, IsStrategy, is_listed}
+use Rattle.ak_settings.specs.Settings.{IsWithin, IsStrategy, MayBeTypes, is_listed}
 use Rattle.ak_config.specs.declared.config.Config.{Config}
 use Rattle.ak_config.specs.declared.entries.Entries.{Entries}
 use Rattle.ak_config.specs.declared.entries.Limits.{Limits}
@@ -57,7 +57,7 @@ MayStand among some = AllByRecursion (λ a. IsTrue (may_stand among a)) some
 
 -- entries as a document says them
 abbrev pub entries_view : Entries → EntriesModel
-entries_view e = record { me = e.me; listed = e.listed.items; strategy = e.strategy; limits = e.limits; running = e.running; role = e.role.items }
+entries_view e = record { me = e.me; listed = e.listed.items; strategy = e.strategy; limits = e.limits; running = e.running; role = e.role.items; types = e.types.items }
 
 -- each entry is in its range
 pub record AreEntries (e : EntriesModel) : Type 0 where
@@ -67,6 +67,7 @@ pub record AreEntries (e : EntriesModel) : Type 0 where
   pub running : IsRunning e.running
   pub role : IsList e.role
   pub among : MayStand (Some e.listed) e.role
+  pub types : MayBeTypes e.limits.shards e.types
 
 -- the node's own address is listed, and its numbers are in their ranges
 pub record IsConfig (c : Config) : Type 0 where

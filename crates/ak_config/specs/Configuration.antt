@@ -1,6 +1,6 @@
 -- What the configuration of a node says, key by key in the order in which they are read, over the values that a TOML document
 -- has (keys, ranges and defaults are this project's choice).
-use Rattle.std.specs.Prelude.{ℕ, ℤ, pos, negsuc, suc, ◌-◌, ◌^◌, Bool, true, false, ◌&&◌, nat_le, nat_eq, List, [], ◌∷◌, codes, Option, Some, None, Result, Ok, Err, if◌then◌else◌, is_some}
+use Rattle.std.specs.Prelude.{ℕ, ℤ, pos, negsuc, suc, ◌-◌, ◌^◌, Bool, true, false, ◌&&◌, nat_le, nat_eq, List, [], ◌∷◌, length, codes, Option, Some, None, Result, Ok, Err, if◌then◌else◌, is_some}
 use Rattle.std.specs.List.{list_any}
 use Rattle.std.specs.Ordering.{nat_cmp, match_ordering}
 use Rattle.std.specs.Cmp.Lexicographic.{slice_cmp, pointwise}
@@ -10,7 +10,7 @@ use Rattle.toml.specs.Parse.{parse_document}
 use Rattle.ak_address.specs.Unique.{AddressModel, UniqueModel}
 use Rattle.ak_settings.specs.declared.settings.Strategy.{Strategy}
 use Rattle.ak_settings.specs.declared.settings.Strategy.TheVariants.{StaticQuorum, KeepMajority, KeepOldest, DownAll}
-use Rattle.ak_settings.specs.Settings.{is_listed, all_different, default_shards, default_buffer, default_threshold, default_limit}
+use Rattle.ak_settings.specs.Settings.{is_listed, all_different, all_texts_differ, may_be_types, default_shards, default_buffer, default_threshold, default_limit}
 use Rattle.ak_config.specs.declared.config.Config.{Config}
 use Rattle.ak_config.specs.declared.fault.ConfigFault.{ConfigFault}
 use Rattle.ak_config.specs.declared.fault.ConfigFault.TheVariants.{NotToml, Missing, Unknown, WrongType, Range, BadAddress, SelfUnlisted, Repeated}
@@ -26,6 +26,7 @@ pub record EntriesModel : Type 0 where
   pub limits : Limits
   pub running : Running
   pub role : List AddressModel
+  pub types : List (List ℕ)
 
 -- first the one, and then what is made of it; the first fault ends it
 infixl 10 ◌>>=◌
@@ -37,7 +38,7 @@ abbrev pub ◌>>=◌ : {A B : Type 0} → Result A ConfigFault → (A → Result
 abbrev pub keys : List (List ℕ)
 keys =
     codes "self" ∷ codes "uid" ∷ codes "listed" ∷ codes "strategy" ∷ codes "quorum" ∷ codes "down-if-alone" ∷ codes "margin" ∷ codes "deadline" ∷ codes "stable" ∷ codes "shards"
-    ∷ codes "buffer" ∷ codes "threshold" ∷ codes "limit" ∷ codes "tick-ms" ∷ codes "seed" ∷ codes "found" ∷ codes "join" ∷ codes "weakly" ∷ codes "role" ∷ []
+    ∷ codes "buffer" ∷ codes "threshold" ∷ codes "limit" ∷ codes "tick-ms" ∷ codes "seed" ∷ codes "found" ∷ codes "join" ∷ codes "weakly" ∷ codes "role" ∷ codes "types" ∷ []
 
 abbrev pub is_key : List ℕ → Bool
 is_key name = list_any (λ key. pointwise nat_eq key name) keys
@@ -174,6 +175,33 @@ role_or listed (Some value) = listing_of (codes "role") (Some listed) value
 unfoldable pub role_at : List AddressModel → Members → Result (List AddressModel) ConfigFault
 role_at listed t = role_or listed (get_member (codes "role") t)
 
+-- a text for each item, from the left
+abbrev pub texts_in : List ℕ → Items → Result (List (List ℕ)) ConfigFault
+texts_in key no_items = Ok []
+texts_in key (item value others) = do
+  first ← text_in key value
+  rest ← texts_in key others
+  Ok (first ∷ rest)
+
+-- the items are strings, then they are 1 to 8 names of types, each of which has so many shards: 1000 at most for all of them
+unfoldable pub types_in : ℕ → Items → Result (List (List ℕ)) ConfigFault
+types_in shards items = do
+  names ← texts_in (codes "types") items
+  if nat_le 1 (length names) && may_be_types shards names then Ok names else Err (Range (codes "types"))
+
+unfoldable pub types_of : ℕ → Data → Result (List (List ℕ)) ConfigFault
+types_of shards value = do
+  items ← or_fault (WrongType (codes "types")) (as_array value)
+  types_in shards items
+
+-- the names of the types, none where the key is not there
+abbrev pub types_or : ℕ → Option Data → Result (List (List ℕ)) ConfigFault
+types_or shards None = Ok []
+types_or shards (Some value) = types_of shards value
+
+unfoldable pub types_at : ℕ → Members → Result (List (List ℕ)) ConfigFault
+types_at shards t = types_or shards (get_member (codes "types") t)
+
 -- a strategy that has no quorum; one that has a flag has it set
 abbrev pub bare_strategy : List ℕ → Option Strategy
 bare_strategy name =
@@ -240,7 +268,8 @@ entries_at t = do
   limits ← limits_at t
   running ← running_at t
   role ← role_at listed t
-  Ok (record { me = me; listed = listed; strategy = strategy; limits = limits; running = running; role = role })
+  types ← types_at limits.shards t
+  Ok (record { me = me; listed = listed; strategy = strategy; limits = limits; running = running; role = role; types = types })
 
 abbrev pub config_of : EntriesModel → Config
 config_of e =
@@ -258,6 +287,7 @@ config_of e =
         limit = e.limits.limit;
         weakly = e.running.weakly;
         role = e.role;
+        types = e.types;
       };
       tick_ms = e.running.tick_ms;
       seed = e.running.seed;
@@ -270,7 +300,9 @@ unfoldable pub agreed : EntriesModel → Result Config ConfigFault
 agreed e =
     if all_different e.listed
     then (if all_different e.role
+    then (if all_texts_differ e.types
     then (if is_listed e.listed e.me.address then Ok (config_of e) else Err (SelfUnlisted (codes "self")))
+    else Err (Repeated (codes "types")))
     else Err (Repeated (codes "role")))
     else Err (Repeated (codes "listed"))
 

@@ -1,7 +1,7 @@
 // A configuration, and how it is read.
 ghost use Rattle.std.specs.Prelude.{◌≡◌, true, IfOk};
 ghost use Rattle.toml.specs.View.{table_view};
-ghost use Rattle.ak_settings.specs.Settings.{all_different};
+ghost use Rattle.ak_settings.specs.Settings.{all_different, all_texts_differ};
 ghost use Rattle.ak_config.specs.Configuration as spec;
 ghost use Rattle.ak_config.specs.ConfigContracts.{Gives, GivesAs, AreEntries, IsConfig, entries_view};
 
@@ -10,7 +10,7 @@ use crate::fault::ConfigFault;
 use crate::keys::known_keys;
 use crate::values::name;
 use ak_address::{Address, Unique, contains_address};
-use ak_settings::{Settings, all_different};
+use ak_settings::{Settings, all_different, all_texts_differ};
 use std::alloc::{AllocError, Global};
 use toml::Table;
 
@@ -33,9 +33,9 @@ pub struct Config {
 
 /// The configuration that these bytes are. Where they are none it answers the first fault, in this order: that they are no TOML
 /// document; the least key that a configuration may not have; then key by key, in the order self, uid, listed, strategy, quorum,
-/// down-if-alone, margin, deadline, stable, shards, buffer, threshold, limit, tick-ms, seed, found, join, weakly, role, that it
-/// is missing, of another type, out of its range or no address; that an address is listed twice; that one has the role twice;
-/// that the node's own is not listed. That memory ran out says nothing of the bytes.
+/// down-if-alone, margin, deadline, stable, shards, buffer, threshold, limit, tick-ms, seed, found, join, weakly, role, types,
+/// that it is missing, of another type, out of its range or no address; that an address is listed twice; that one has the role
+/// twice; that a type stands twice; that the node's own address is not listed. That memory ran out says nothing of the bytes.
 #[tactic(auto, using(crate::proofs::Steps::fails_first), unfolding(crate::specs::Configuration::read, crate::specs::Configuration::configuration))]
 pub fn read_config(alloc: Global, bytes: &[u8]) -> Result<Config, ConfigFault>
     ensures gives { Gives result (spec.read bytes.now) }
@@ -76,6 +76,9 @@ fn agreed(alloc: Global, entries: Entries) -> Result<Config, ConfigFault>
     if !all_different(&entries.role) {
         return Err(ConfigFault::Repeated(name(alloc, "role")?));
     }
+    if !all_texts_differ(&entries.types) {
+        return Err(ConfigFault::Repeated(name(alloc, "types")?));
+    }
     if !contains_address(&entries.listed, &entries.me.address) {
         return Err(ConfigFault::SelfUnlisted(name(alloc, "self")?));
     }
@@ -86,6 +89,7 @@ fn config_of(entries: Entries) -> Config
     requires ranges { AreEntries (entries_view entries) }
     requires listed { all_different entries.listed.items ≡ true }
     requires role { all_different entries.role.items ≡ true }
+    requires types { all_texts_differ entries.types.items ≡ true }
     ensures { result ≡ spec.config_of (entries_view entries) }
 {
     let Entries {
@@ -95,6 +99,7 @@ fn config_of(entries: Entries) -> Config
         limits,
         running,
         role,
+        types,
     } = entries;
     let Limits {
         margin,
@@ -124,6 +129,7 @@ fn config_of(entries: Entries) -> Config
         limit,
         weakly,
         role,
+        types,
     };
     Config {
         me,

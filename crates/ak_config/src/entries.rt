@@ -7,10 +7,11 @@ ghost use Rattle.ak_config.specs.ConfigContracts.{Gives, GivesAs, AreLimits, Are
 
 use crate::fault::ConfigFault;
 use crate::listing::{listing_at, role_at};
+use crate::types::types_at;
 use crate::values::{
     address_at, flag_at, integer_at, name, required, required_address, required_integer, text_in,
 };
-use ak_address::{Address, Unique};
+use ak_address::{Address, Text, Unique};
 use ak_settings::{DEFAULT_BUFFER, DEFAULT_LIMIT, DEFAULT_SHARDS, DEFAULT_THRESHOLD, Strategy};
 use std::alloc::Global;
 use toml::Table;
@@ -46,6 +47,7 @@ pub(crate) struct Entries {
     pub(crate) limits: Limits,
     pub(crate) running: Running,
     pub(crate) role: Vec<Address>,
+    pub(crate) types: Vec<Text>,
 }
 
 const MOST_UID: u64 = 9223372036854775807;
@@ -64,6 +66,7 @@ pub(crate) fn entries_at(alloc: Global, table: &Table) -> Result<Entries, Config
     let limits = limits_at(alloc, table)?;
     let running = running_at(alloc, table)?;
     let role = role_at(alloc, table, &listed)?;
+    let types = types_at(alloc, table, limits.shards)?;
     Ok(Entries {
         me,
         listed,
@@ -71,6 +74,7 @@ pub(crate) fn entries_at(alloc: Global, table: &Table) -> Result<Entries, Config
         limits,
         running,
         role,
+        types,
     })
 }
 

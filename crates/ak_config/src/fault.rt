@@ -22,7 +22,7 @@ pub enum ConfigFault {
     /// The value is of another type.
     #[error("C4")]
     WrongType(Text),
-    /// The value is out of its range, or an address that is to have the role is not listed.
+    /// The value is out of its range, an address that is to have the role is not listed, or a name is none of a type.
     #[error("C5")]
     Range(Text),
     /// A text is no address.
@@ -31,7 +31,7 @@ pub enum ConfigFault {
     /// The node's own address is not listed.
     #[error("C7")]
     SelfUnlisted(Text),
-    /// An address is listed twice, or has the role twice.
+    /// An address is listed twice, or has the role twice, or a type stands twice.
     #[error("C8")]
     Repeated(Text),
     /// Memory ran out.

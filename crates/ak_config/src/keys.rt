@@ -11,7 +11,7 @@ use crate::values::name;
 use std::alloc::Global;
 use toml::Table;
 
-static KEYS: [&str; 19] = [
+static KEYS: [&str; 20] = [
     "self",
     "uid",
     "listed",
@@ -31,6 +31,7 @@ static KEYS: [&str; 19] = [
     "join",
     "weakly",
     "role",
+    "types",
 ];
 
 fn is_key(name: &str) -> bool

@@ -7,6 +7,7 @@ mod fault;
 mod keys;
 mod laws;
 mod listing;
+mod types;
 mod values;
 
 pub use config::{Config, read_config};

@@ -19,7 +19,7 @@ use Rattle.ak_generate.specs.declared.choice.Choice as choice
 use Rattle.ak_generate.specs.Census.{Census, sight_of, Runs, MayHappen, started_by, founded_by, Starts, IsGiven, Follows, nothing_yet, IsGenerated}
 use Rattle.ak_generate.specs.Census.IsGenerated.{begun, goes_on}
 use Rattle.ak_generate.proofs.GenerateLemmas.{next_of, address_is_one}
-use Rattle.ak_generate.proofs.CensusLemmas.{chosen_runs, nobody_there, nobody_runs, is_listed, apart, process_is_one, entity_is_one}
+use Rattle.ak_generate.proofs.CensusLemmas.{chosen_runs, nobody_there, nobody_runs, is_listed, apart, process_is_one, entity_is_fixed, entity_is_one}
 
 -- ---- what is true of the processes that were started
 pub record AreKnown (started : List UniqueModel) : Type 0 where
@@ -274,7 +274,7 @@ module _ (c : Census) (Small : Type 0) (few_packets : Small → c.packets < 2 ^ 
   happens_allowed choice.TheVariants.Tick w who event short runs is = only (IsAllowed c Small) _ event is (record { may = runs; admitted = tt; range = λ small. (is_one who runs, short small 0) })
   happens_allowed choice.TheVariants.Deliver w who event short runs is = only (IsAllowed c Small) _ event is (delivery_allowed (w 0) who runs)
   happens_allowed choice.TheVariants.Offer w who event short runs is =
-      only (IsAllowed c Small) _ event is (record { may = runs; admitted = tt; range = λ small. (is_one who runs, entity_is_one (w 0 % 20) (mod-lt (w 0) {m = 20} (omega arith)), let lt = short small 1 in omega arith) })
+      only (IsAllowed c Small) _ event is (record { may = (runs, entity_is_fixed (w 0 % 20) (mod-lt (w 0) {m = 20} (omega arith))); admitted = tt; range = λ small. (is_one who runs, entity_is_one (w 0 % 20) (mod-lt (w 0) {m = 20} (omega arith)), let lt = short small 1 in omega arith) })
   happens_allowed choice.TheVariants.Leave w who event short runs is = about (λ member. Leave who member) (λ other there. record { may = runs; admitted = tt; range = λ small. (is_one who runs, is_one other there) }) (w 0) event is
   happens_allowed choice.TheVariants.Down w who event short runs is = about (λ member. Down who member) (λ other there. record { may = runs; admitted = tt; range = λ small. (is_one who runs, is_one other there) }) (w 0) event is
   happens_allowed choice.TheVariants.Stop w who event short runs is = only (IsAllowed c Small) _ event is (stop_allowed who runs)

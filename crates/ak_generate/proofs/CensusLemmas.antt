@@ -16,10 +16,12 @@ use Rattle.ak_address.proofs.CountersLaws.{is_among, contained}
 use Rattle.ak_address.proofs.Elements.{contains_at, any_there}
 use Rattle.ak_address.proofs.OrderLemmas.{address_total}
 use Rattle.ak_address.proofs.UniquesLaws.{length-in_order}
-use Rattle.ak_field.specs.Ranges.{is_entity_byte, IsEntity}
+use Rattle.ak_field.specs.Ranges.{IsEntity}
+use Rattle.ak_settings.specs.Settings.{is_entity_in}
+use Rattle.ak_shard_id.specs.Division.{is_entity_byte}
 use Rattle.rand_pcg.specs.Lcg.{Lcg}
 use Rattle.ak_generate.specs.Words.{drawn, moved, words_of}
-use Rattle.ak_generate.specs.Fixed.{address, addresses, process}
+use Rattle.ak_generate.specs.Fixed.{address, addresses, fixed, process}
 use Rattle.ak_generate.specs.Generated.{chosen, is_at, is_in_use}
 use Rattle.ak_generate.proofs.GenerateLemmas.{address_is_one, number_at, number_of}
 
@@ -95,6 +97,13 @@ pub entity_is_one : (n : ℕ) → n < 20 → IsEntity (101 ∷ decimal n)
 entity_is_one n lt = elim (ltb n 10) as (λ b. ltb n 10 ≡ b → IsEntity (101 ∷ decimal n)) [
   | true ↦ λ one. let less = ltb-true n 10 one in subst (λ digits. IsEntity (101 ∷ digits)) (sym (decimal_digit n less)) (named_by_one n less)
   | false ↦ λ two. let more = ltb-false n 10 two in subst (λ digits. IsEntity (101 ∷ digits)) (sym (two_digits n more lt)) (named_by_two (n / 10) (n % 10) (omega arith) (omega arith))
+] refl
+
+-- without types it is an id
+pub entity_is_fixed : (n : ℕ) → n < 20 → IsTrue (is_entity_in fixed (101 ∷ decimal n))
+entity_is_fixed n lt = elim (ltb n 10) as (λ b. ltb n 10 ≡ b → IsTrue (is_entity_in fixed (101 ∷ decimal n))) [
+  | true ↦ λ one. let less = ltb-true n 10 one in subst (λ digits. IsTrue (is_entity_in fixed (101 ∷ digits))) (sym (decimal_digit n less)) (named_by_one n less).printable
+  | false ↦ λ two. let more = ltb-false n 10 two in subst (λ digits. IsTrue (is_entity_in fixed (101 ∷ digits))) (sym (two_digits n more lt)) (named_by_two (n / 10) (n % 10) (omega arith) (omega arith)).printable
 ] refl
 
 -- ---- words

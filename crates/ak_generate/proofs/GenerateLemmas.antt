@@ -9,6 +9,7 @@ use Rattle.ak_address.specs.Unique.{AddressModel, UniqueModel, IsAddress, is_hos
 use Rattle.ak_address.specs.Uniques.{UniqueSet, in_order, how_many}
 use Rattle.ak_address.proofs.UniquesLaws.{length-in_order}
 use Rattle.ak_settings.specs.Settings.{IsListing, IsSettings}
+use Rattle.ak_settings.proofs.Names.{no_types}
 use Rattle.ak_generate.specs.Fixed.{address, addresses, fixed}
 use Rattle.ak_generate.specs.Generated.{chosen, is_at, is_in_use, opening, later, next_event}
 use Rattle.ak_generate.specs.Words.{Words}
@@ -142,6 +143,7 @@ fixed_are_settings = record {
   limit = record { from = omega arith; to = omega arith };
   weakly = omega arith;
   role = record { listing = fixed_listing; among = λ a there. there };
+  types = no_types 10;
 }
 
 -- ---- the next event

@@ -1,12 +1,13 @@
--- What generated events ask of a world: that none of them is refused for an address, a process or a packet (this project's
--- choice).
+-- What generated events ask of a world: that none of them is refused for an address, a process, a packet or an entity (this
+-- project's choice).
 use Rattle.std.specs.Prelude.{◌≡◌, ◌≢◌, ◌⊎◌, ℕ, ◌+◌, ◌<◌, ◌≤◌, min, Bool, true, false, IsTrue, List, [], ◌∷◌, length, Contains, Some}
 use Rattle.ak_address.specs.Unique.{UniqueModel}
 use Rattle.ak_address.specs.Uniques.{UniqueSet, no_one, has}
 use Rattle.ak_schedule.specs.declared.event.Event.{Event}
 use Rattle.ak_schedule.specs.declared.event.Event.TheVariants.{Start, Found, Join, Tick, Deliver, Leave, Down, Offer, Stop}
 use Rattle.ak_generate.specs.declared.sight.Sight.{Sight}
-use Rattle.ak_generate.specs.Fixed.{addresses}
+use Rattle.ak_settings.specs.Settings.{is_entity_in}
+use Rattle.ak_generate.specs.Fixed.{addresses, fixed}
 use Rattle.ak_generate.specs.Words.{Words}
 use Rattle.ak_generate.specs.Generated.{next_event}
 use Rattle.ak_generate.specs.Generator.{GeneratorModel}
@@ -35,7 +36,7 @@ pub record MayStart (c : Census) (who : UniqueModel) : Type 0 where
   pub alone : (other : UniqueModel) → Runs c other → other.address ≢ who.address
   pub few : length c.started < 64
 
--- who acts runs, one alone founds, one joins through a listed address, and there is such a packet
+-- who acts runs, one alone founds, one joins through a listed address, there is such a packet, and what is offered is for an entity
 abbrev pub MayHappen : Census → Event → Type 0
 MayHappen c (Start who) = MayStart c who
 MayHappen c (Found who) = (c.founded ≡ false) × Runs c who
@@ -44,7 +45,7 @@ MayHappen c (Tick who word) = Runs c who
 MayHappen c (Deliver number) = (1 ≤ number) × (number ≤ c.packets)
 MayHappen c (Leave who member) = Runs c who
 MayHappen c (Down who member) = Runs c who
-MayHappen c (Offer who entity payload) = Runs c who
+MayHappen c (Offer who entity payload) = Runs c who × IsTrue (is_entity_in fixed entity)
 MayHappen c (Stop who) = Runs c who
 
 -- ---- what an event makes of a world

@@ -29,4 +29,5 @@ fixed = record {
   limit = 1;
   weakly = 0;
   role = addresses;
+  types = [];
 }

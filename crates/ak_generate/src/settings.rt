@@ -7,8 +7,8 @@ use ak_settings::{Settings, Strategy};
 use std::alloc::{AllocError, Global};
 
 /// The settings of every generated schedule: the addresses `n1:1` to `n5:1`, a static quorum of 3, margin 6, deadline 3,
-/// stable 3, 10 shards, a buffer of 4, threshold 1 and limit 1; nobody is let in as WeaklyUp, and each address has the role (this
-/// project's choice). Only memory can fail.
+/// stable 3, 10 shards, a buffer of 4, threshold 1 and limit 1; nobody is let in as WeaklyUp, each address has the role, and
+/// there are no types (this project's choice). Only memory can fail.
 pub fn fixed_settings(alloc: Global) -> Result<Settings, AllocError>
     ensures { IfOk result (λ settings. settings ≡ fixed) }
 {
@@ -26,6 +26,7 @@ pub fn fixed_settings(alloc: Global) -> Result<Settings, AllocError>
         limit: 1,
         weakly: 0,
         role,
+        types: Vec::new(alloc),
     })
 }
 

@@ -3,6 +3,7 @@
 #![tactic(auto)]
 
 mod configurations;
+mod entities;
 mod lines;
 mod notes;
 mod sentence;
@@ -10,6 +11,7 @@ mod standard;
 mod statuses;
 
 pub use configurations::{say_of, warn_of_name, warn_of_quorum};
+pub use entities::say_no_entity;
 pub use lines::{say_event, say_header, say_of_line, word_at};
 pub use notes::{NoNotes, Notes, SinkNotes};
 pub use sentence::{Piece, say};

@@ -60,7 +60,7 @@ static HEADERS: [Form; 9] = [
 ];
 
 // The optional headers, in their order.
-static OPTIONAL: [Form; 2] = [
+static OPTIONAL: [Form; 3] = [
     Form {
         name: b"weakly",
         values: b"0 to 1000000 ticks",
@@ -70,6 +70,11 @@ static OPTIONAL: [Form; 2] = [
         name: b"role",
         values: b"1 to 32 different listed addresses",
         example: b"role a:1 b:1 c:1",
+    },
+    Form {
+        name: b"types",
+        values: b"1 to 8 different names, and at most 1000 shards of all of them",
+        example: b"types order user",
     },
 ];
 
@@ -144,7 +149,7 @@ pub fn say_header<N: Notes>(alloc: Global, notes: &mut N, headers: u32, line: &[
             number,
             b"the optional header ",
             form,
-            b" stands once at most, in the order weakly, role, as in: ",
+            b" stands once at most, in the order weakly, role, types, as in: ",
         );
     }
 }

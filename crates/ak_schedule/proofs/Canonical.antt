@@ -5,7 +5,8 @@ use Rattle.std.specs.List.{list_all}
 use Rattle.std.proofs.lemmas.List.Elements.{All-weaker}
 use Rattle.std.proofs.lemmas.List.Sums.{AllPass-from_list_all}
 use Rattle.std.proofs.lemmas.Bool.Decides.{nat_tests}
-use Rattle.ak_field.specs.Ranges.{is_entity_byte, IsEntity}
+use Rattle.ak_field.specs.Ranges.{IsEntity}
+use Rattle.ak_shard_id.specs.Division.{is_entity_byte}
 use Rattle.ak_address.specs.Unique.{AddressModel, UniqueModel, IsUnique, IsAddress}
 use Rattle.ak_address.specs.Spelling.{IsWord, IsNumber, address_text, unique_text}
 use Rattle.ak_address.proofs.SpellingLemmas.{number_word, address_word, unique_word, number_text_spells, address_text_spells, unique_text_spells}

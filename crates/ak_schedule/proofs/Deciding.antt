@@ -1,5 +1,5 @@
 -- Of each line it can be decided whether it is passed over, which settings it makes, and which event it spells.
-use Rattle.std.proofs.Common.{◌≡◌, ◌≢◌, ℕ, ◌+◌, ◌-◌, ◌^◌, ◌<◌, ◌≤◌, ◌⊎◌, Bool, true, false, List, [], ◌∷◌, length, refl, sym, ap, subst, inl, inr, ◌∙◌, suc, Some, slice_get, codes, arith}
+use Rattle.std.proofs.Common.{◌≡◌, ◌≢◌, ℕ, ◌+◌, ◌-◌, ◌*◌, ◌^◌, ◌<◌, ◌≤◌, ◌⊎◌, Bool, true, false, List, [], ◌∷◌, length, refl, sym, ap, subst, inl, inr, ◌∙◌, suc, Some, slice_get, codes, arith}
 use Rattle.std.specs.Bool.{Decides}
 use Rattle.std.specs.List.{AllZip, AllPairs, AllByRecursion, list_all}
 use Rattle.std.specs.Str.{bytes_eq}
@@ -10,20 +10,21 @@ use Rattle.std.proofs.lemmas.Bool.Decides.{leb_tells}
 use Rattle.std.proofs.lemmas.List.Elements.{All-from_recursion, recursion_from_All, All-from_get_or}
 use Rattle.std.proofs.lemmas.List.Kept.{AllPairs-cons}
 use Rattle.std.proofs.lemmas.Slice.Eq.{bytes_eq-Decides}
-use Rattle.ak_field.specs.Ranges.{is_entity_byte, IsEntity}
+use Rattle.ak_field.specs.Ranges.{IsEntity}
+use Rattle.ak_shard_id.specs.Division.{is_entity_byte, is_type_name}
 use Rattle.ak_address.specs.Unique.{AddressModel, UniqueModel, IsHost, IsAddress, is_host_byte}
 use Rattle.ak_address.specs.Spelling.{SpellsAddress, SpellsUnique, before_byte, after_byte}
 use Rattle.ak_address.proofs.SpellingLemmas.{address_read, address_parts, unique_read, unique_parts}
 use Rattle.ak_schedule.specs.declared.event.Event.{Event}
 use Rattle.ak_schedule.specs.declared.event.Event.TheVariants.{Start, Found, Join, Tick, Deliver, Leave, Down, Offer, Stop}
 use Rattle.ak_schedule.specs.declared.draft.Extra.{Extra}
-use Rattle.ak_schedule.specs.declared.draft.Extra.TheVariants.{Weakly, Role}
+use Rattle.ak_schedule.specs.declared.draft.Extra.TheVariants.{Weakly, Role, Types}
 use Rattle.ak_schedule.specs.declared.draft.Header as header
 use Rattle.ak_settings.specs.declared.settings.Strategy.{Strategy}
 use Rattle.ak_settings.specs.declared.settings.Strategy.TheVariants.{StaticQuorum, KeepMajority, KeepOldest, DownAll}
 use Rattle.ak_schedule.specs.Line.{words, is_comment, most_bytes, IsPassedOver}
-use Rattle.ak_settings.specs.Settings.{SettingsModel, IsListing, IsRole, is_listed}
-use Rattle.ak_schedule.specs.Schedule.{SpellsNumber, SpellsOption, SpellsSetting, SpellsStrategy, SpellsListing, SpellsRole, Sets, SetsExtra, SetsHeader, SpellsWords, SpellsEvent, NamesExtra, extras}
+use Rattle.ak_settings.specs.Settings.{SettingsModel, IsListing, IsRole, AreTypes, is_listed}
+use Rattle.ak_schedule.specs.Schedule.{SpellsNumber, SpellsOption, SpellsSetting, SpellsStrategy, SpellsListing, SpellsRole, SpellsTypes, Sets, SetsExtra, SetsHeader, SpellsWords, SpellsEvent, NamesExtra, extras}
 use Rattle.ak_schedule.specs.Draft.{Drafted, ReadsExtra}
 use Rattle.ak_schedule.proofs.Listing.{all_there, there_all}
 use Rattle.ak_schedule.proofs.OneWay.{same_addresses, extra_index, at_index}
@@ -126,7 +127,7 @@ entity name =
     alike
     (λ h. record { not_empty = h.0; short = h.1.0; printable = h.1.1 })
     (λ s. (s.not_empty, (s.short, s.printable)))
-    (both (at_most 1 (length name)) (both (at_most (length name) 64) (is_true (list_all is_entity_byte name))))
+    (both (at_most 1 (length name)) (both (at_most (length name) 97) (is_true (list_all is_entity_byte name))))
 
 -- ---- words of an event
 one : {T : Type 0} (P : List ℕ → T → Type 0) → ((word : List ℕ) → Finds (P word)) → (name : List ℕ) (ws : List (List ℕ))
@@ -232,23 +233,23 @@ same_address a b =
     le_same : (m n : ℕ) → m ≤ n → n ≤ m → m ≡ n
     le_same m n h g = omega arith
 
-different : (listed : List AddressModel) → Tells (AllPairs (λ a b. a ≢ b) listed)
-different [] = inl (λ i j d below within. absurd (omega arith))
-different (a ∷ listed) =
+different : {X : Type 0} → ((x y : X) → Tells (x ≡ y)) → (xs : List X) → Tells (AllPairs (λ x y. x ≢ y) xs)
+different same [] = inl (λ i j d below within. absurd (omega arith))
+different same (x ∷ xs) =
     alike
-    (λ h. AllPairs-cons (λ x y. x ≢ y) a listed (All-from_recursion (λ b. a ≢ b) listed h.0) h.1)
+    (λ h. AllPairs-cons (λ y z. y ≢ z) x xs (All-from_recursion (λ y. x ≢ y) xs h.0) h.1)
     (λ s. (
-      recursion_from_All (λ b. a ≢ b) listed (All-from_get_or (λ b. a ≢ b) listed a (λ k within. s 0 (suc k) a (omega arith) (omega arith))),
+      recursion_from_All (λ y. x ≢ y) xs (All-from_get_or (λ y. x ≢ y) xs x (λ k within. s 0 (suc k) x (omega arith) (omega arith))),
       λ i j d low within. s (suc i) (suc j) d (omega arith) (omega arith),
     ))
-    (both (each (λ b. a ≢ b) (λ b. otherwise (same_address a b)) listed) (different listed))
+    (both (each (λ y. x ≢ y) (λ y. otherwise (same x y)) xs) (different same xs))
 
 is_listing : (listed : List AddressModel) → Tells (IsListing listed)
 is_listing listed =
     alike
     (λ h. record { count = record { from = h.0; to = h.1.0 }; addresses = h.1.1.0; different = h.1.1.1 })
     (λ s. (s.count.from, (s.count.to, (s.addresses, s.different))))
-    (both (at_most 1 (length listed)) (both (at_most (length listed) 32) (both (each IsAddress is_address listed) (different listed))))
+    (both (at_most 1 (length listed)) (both (at_most (length listed) 32) (both (each IsAddress is_address listed) (different same_address listed))))
 
 addresses : (ws : List (List ℕ)) → Finds (AllZip SpellsAddress ws)
 addresses [] = inl ([], tt)
@@ -347,7 +348,7 @@ sets header.TheVariants.Strategy ws old = put (SpellsStrategy ws) (λ x. record 
 sets header.TheVariants.Margin ws old = put (SpellsSetting (codes "margin") 1000000 ws) (λ x. record old { margin = x }) (setting (codes "margin") 1000000 ws)
 sets header.TheVariants.Deadline ws old = put (SpellsSetting (codes "deadline") 1000000 ws) (λ x. record old { deadline = x }) (setting (codes "deadline") 1000000 ws)
 sets header.TheVariants.Stable ws old = put (SpellsSetting (codes "stable") 1000000 ws) (λ x. record old { stable = x }) (setting (codes "stable") 1000000 ws)
-sets header.TheVariants.Shards ws old = put (SpellsSetting (codes "shards") 1000 ws) (λ x. record old { shards = x }) (setting (codes "shards") 1000 ws)
+sets header.TheVariants.Shards ws old = put (SpellsSetting (codes "shards") 1000 ws) (λ x. record old { shards = x; types = [] }) (setting (codes "shards") 1000 ws)
 sets header.TheVariants.Buffer ws old = put (SpellsSetting (codes "buffer") 100000 ws) (λ x. record old { buffer = x }) (setting (codes "buffer") 100000 ws)
 sets header.TheVariants.Threshold ws old = put (SpellsSetting (codes "threshold") 1000 ws) (λ x. record old { threshold = x }) (setting (codes "threshold") 1000 ws)
 sets header.TheVariants.Limit ws old = put (SpellsSetting (codes "limit") 1000 ws) (λ x. record old { limit = x }) (setting (codes "limit") 1000 ws)
@@ -362,15 +363,17 @@ set_header which line old =
 -- ---- an optional header
 pub named_extra : (ws : List (List ℕ)) → Tells (NamesExtra ws)
 named_extra [] = inr (λ h. cc)
-named_extra (w ∷ ws) = alike names named (one_of (same_bytes w (codes "weakly")) (same_bytes w (codes "role")))
+named_extra (w ∷ ws) = alike names named (one_of (same_bytes w (codes "weakly")) (one_of (same_bytes w (codes "role")) (same_bytes w (codes "types"))))
   where
-    names : (w ≡ codes "weakly") ⊎ (w ≡ codes "role") → NamesExtra (w ∷ ws)
+    names : (w ≡ codes "weakly") ⊎ ((w ≡ codes "role") ⊎ (w ≡ codes "types")) → NamesExtra (w ∷ ws)
     names (inl is) = (Weakly, ws, ap (λ (x : List ℕ). x ∷ ws) is)
-    names (inr is) = (Role, ws, ap (λ (x : List ℕ). x ∷ ws) is)
+    names (inr (inl is)) = (Role, ws, ap (λ (x : List ℕ). x ∷ ws) is)
+    names (inr (inr is)) = (Types, ws, ap (λ (x : List ℕ). x ∷ ws) is)
 
-    named : NamesExtra (w ∷ ws) → (w ≡ codes "weakly") ⊎ (w ≡ codes "role")
+    named : NamesExtra (w ∷ ws) → (w ≡ codes "weakly") ⊎ ((w ≡ codes "role") ⊎ (w ≡ codes "types"))
     named (Weakly, rest, is) = let first : w ≡ codes "weakly" = cc in inl first
-    named (Role, rest, is) = let first : w ≡ codes "role" = cc in inr first
+    named (Role, rest, is) = let first : w ≡ codes "role" = cc in inr (inl first)
+    named (Types, rest, is) = let first : w ≡ codes "types" = cc in inr (inr first)
 
 option : (name : List ℕ) (most : ℕ) (ws : List (List ℕ)) → Finds (SpellsOption name most ws)
 option name most ws = one (λ w n. SpellsNumber w 0 most n) (number 0 most) name ws
@@ -396,9 +399,26 @@ role (n ∷ names) listed =
     (named, (s.0, (subst (λ (l : List (List ℕ)). AllZip SpellsAddress l s.0) rest s.1.2, s.1.3))))
     (both (same_bytes n (codes "role")) (role_of listed names (addresses names)))
 
+are_types : (shards : ℕ) (types : List (List ℕ)) → Tells (AreTypes shards types)
+are_types shards types =
+    alike
+    (λ h. record { few = h.0; names = h.1.0; different = h.1.1.0; within = h.1.1.1 })
+    (λ s. (s.few, (s.names, (s.different, s.within))))
+    (both (at_most (length types) 8) (both (each (λ name. is_type_name name ≡ true) (λ name. is_true (is_type_name name)) types) (both (different same_bytes types) (at_most (length types * shards) 1000))))
+
+types : (ws : List (List ℕ)) (shards : ℕ) → Finds (SpellsTypes ws shards)
+types [] shards = inr (λ h. let none : [] ≡ codes "types" ∷ h.0 = h.1.0 in cc)
+types (n ∷ names) shards =
+    alike
+    (λ h. (names, (ap (λ (w : List ℕ). w ∷ names) h.0, h.1.0, h.1.1)))
+    (λ s. let named : n ≡ codes "types" = cc in let rest : s.0 ≡ names = cc in
+    (named, (subst (λ (l : List (List ℕ)). 1 ≤ length l) rest s.1.1, subst (AreTypes shards) rest s.1.2)))
+    (both (same_bytes n (codes "types")) (both (at_most 1 (length names)) (are_types shards names)))
+
 sets_extra : (which : Extra) (ws : List (List ℕ)) (old : SettingsModel) → Finds (SetsExtra which ws old)
 sets_extra Weakly ws old = put (SpellsOption (codes "weakly") 1000000 ws) (λ x. record old { weakly = x }) (option (codes "weakly") 1000000 ws)
 sets_extra Role ws old = put (SpellsRole ws old.listed) (λ x. record old { role = x }) (role ws old.listed)
+sets_extra Types ws old = put (SpellsTypes ws old.shards) (λ x. record old { types = x }) (types ws old.shards)
 
 -- it may still come, and its words set it
 abbrev ReadsAs : Extra → List ℕ → Drafted → Type 0
@@ -419,17 +439,22 @@ reads_as : (which : Extra) (line : List ℕ) (old : Drafted) → Tells (ReadsAs 
 reads_as which line old = both (at_most (length line) most_bytes) (both (at_most old.extra (extra_index which)) (sets_extra which (words line) old.settings))
 
 pub set_extra : (line : List ℕ) (old : Drafted) → Finds (ReadsExtra line old)
-set_extra line old = alike reads read (one_of (reads_as Weakly line old) (reads_as Role line old))
+set_extra line old = alike reads read (one_of (reads_as Weakly line old) (one_of (reads_as Role line old) (reads_as Types line old)))
   where
-    reads : ReadsAs Weakly line old ⊎ ReadsAs Role line old → (new : Drafted) × ReadsExtra line old new
+    AnyOf : Type 0
+    AnyOf = ReadsAs Weakly line old ⊎ (ReadsAs Role line old ⊎ ReadsAs Types line old)
+
+    reads : AnyOf → (new : Drafted) × ReadsExtra line old new
     reads (inl h) = as_read Weakly line old refl h
-    reads (inr h) = as_read Role line old refl h
+    reads (inr (inl h)) = as_read Role line old refl h
+    reads (inr (inr h)) = as_read Types line old refl h
 
-    by_which : (which : Extra) → ReadsAs which line old → ReadsAs Weakly line old ⊎ ReadsAs Role line old
+    by_which : (which : Extra) → ReadsAs which line old → AnyOf
     by_which Weakly h = inl h
-    by_which Role h = inr h
+    by_which Role h = inr (inl h)
+    by_which Types h = inr (inr h)
 
-    read : (new : Drafted) × ReadsExtra line old new → ReadsAs Weakly line old ⊎ ReadsAs Role line old
+    read : (new : Drafted) × ReadsExtra line old new → AnyOf
     read s = by_which s.1.which (read_as line old s.0 s.1)
 
 -- ---- a line that is passed over

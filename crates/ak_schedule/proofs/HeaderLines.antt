@@ -1,9 +1,9 @@
 -- Which lines are the next header.
-use Rattle.std.proofs.Common.{◌≡◌, ◌≤◌, ◌<◌, ℕ, zero, suc, ◌+◌, List, [], ◌∷◌, Err, length, subst, refl, sym, ap, ◌∙◌, arith}
+use Rattle.std.proofs.Common.{◌≡◌, ◌≤◌, ◌<◌, ℕ, zero, suc, ◌+◌, List, [], ◌∷◌, inl, inr, Err, length, subst, refl, sym, ap, ◌∙◌, arith}
 use Rattle.std.proofs.lemmas.Option.{same_Some}
 use Rattle.std.specs.Prelude.{Some, slice_get, codes}
 use Rattle.ak_schedule.specs.declared.draft.Extra.{Extra}
-use Rattle.ak_schedule.specs.declared.draft.Extra.TheVariants.{Weakly, Role}
+use Rattle.ak_schedule.specs.declared.draft.Extra.TheVariants.{Weakly, Role, Types}
 use Rattle.ak_schedule.specs.declared.draft.Header.{Header}
 use Rattle.ak_schedule.specs.declared.fault.LineFault.{LineFault}
 use Rattle.ak_schedule.specs.declared.fault.LineFault.TheVariants.{Malformed, BadHeader, NoMemory}
@@ -11,7 +11,7 @@ use Rattle.ak_schedule.specs.Line.{words, most_bytes}
 use Rattle.ak_schedule.specs.declared.draft.Header as header
 use Rattle.ak_address.specs.Unique.{AddressModel}
 use Rattle.ak_settings.specs.Settings.{SettingsModel, IsListing, IsRole}
-use Rattle.ak_schedule.specs.Schedule.{headers, Sets, SetsExtra, SpellsOption, SpellsRole, NamesExtra, NamesRole}
+use Rattle.ak_schedule.specs.Schedule.{headers, Sets, SetsExtra, SpellsOption, SpellsRole, SpellsTypes, NamesExtra, NamesList}
 use Rattle.ak_schedule.specs.Draft.{Drafted, IsDraft, ReadsHeader, SetsNext, NextAnswers, ExtraAnswers, RefusesHeader, RefusesValue}
 
 pub header_refused : (which : Header) (line : List ℕ) (old : Drafted) → slice_get headers old.read ≡ Some which → ((new : SettingsModel) → Sets which (words line) old.settings new → ⊥)
@@ -50,17 +50,28 @@ extra_refused P line old (NoMemory _) named none part = absurd none
 pub sets_weakly : (which : Extra) (ws rest : List (List ℕ)) (old new : SettingsModel) → ws ≡ codes "weakly" ∷ rest → SetsExtra which ws old new → (n : ℕ) × SpellsOption (codes "weakly") 1000000 ws n
 sets_weakly Weakly ws rest old new named sets = (sets.0, sets.1)
 sets_weakly Role ws rest old new named sets = let other : codes "weakly" ∷ rest ≡ codes "role" ∷ sets.1.0 = sym named ∙ sets.1.1 in absurd cc
+sets_weakly Types ws rest old new named sets = let other : codes "weakly" ∷ rest ≡ codes "types" ∷ sets.0 = sym named ∙ sets.1.0 in absurd cc
+
+names_extra : (ws : List (List ℕ)) → NamesList ws → NamesExtra ws
+names_extra ws (rest, inl role) = (Role, rest, role)
+names_extra ws (rest, inr types) = (Types, rest, types)
 
 -- the same of one that takes memory
-pub extra_value_refused : {T : Type 0} (P : T → Type 0) (line : List ℕ) (old : Drafted) (fault : LineFault) → NamesRole (words line) → RefusesValue P fault
+pub extra_value_refused : {T : Type 0} (P : T → Type 0) (line : List ℕ) (old : Drafted) (fault : LineFault) → NamesList (words line) → RefusesValue P fault
     → ((which : Extra) (next : SettingsModel) → SetsExtra which (words line) old.settings next → (t : T) × P t) → ExtraAnswers (Err fault) line old old
 extra_value_refused P line old Malformed named none part = none
-extra_value_refused P line old BadHeader named none part = (refl, (Role, named.0, named.1), λ next read. let it = part read.which next.settings read.sets.words in none it.0 it.1)
+extra_value_refused P line old BadHeader named none part = (refl, names_extra (words line) named, λ next read. let it = part read.which next.settings read.sets.words in none it.0 it.1)
 extra_value_refused P line old (NoMemory _) named none part = (refl, named)
 
 pub sets_role : (which : Extra) (ws rest : List (List ℕ)) (old new : SettingsModel) → ws ≡ codes "role" ∷ rest → SetsExtra which ws old new → (role : List AddressModel) × SpellsRole ws old.listed role
 sets_role Role ws rest old new named sets = (sets.0, sets.1)
 sets_role Weakly ws rest old new named sets = let other : codes "role" ∷ rest ≡ codes "weakly" ∷ sets.1.0 ∷ [] = sym named ∙ sets.1.1 in absurd cc
+sets_role Types ws rest old new named sets = let other : codes "role" ∷ rest ≡ codes "types" ∷ sets.0 = sym named ∙ sets.1.0 in absurd cc
+
+pub sets_types : (which : Extra) (ws rest : List (List ℕ)) (old new : SettingsModel) → ws ≡ codes "types" ∷ rest → SetsExtra which ws old new → (types : List (List ℕ)) × SpellsTypes ws old.shards types
+sets_types Types ws rest old new named sets = (sets.0, sets.1)
+sets_types Weakly ws rest old new named sets = let other : codes "types" ∷ rest ≡ codes "weakly" ∷ sets.1.0 ∷ [] = sym named ∙ sets.1.1 in absurd cc
+sets_types Role ws rest old new named sets = let other : codes "types" ∷ rest ≡ codes "role" ∷ sets.1.0 = sym named ∙ sets.1.1 in absurd cc
 
 -- ---- a draft with one header more
 -- the addresses are listed once the first header is read, and all of them have the role
@@ -96,4 +107,5 @@ draft_counted line old new s more is =
       limit = is.limit;
       weakly = is.weakly;
       role = λ _. both.1;
+      types = is.types;
     }

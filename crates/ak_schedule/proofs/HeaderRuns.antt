@@ -45,8 +45,8 @@ read_spells (a ∷ b ∷ c ∷ d ∷ e ∷ f ∷ g ∷ h ∷ i ∷ []) s (d0, r0
     let s6 = sets_at 6 header.TheVariants.Buffer g d5 d6 refl s5.2 r6 in
     let s7 = sets_at 7 header.TheVariants.Threshold h d6 d7 refl s6.2 r7 in
     let s8 = sets_at 8 header.TheVariants.Limit i d7 d8 refl s7.2 r8 in
-    let whole : s ≡ record { listed = s0.1.0; strategy = s1.1.0; margin = s2.1.0; deadline = s3.1.0; stable = s4.1.0; shards = s5.1.0; buffer = s6.1.0; threshold = s7.1.0; limit = s8.1.0; weakly = 0; role = s0.1.0 } = ap (λ (x : Drafted). x.settings) end ∙ s8.1.2 ∙ ap (λ (x : SettingsModel). record x { limit = s8.1.0 }) (s7.1.2 ∙ ap (λ (x : SettingsModel). record x { threshold = s7.1.0 }) (s6.1.2 ∙ ap (λ (x : SettingsModel). record x { buffer = s6.1.0 }) (s5.1.2 ∙ ap (λ (x : SettingsModel). record x { shards = s5.1.0 }) (s4.1.2 ∙ ap (λ (x : SettingsModel). record x { stable = s4.1.0 }) (s3.1.2 ∙ ap (λ (x : SettingsModel). record x { deadline = s3.1.0 }) (s2.1.2 ∙ ap (λ (x : SettingsModel). record x { margin = s2.1.0 }) (s1.1.2 ∙ ap (λ (x : SettingsModel). record x { strategy = s1.1.0 }) (s0.1.2)))))))) in
-    subst (SpellsSettings (a ∷ b ∷ c ∷ d ∷ e ∷ f ∷ g ∷ h ∷ i ∷ [])) (sym whole) (((s0.0, s0.1.1), ((s1.0, s1.1.1), ((s2.0, s2.1.1), ((s3.0, s3.1.1), ((s4.0, s4.1.1), ((s5.0, s5.1.1), ((s6.0, s6.1.1), ((s7.0, s7.1.1), ((s8.0, s8.1.1), tt))))))))), record { weakly = refl; role = refl })
+    let whole : s ≡ record { listed = s0.1.0; strategy = s1.1.0; margin = s2.1.0; deadline = s3.1.0; stable = s4.1.0; shards = s5.1.0; buffer = s6.1.0; threshold = s7.1.0; limit = s8.1.0; weakly = 0; role = s0.1.0; types = [] } = ap (λ (x : Drafted). x.settings) end ∙ s8.1.2 ∙ ap (λ (x : SettingsModel). record x { limit = s8.1.0 }) (s7.1.2 ∙ ap (λ (x : SettingsModel). record x { threshold = s7.1.0 }) (s6.1.2 ∙ ap (λ (x : SettingsModel). record x { buffer = s6.1.0 }) (s5.1.2 ∙ ap (λ (x : SettingsModel). record x { shards = s5.1.0; types = [] }) (s4.1.2 ∙ ap (λ (x : SettingsModel). record x { stable = s4.1.0 }) (s3.1.2 ∙ ap (λ (x : SettingsModel). record x { deadline = s3.1.0 }) (s2.1.2 ∙ ap (λ (x : SettingsModel). record x { margin = s2.1.0 }) (s1.1.2 ∙ ap (λ (x : SettingsModel). record x { strategy = s1.1.0 }) (s0.1.2)))))))) in
+    subst (SpellsSettings (a ∷ b ∷ c ∷ d ∷ e ∷ f ∷ g ∷ h ∷ i ∷ [])) (sym whole) (((s0.0, s0.1.1), ((s1.0, s1.1.1), ((s2.0, s2.1.1), ((s3.0, s3.1.1), ((s4.0, s4.1.1), ((s5.0, s5.1.1), ((s6.0, s6.1.1), ((s7.0, s7.1.1), ((s8.0, s8.1.1), tt))))))))), record { weakly = refl; role = refl; types = refl })
 
 pub spelled_read : (headings : List (List ℕ)) (s : SettingsModel) → SpellsSettings headings s → ReadsHeaders headings first_draft (all_read s)
 spelled_read [] s spelled = absurd (let n = AllZip-long (λ which line. (length line ≤ most_bytes) × SpellsValue which (words line) s) headers [] spelled.0 in omega arith)
@@ -69,4 +69,4 @@ spelled_read (a ∷ b ∷ c ∷ d ∷ e ∷ f ∷ g ∷ h ∷ i ∷ []) s ((p0, 
     let t6 : SettingsModel = record (t5) { buffer = s.buffer } in
     let t7 : SettingsModel = record (t6) { threshold = s.threshold } in
     let t8 : SettingsModel = record (t7) { limit = s.limit } in
-    (record { read = 1; extra = 0; settings = t0 }, record { which = header.TheVariants.Listed; next = refl; sets = record { short = p0.0; words = (s.listed, p0.1, refl) }; count = refl; same_extra = refl }, (record { read = 2; extra = 0; settings = t1 }, record { which = header.TheVariants.Strategy; next = refl; sets = record { short = p1.0; words = (s.strategy, p1.1, refl) }; count = refl; same_extra = refl }, (record { read = 3; extra = 0; settings = t2 }, record { which = header.TheVariants.Margin; next = refl; sets = record { short = p2.0; words = (s.margin, p2.1, refl) }; count = refl; same_extra = refl }, (record { read = 4; extra = 0; settings = t3 }, record { which = header.TheVariants.Deadline; next = refl; sets = record { short = p3.0; words = (s.deadline, p3.1, refl) }; count = refl; same_extra = refl }, (record { read = 5; extra = 0; settings = t4 }, record { which = header.TheVariants.Stable; next = refl; sets = record { short = p4.0; words = (s.stable, p4.1, refl) }; count = refl; same_extra = refl }, (record { read = 6; extra = 0; settings = t5 }, record { which = header.TheVariants.Shards; next = refl; sets = record { short = p5.0; words = (s.shards, p5.1, refl) }; count = refl; same_extra = refl }, (record { read = 7; extra = 0; settings = t6 }, record { which = header.TheVariants.Buffer; next = refl; sets = record { short = p6.0; words = (s.buffer, p6.1, refl) }; count = refl; same_extra = refl }, (record { read = 8; extra = 0; settings = t7 }, record { which = header.TheVariants.Threshold; next = refl; sets = record { short = p7.0; words = (s.threshold, p7.1, refl) }; count = refl; same_extra = refl }, (record { read = 9; extra = 0; settings = t8 }, record { which = header.TheVariants.Limit; next = refl; sets = record { short = p8.0; words = (s.limit, p8.1, refl) }; count = refl; same_extra = refl }, (λ i. record { read = 9; extra = 0; settings = record s { weakly = none.weakly i; role = none.role i } }))))))))))
+    (record { read = 1; extra = 0; settings = t0 }, record { which = header.TheVariants.Listed; next = refl; sets = record { short = p0.0; words = (s.listed, p0.1, refl) }; count = refl; same_extra = refl }, (record { read = 2; extra = 0; settings = t1 }, record { which = header.TheVariants.Strategy; next = refl; sets = record { short = p1.0; words = (s.strategy, p1.1, refl) }; count = refl; same_extra = refl }, (record { read = 3; extra = 0; settings = t2 }, record { which = header.TheVariants.Margin; next = refl; sets = record { short = p2.0; words = (s.margin, p2.1, refl) }; count = refl; same_extra = refl }, (record { read = 4; extra = 0; settings = t3 }, record { which = header.TheVariants.Deadline; next = refl; sets = record { short = p3.0; words = (s.deadline, p3.1, refl) }; count = refl; same_extra = refl }, (record { read = 5; extra = 0; settings = t4 }, record { which = header.TheVariants.Stable; next = refl; sets = record { short = p4.0; words = (s.stable, p4.1, refl) }; count = refl; same_extra = refl }, (record { read = 6; extra = 0; settings = t5 }, record { which = header.TheVariants.Shards; next = refl; sets = record { short = p5.0; words = (s.shards, p5.1, refl) }; count = refl; same_extra = refl }, (record { read = 7; extra = 0; settings = t6 }, record { which = header.TheVariants.Buffer; next = refl; sets = record { short = p6.0; words = (s.buffer, p6.1, refl) }; count = refl; same_extra = refl }, (record { read = 8; extra = 0; settings = t7 }, record { which = header.TheVariants.Threshold; next = refl; sets = record { short = p7.0; words = (s.threshold, p7.1, refl) }; count = refl; same_extra = refl }, (record { read = 9; extra = 0; settings = t8 }, record { which = header.TheVariants.Limit; next = refl; sets = record { short = p8.0; words = (s.limit, p8.1, refl) }; count = refl; same_extra = refl }, (λ i. record { read = 9; extra = 0; settings = record s { weakly = none.weakly i; role = none.role i; types = none.types i } }))))))))))

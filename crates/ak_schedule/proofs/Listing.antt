@@ -11,12 +11,12 @@ use Rattle.ak_address.proofs.SpellingLemmas.{address_same}
 use Rattle.ak_schedule.specs.declared.fault.LineFault.{LineFault}
 use Rattle.ak_schedule.specs.declared.fault.LineFault.TheVariants.{Malformed, BadHeader, NoMemory}
 use Rattle.ak_settings.specs.declared.settings.Strategy.{Strategy}
-use Rattle.ak_settings.specs.Settings.{IsListing, IsRole, is_listed}
+use Rattle.ak_settings.specs.Settings.{IsListing, IsRole, AreTypes, is_listed}
 use Rattle.ak_address.proofs.AmongLaws.{contains_from, among_means}
 use Rattle.ak_address.proofs.Elements.{contains_first, contains_rest, contains_nothing, first_or_rest}
 use Rattle.ak_schedule.specs.Draft.{RefusesValue, SpellsAddresses, SpellsNext}
 use Rattle.ak_schedule.proofs.OneWay.{same_addresses}
-use Rattle.ak_schedule.specs.Schedule.{SpellsRole, SpellsStrategy}
+use Rattle.ak_schedule.specs.Schedule.{SpellsRole, SpellsStrategy, SpellsTypes}
 
 -- the names up to here spell these addresses, and each list that all names spell begins with them
 pub record SpelledSoFar (names rest : List (List ℕ)) (listed : List AddressModel) : Type 0 where
@@ -133,3 +133,28 @@ role_unlisted ws names listed role cut spelt never r s =
 
 pub role_spelled : (ws names : List (List ℕ)) (listed role : List AddressModel) → ws ≡ codes "role" ∷ names → SpellsAddresses names role → list_all (λ a. is_listed listed a) role ≡ true → SpellsRole ws listed role
 role_spelled ws names listed role cut spelt all = (names, cut, spelt.0, record { listing = spelt.1; among = all_there listed role all })
+
+-- ---- the names of types
+types_words : (ws names types : List (List ℕ)) (shards : ℕ) → ws ≡ codes "types" ∷ names → SpellsTypes ws shards types → types ≡ names
+types_words ws names types shards cut s = let whole : codes "types" ∷ types ≡ codes "types" ∷ names = sym s.0 ∙ cut in cc
+
+pub types_spelled : (ws names types : List (List ℕ)) (shards : ℕ) → ws ≡ codes "types" ∷ names → types ≡ names → 1 ≤ length types → AreTypes shards types → SpellsTypes ws shards types
+types_spelled ws names types shards cut same some are = (cut ∙ ap (λ (l : List (List ℕ)). codes "types" ∷ l) (sym same), some, are)
+
+-- where the names are none, or may not be types, no types are spelled
+pub types_refused : (ws names types : List (List ℕ)) (shards : ℕ) → ws ≡ codes "types" ∷ names → types ≡ names → (1 ≤ length types → AreTypes shards types → ⊥)
+    → (other : List (List ℕ)) → SpellsTypes ws shards other → ⊥
+types_refused ws names types shards cut same fails other s =
+    let is : other ≡ types = types_words ws names other shards cut s ∙ sym same in
+    fails (subst (λ (l : List (List ℕ)). 1 ≤ length l) is s.1) (subst (AreTypes shards) is s.2)
+
+-- ---- the words of a line, one after another
+pub one_word_more : (line rest later before now : List (List ℕ)) (word : List ℕ) → rest ≡ word ∷ later → now ≡ before ++ word ∷ [] → before ++ rest ≡ line → now ++ later ≡ line
+one_word_more line rest later before now word cut pushed so_far =
+    ap (λ (l : List (List ℕ)). l ++ later) pushed ∙ append_assoc before (word ∷ []) later ∙ ap (λ (l : List (List ℕ)). before ++ l) (sym cut) ∙ so_far
+
+pub all_words : (line rest texts : List (List ℕ)) → rest ≡ [] → texts ++ rest ≡ line → texts ≡ line
+all_words line rest texts none so_far = sym (append_nil texts) ∙ ap (λ (l : List (List ℕ)). texts ++ l) (sym none) ∙ so_far
+  where
+    append_nil : (xs : List (List ℕ)) → xs ++ [] ≡ xs
+    append_nil xs = search rules

@@ -1,5 +1,5 @@
 -- A line is read in one way at most.
-use Rattle.std.proofs.Common.{◌≡◌, ℕ, nat_eq, ◌+◌, Bool, true, false, if◌then◌else◌, List, [], ◌∷◌, length, zero, suc, sym, ◌∙◌, ap, subst, refl, codes, arith}
+use Rattle.std.proofs.Common.{◌≡◌, ℕ, nat_eq, ◌+◌, ◌<◌, Bool, true, false, if◌then◌else◌, List, [], ◌∷◌, length, zero, suc, sym, ◌∙◌, ap, subst, refl, codes, arith}
 use Rattle.std.specs.Prelude.{Some, slice_get}
 use Rattle.std.specs.Cmp.Lexicographic.{pointwise}
 use Rattle.std.specs.List.{AllZip}
@@ -9,12 +9,12 @@ use Rattle.ak_address.proofs.SpellingLemmas.{number_same, address_same, unique_s
 use Rattle.ak_schedule.specs.declared.event.Event.{Event}
 use Rattle.ak_schedule.specs.declared.event.Event.TheVariants.{Start, Found, Join, Tick, Deliver, Leave, Down, Offer, Stop}
 use Rattle.ak_schedule.specs.declared.draft.Extra.{Extra}
-use Rattle.ak_schedule.specs.declared.draft.Extra.TheVariants.{Weakly, Role}
+use Rattle.ak_schedule.specs.declared.draft.Extra.TheVariants.{Weakly, Role, Types}
 use Rattle.ak_schedule.specs.declared.draft.Header as header
 use Rattle.ak_settings.specs.declared.settings.Strategy.{Strategy}
 use Rattle.ak_settings.specs.declared.settings.Strategy.TheVariants.{StaticQuorum, KeepMajority, KeepOldest, DownAll}
 use Rattle.ak_settings.specs.Settings.{SettingsModel}
-use Rattle.ak_schedule.specs.Schedule.{Sets, SetsExtra, SetsHeader, SpellsEvent, SpellsWords, SpellsOption, SpellsSetting, SpellsStrategy, SpellsListing, SpellsRole, extra_name, extras, switch_word}
+use Rattle.ak_schedule.specs.Schedule.{Sets, SetsExtra, SetsHeader, SpellsEvent, SpellsWords, SpellsOption, SpellsSetting, SpellsStrategy, SpellsListing, SpellsRole, SpellsTypes, NamesExtra, extra_name, extras, switch_word}
 use Rattle.ak_schedule.specs.Draft.{Drafted, ReadsExtra, ReadsHeader}
 use Rattle.ak_schedule.specs.Line.{words}
 use Rattle.ak_schedule.specs.Kind.{kind_name}
@@ -147,7 +147,7 @@ same_settings header.TheVariants.Deadline ws old one other h g =
 same_settings header.TheVariants.Stable ws old one other h g =
     h.2 ∙ ap (λ (x : ℕ). record old { stable = x }) (same_setting (codes "stable") 1000000 ws h.0 g.0 h.1 g.1) ∙ sym g.2
 same_settings header.TheVariants.Shards ws old one other h g =
-    h.2 ∙ ap (λ (x : ℕ). record old { shards = x }) (same_setting (codes "shards") 1000 ws h.0 g.0 h.1 g.1) ∙ sym g.2
+    h.2 ∙ ap (λ (x : ℕ). record old { shards = x; types = [] }) (same_setting (codes "shards") 1000 ws h.0 g.0 h.1 g.1) ∙ sym g.2
 same_settings header.TheVariants.Buffer ws old one other h g =
     h.2 ∙ ap (λ (x : ℕ). record old { buffer = x }) (same_setting (codes "buffer") 100000 ws h.0 g.0 h.1 g.1) ∙ sym g.2
 same_settings header.TheVariants.Threshold ws old one other h g =
@@ -174,34 +174,69 @@ same_role ws listed one other h g =
     let names : h.0 ≡ g.0 = cc in
     same_addresses g.0 one other (subst (λ (ns : List (List ℕ)). AllZip SpellsAddress ns one) names h.2) g.2
 
+same_types : (ws : List (List ℕ)) (shards : ℕ) (one other : List (List ℕ)) → SpellsTypes ws shards one → SpellsTypes ws shards other → one ≡ other
+same_types ws shards one other h g = let whole : codes "types" ∷ one ≡ codes "types" ∷ other = sym h.0 ∙ g.0 in cc
+
 same_extra : (which : Extra) (ws : List (List ℕ)) (old one other : SettingsModel) → SetsExtra which ws old one → SetsExtra which ws old other → one ≡ other
 same_extra Weakly ws old one other h g =
     h.2 ∙ ap (λ (x : ℕ). record old { weakly = x }) (same_option (codes "weakly") 1000000 ws h.0 g.0 h.1 g.1) ∙ sym g.2
 same_extra Role ws old one other h g =
     h.2 ∙ ap (λ (x : List AddressModel). record old { role = x }) (same_role ws old.listed h.0 g.0 h.1 g.1) ∙ sym g.2
+same_extra Types ws old one other h g =
+    h.2 ∙ ap (λ (x : List (List ℕ)). record old { types = x }) (same_types ws old.shards h.0 g.0 h.1 g.1) ∙ sym g.2
 
 -- its first word is its name, and tells which it is
 pub begins_extra : (which : Extra) (ws : List (List ℕ)) (old new : SettingsModel) → SetsExtra which ws old new → (rest : List (List ℕ)) × (ws ≡ extra_name which ∷ rest)
 begins_extra Weakly ws old new h = (h.1.0 ∷ [], h.1.1)
 begins_extra Role ws old new h = (h.1.0, h.1.1)
+begins_extra Types ws old new h = (h.0, h.1.0)
 
 told_extra : (one other : Extra) → extra_name one ≡ extra_name other → one ≡ other
 told_extra Weakly Weakly same = refl
 told_extra Weakly Role same = let n = ap length same in absurd (omega (arith, n))
+told_extra Weakly Types same = let n = ap length same in absurd (omega (arith, n))
 told_extra Role Weakly same = let n = ap length same in absurd (omega (arith, n))
 told_extra Role Role same = refl
+told_extra Role Types same = let n = ap length same in absurd (omega (arith, n))
+told_extra Types Weakly same = let n = ap length same in absurd (omega (arith, n))
+told_extra Types Role same = let n = ap length same in absurd (omega (arith, n))
+told_extra Types Types same = refl
 
 -- it stands at one index
 abbrev pub extra_index : Extra → ℕ
 extra_index Weakly = 0
 extra_index Role = 1
+extra_index Types = 2
 
 pub at_index : (index : ℕ) (which : Extra) → slice_get extras index ≡ Some which → index ≡ extra_index which
 at_index zero Weakly is = refl
 at_index zero Role is = absurd (cc)
+at_index zero Types is = absurd (cc)
 at_index (suc zero) Weakly is = absurd (cc)
 at_index (suc zero) Role is = refl
-at_index (suc (suc index)) which is = absurd (cc)
+at_index (suc zero) Types is = absurd (cc)
+at_index (suc (suc zero)) Weakly is = absurd (cc)
+at_index (suc (suc zero)) Role is = absurd (cc)
+at_index (suc (suc zero)) Types is = refl
+at_index (suc (suc (suc index))) which is = absurd (cc)
+
+-- one whose place is past may not come any more
+pub extra_too_late : (which : Extra) (line : List ℕ) (old : Drafted) (rest : List (List ℕ)) → words line ≡ extra_name which ∷ rest → extra_index which < old.extra
+    → (next : Drafted) → ReadsExtra line old next → ⊥
+extra_too_late which line old rest named late next r =
+    let here = begins_extra r.which (words line) old.settings next.settings r.sets.words in
+    let names : extra_name r.which ≡ extra_name which = cc (here.1, named) in
+    let same : r.which ≡ which = told_extra r.which which names in
+    let index : r.index ≡ extra_index which = at_index r.index r.which r.next ∙ ap extra_index same in
+    let later = r.later in
+    omega (arith, index, later, late)
+
+-- a first word that is none of theirs
+pub names_no_extra : (ws : List (List ℕ)) → ((rest : List (List ℕ)) → ws ≡ codes "weakly" ∷ rest → ⊥) → ((rest : List (List ℕ)) → ws ≡ codes "role" ∷ rest → ⊥)
+    → ((rest : List (List ℕ)) → ws ≡ codes "types" ∷ rest → ⊥) → NamesExtra ws → ⊥
+names_no_extra ws weakly role types (Weakly, rest, is) = weakly rest is
+names_no_extra ws weakly role types (Role, rest, is) = role rest is
+names_no_extra ws weakly role types (Types, rest, is) = types rest is
 
 pub one_extra : (line : List ℕ) (old one other : Drafted) → ReadsExtra line old one → ReadsExtra line old other → one ≡ other
 one_extra line old one other h g =

@@ -8,7 +8,7 @@ use Rattle.std.proofs.lemmas.Bool.Decides.{nat_tests, Decides-eqb}
 use Rattle.ak_schedule.specs.declared.event.Event.{Event}
 use Rattle.ak_schedule.specs.declared.event.Event.TheVariants.{Start, Found, Join, Tick, Deliver, Leave, Down, Offer, Stop}
 use Rattle.ak_schedule.specs.declared.draft.Extra.{Extra}
-use Rattle.ak_schedule.specs.declared.draft.Extra.TheVariants.{Weakly, Role}
+use Rattle.ak_schedule.specs.declared.draft.Extra.TheVariants.{Weakly, Role, Types}
 use Rattle.ak_schedule.specs.declared.draft.Header as header
 use Rattle.ak_settings.specs.declared.settings.Strategy.{Strategy}
 use Rattle.ak_settings.specs.declared.settings.Strategy.TheVariants.{StaticQuorum, KeepMajority, KeepOldest, DownAll}
@@ -78,17 +78,19 @@ no_header which line old new passed sets = header_byte which (words line) old ne
 extra_byte : (ws : List (List ℕ)) → NamesExtra ws → first_byte ws ≡ 35 → ⊥
 extra_byte ws (Weakly, rest, is) same = not_comment 119 (first_byte ws) (ap first_byte is) refl same
 extra_byte ws (Role, rest, is) same = not_comment 114 (first_byte ws) (ap first_byte is) refl same
+extra_byte ws (Types, rest, is) same = not_comment 116 (first_byte ws) (ap first_byte is) refl same
 
 pub no_extra : (line : List ℕ) → IsPassedOver line → NamesExtra (words line) → ⊥
 no_extra line passed names = extra_byte (words line) names (passed_byte line passed)
 
 -- ---- the first words of events are those of no optional header
 abbrev is_extra_word : List ℕ → Bool
-is_extra_word word = pointwise nat_eq word (codes "weakly") || pointwise nat_eq word (codes "role")
+is_extra_word word = pointwise nat_eq word (codes "weakly") || (pointwise nat_eq word (codes "role") || pointwise nat_eq word (codes "types"))
 
 of_extra : (which : Extra) → is_extra_word (extra_name which) ≡ true
 of_extra Weakly = refl
 of_extra Role = refl
+of_extra Types = refl
 
 of_event : (k : kind.Kind) → is_extra_word (kind_name k) ≡ false
 of_event kind.Start = refl

@@ -9,8 +9,8 @@ use Rattle.ak_schedule.specs.declared.draft.Extra.{Extra}
 use Rattle.ak_schedule.specs.declared.draft.Header.{Header}
 use Rattle.ak_schedule.specs.declared.fault.LineFault.{LineFault}
 use Rattle.ak_schedule.specs.declared.fault.LineFault.TheVariants.{Malformed, BadHeader, NoMemory}
-use Rattle.ak_settings.specs.Settings.{SettingsModel, IsListing, IsRole, IsStrategy, IsWithin, coded_settings}
-use Rattle.ak_schedule.specs.Schedule.{headers, extras, NamesExtra, NamesRole, SetsHeader, SetsExtraHeader}
+use Rattle.ak_settings.specs.Settings.{SettingsModel, IsListing, IsRole, AreTypes, IsStrategy, IsWithin, coded_settings}
+use Rattle.ak_schedule.specs.Schedule.{headers, extras, NamesExtra, NamesList, SetsHeader, SetsExtraHeader}
 use Rattle.ak_schedule.specs.Line.{words}
 
 -- how many headers are read, the index of the first optional header that may still come, and the settings by then
@@ -39,6 +39,7 @@ first_draft = record {
     limit = 1;
     weakly = 0;
     role = [];
+    types = [];
   };
 }
 
@@ -57,6 +58,7 @@ pub record IsDraft (d : Drafted) : Type 0 where
   pub limit : IsWithin 1000 d.settings.limit
   pub weakly : d.settings.weakly ≤ 1000000
   pub role : 1 ≤ d.read → IsRole d.settings.listed d.settings.role
+  pub types : AreTypes d.settings.shards d.settings.types
 
 -- the line is the next header, and sets its setting
 pub record ReadsHeader (line : List ℕ) (old new : Drafted) : Type 0 where
@@ -91,13 +93,13 @@ ReadsExtras [] old new = new ≡ old
 ReadsExtras (line ∷ rest) old new = (next : Drafted) × ReadsExtra line old next × ReadsExtras rest next new
 
 -- whether the line is an optional header; refused exactly where its first word is that of one, and it is none that may still come;
--- memory runs out at a role alone, which holds addresses while it is read
+-- memory runs out at a role and at types alone, which hold addresses or names while they are read
 abbrev pub ExtraAnswers : Result Bool LineFault → List ℕ → Drafted → Drafted → Type 0
 ExtraAnswers (Ok true) line old new = ReadsExtra line old new
 ExtraAnswers (Ok false) line old new = (new ≡ old) × (NamesExtra (words line) → ⊥)
 ExtraAnswers (Err Malformed) line old new = ⊥
 ExtraAnswers (Err BadHeader) line old new = (new ≡ old) × NamesExtra (words line) × ((next : Drafted) → ReadsExtra line old next → ⊥)
-ExtraAnswers (Err (NoMemory _)) line old new = (new ≡ old) × NamesRole (words line)
+ExtraAnswers (Err (NoMemory _)) line old new = (new ≡ old) × NamesList (words line)
 
 -- the next header, and whether it is the ninth; refused exactly where the line is not the next header; memory runs out at the
 -- first header alone, which holds addresses while it is read

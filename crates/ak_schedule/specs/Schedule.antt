@@ -1,5 +1,5 @@
 -- The grammar of a recorded schedule: nine header lines and then events, one a line (this project's format).
-use Rattle.std.specs.Prelude.{◌≡◌, ℕ, ◌-◌, ◌^◌, ◌<◌, ◌≤◌, Bool, true, false, List, [], ◌∷◌, ◌++◌, length, codes}
+use Rattle.std.specs.Prelude.{◌≡◌, ℕ, ◌-◌, ◌^◌, ◌<◌, ◌≤◌, ◌⊎◌, Bool, true, false, List, [], ◌∷◌, ◌++◌, length, codes}
 use Rattle.std.specs.List.{AllZip}
 use Rattle.ak_field.specs.Ranges.{IsEntity}
 use Rattle.std.specs.Fmt.{decimal}
@@ -12,7 +12,7 @@ use Rattle.ak_schedule.specs.declared.event.Event.TheVariants.{Start, Found, Joi
 use Rattle.ak_schedule.specs.declared.draft.Extra as extra
 use Rattle.ak_schedule.specs.declared.draft.Header as header
 use Rattle.ak_schedule.specs.Line.{words, most_bytes}
-use Rattle.ak_settings.specs.Settings.{SettingsModel, IsListing, IsRole}
+use Rattle.ak_settings.specs.Settings.{SettingsModel, IsListing, IsRole, AreTypes}
 
 -- a word is a number from least to most
 pub record SpellsNumber (word : List ℕ) (least most n : ℕ) : Type 0 where
@@ -40,7 +40,8 @@ abbrev pub SpellsListing : List (List ℕ) → List AddressModel → Type 0
 SpellsListing ws listed =
     (names : List (List ℕ)) × (ws ≡ codes "listed" ∷ names) × AllZip SpellsAddress names listed × IsListing listed
 
--- a header line with these words gives the setting its value, and leaves the others; each address that is listed has the role
+-- a header line with these words gives the setting its value, and leaves the others; each address that is listed has the role, and
+-- there are no types yet that have shards
 abbrev pub Sets : header.Header → List (List ℕ) → SettingsModel → SettingsModel → Type 0
 Sets header.TheVariants.Listed ws old new =
     (listed : List AddressModel) × SpellsListing ws listed × (new ≡ record old { listed = listed; role = listed })
@@ -49,7 +50,7 @@ Sets header.TheVariants.Strategy ws old new =
 Sets header.TheVariants.Margin ws old new = (n : ℕ) × SpellsSetting (codes "margin") 1000000 ws n × (new ≡ record old { margin = n })
 Sets header.TheVariants.Deadline ws old new = (n : ℕ) × SpellsSetting (codes "deadline") 1000000 ws n × (new ≡ record old { deadline = n })
 Sets header.TheVariants.Stable ws old new = (n : ℕ) × SpellsSetting (codes "stable") 1000000 ws n × (new ≡ record old { stable = n })
-Sets header.TheVariants.Shards ws old new = (n : ℕ) × SpellsSetting (codes "shards") 1000 ws n × (new ≡ record old { shards = n })
+Sets header.TheVariants.Shards ws old new = (n : ℕ) × SpellsSetting (codes "shards") 1000 ws n × (new ≡ record old { shards = n; types = [] })
 Sets header.TheVariants.Buffer ws old new = (n : ℕ) × SpellsSetting (codes "buffer") 100000 ws n × (new ≡ record old { buffer = n })
 Sets header.TheVariants.Threshold ws old new = (n : ℕ) × SpellsSetting (codes "threshold") 1000 ws n × (new ≡ record old { threshold = n })
 Sets header.TheVariants.Limit ws old new = (n : ℕ) × SpellsSetting (codes "limit") 1000 ws n × (new ≡ record old { limit = n })
@@ -62,27 +63,33 @@ SpellsOption name most ws n = (word : List ℕ) × (ws ≡ name ∷ word ∷ [])
 abbrev pub extra_name : extra.Extra → List ℕ
 extra_name extra.TheVariants.Weakly = codes "weakly"
 extra_name extra.TheVariants.Role = codes "role"
+extra_name extra.TheVariants.Types = codes "types"
 
 -- a line with these words begins with the word of an optional header
 abbrev pub NamesExtra : List (List ℕ) → Type 0
 NamesExtra ws = (which : extra.Extra) × (rest : List (List ℕ)) × (ws ≡ extra_name which ∷ rest)
 
--- a line with these words begins with the word of a role
-abbrev pub NamesRole : List (List ℕ) → Type 0
-NamesRole ws = (rest : List (List ℕ)) × (ws ≡ extra_name extra.TheVariants.Role ∷ rest)
+-- a line with these words begins with the word of an optional header that lists addresses or names
+abbrev pub NamesList : List (List ℕ) → Type 0
+NamesList ws = (rest : List (List ℕ)) × ((ws ≡ extra_name extra.TheVariants.Role ∷ rest) ⊎ (ws ≡ extra_name extra.TheVariants.Types ∷ rest))
 
 -- some of the listed addresses
 abbrev pub SpellsRole : List (List ℕ) → List AddressModel → List AddressModel → Type 0
 SpellsRole ws listed role = (names : List (List ℕ)) × (ws ≡ codes "role" ∷ names) × AllZip SpellsAddress names role × IsRole listed role
 
+-- 1 to 8 different names of types, each of which has so many shards
+abbrev pub SpellsTypes : List (List ℕ) → ℕ → List (List ℕ) → Type 0
+SpellsTypes ws shards types = (ws ≡ codes "types" ∷ types) × (1 ≤ length types) × AreTypes shards types
+
 -- an optional header line with these words gives the setting its value, and leaves the others
 abbrev pub SetsExtra : extra.Extra → List (List ℕ) → SettingsModel → SettingsModel → Type 0
 SetsExtra extra.TheVariants.Weakly ws old new = (n : ℕ) × SpellsOption (codes "weakly") 1000000 ws n × (new ≡ record old { weakly = n })
 SetsExtra extra.TheVariants.Role ws old new = (role : List AddressModel) × SpellsRole ws old.listed role × (new ≡ record old { role = role })
+SetsExtra extra.TheVariants.Types ws old new = (types : List (List ℕ)) × SpellsTypes ws old.shards types × (new ≡ record old { types = types })
 
 -- the optional headers, in their order
 abbrev pub extras : List extra.Extra
-extras = extra.TheVariants.Weakly ∷ extra.TheVariants.Role ∷ []
+extras = extra.TheVariants.Weakly ∷ extra.TheVariants.Role ∷ extra.TheVariants.Types ∷ []
 
 -- the header that comes after so many
 abbrev pub headers : List header.Header
@@ -106,6 +113,7 @@ SpellsValue header.TheVariants.Limit ws s = SpellsSetting (codes "limit") 1000 w
 pub record SaysNoMore (s : SettingsModel) : Type 0 where
   pub weakly : s.weakly ≡ 0
   pub role : s.role ≡ s.listed
+  pub types : s.types ≡ []
 
 -- nine header lines, none of them too long, spell these settings, a line for each in the order of the headers
 abbrev pub SpellsSettings : List (List ℕ) → SettingsModel → Type 0

@@ -3,10 +3,12 @@ ghost use Rattle.ak_schedule.specs.Line.{words};
 ghost use Rattle.ak_schedule.specs.Draft.{first_draft, HeaderAnswers, NextAnswers, ExtraAnswers};
 
 use crate::fault::LineFault;
-use crate::header::{read_listing, read_option, read_role, read_setting, read_strategy};
+use crate::header::{
+    read_listing, read_option, read_role, read_setting, read_strategy, read_types,
+};
 use crate::kind::is_text;
 use crate::line::{MOST_BYTES, next_word};
-use ak_address::Address;
+use ak_address::{Address, Text};
 use ak_settings::{MOST_BUFFER, MOST_SHARDS, MOST_TICKS, Settings, Strategy, copy_addresses};
 use std::alloc::Global;
 use std::marker::Model;
@@ -32,6 +34,7 @@ pub enum Header {
 pub enum Extra {
     Weakly,
     Role,
+    Types,
 }
 
 /// The header lines of a schedule, as far as they are read. Until a line sets it a setting has a first
@@ -52,6 +55,7 @@ pub struct Draft {
     limit: u32,
     weakly: u32,
     role: Vec<Address>,
+    types: Vec<Text>,
 }
 
 impl Model for Draft {
@@ -61,9 +65,9 @@ impl Model for Draft {
 
     ghost coded = { coded_draft };
 
-    ghost view = { λ d. record { read = d.read; extra = d.extra; settings = record { listed = d.listed.items; strategy = d.strategy; margin = d.margin; deadline = d.deadline; stable = d.stable; shards = d.shards; buffer = d.buffer; threshold = d.threshold; limit = d.limit; weakly = d.weakly; role = d.role.items } } };
+    ghost view = { λ d. record { read = d.read; extra = d.extra; settings = record { listed = d.listed.items; strategy = d.strategy; margin = d.margin; deadline = d.deadline; stable = d.stable; shards = d.shards; buffer = d.buffer; threshold = d.threshold; limit = d.limit; weakly = d.weakly; role = d.role.items; types = d.types.items } } };
 
-    ghost invariant = { λ d. IsDraft (record { read = d.read; extra = d.extra; settings = record { listed = d.listed.items; strategy = d.strategy; margin = d.margin; deadline = d.deadline; stable = d.stable; shards = d.shards; buffer = d.buffer; threshold = d.threshold; limit = d.limit; weakly = d.weakly; role = d.role.items } }) };
+    ghost invariant = { λ d. IsDraft (record { read = d.read; extra = d.extra; settings = record { listed = d.listed.items; strategy = d.strategy; margin = d.margin; deadline = d.deadline; stable = d.stable; shards = d.shards; buffer = d.buffer; threshold = d.threshold; limit = d.limit; weakly = d.weakly; role = d.role.items; types = d.types.items } }) };
 }
 
 impl Draft {
@@ -85,6 +89,7 @@ impl Draft {
             limit: 1,
             weakly: 0,
             role: Vec::new(alloc),
+            types: Vec::new(alloc),
         }
     }
 
@@ -106,7 +111,7 @@ impl Draft {
     /// Reads an optional header line: true exactly where the line is one that may still come, false exactly where its first word
     /// is that of none. Refused as `BadHeader` exactly where it is that of one, and the line is not spelled so, comes twice or
     /// belongs before another that was read. At every error the draft is as it was. The optional headers, their order and their
-    /// ranges are this project's choice. Only a line that may be a role takes memory.
+    /// ranges are this project's choice. Only a line that may be a role, or types, takes memory.
     pub fn extra(&mut self, alloc: Global, line: &[u8]) -> Result<bool, LineFault>
         requires read { self.old.read ≡ HEADERS }
         requires short { length line.now ≤ MOST_BYTES }
@@ -157,6 +162,7 @@ impl Draft {
             limit,
             weakly,
             role,
+            types,
         } = self;
         Ok(Settings {
             listed,
@@ -170,12 +176,13 @@ impl Draft {
             limit,
             weakly,
             role,
+            types,
         })
     }
 }
 
 impl Draft {
-    // Reads the optional header line of a role, or one with the word of none.
+    // Reads the optional header line of a role, or one that comes after it, or one with the word of none.
     fn set_role(&mut self, alloc: Global, line: &[u8]) -> Result<bool, LineFault>
         requires read { self.old.read ≡ HEADERS }
         requires short { length line.now ≤ MOST_BYTES }
@@ -186,13 +193,35 @@ impl Draft {
             return Ok(false);
         };
         if !is_text(first, b"role") {
-            return Ok(false);
+            return self.set_types(alloc, line);
         }
         if self.extra > 1 {
             return Err(LineFault::BadHeader);
         }
         self.role = read_role(alloc, line, &self.listed)?;
         self.extra = 2;
+        Ok(true)
+    }
+
+    // Reads the optional header line of types, or one with the word of none.
+    fn set_types(&mut self, alloc: Global, line: &[u8]) -> Result<bool, LineFault>
+        requires read { self.old.read ≡ HEADERS }
+        requires short { length line.now ≤ MOST_BYTES }
+        requires other { (rest : List (List ℕ)) → words line.now ≡ codes "weakly" ∷ rest → ⊥ }
+        requires no_role { (rest : List (List ℕ)) → words line.now ≡ codes "role" ∷ rest → ⊥ }
+        ensures { ExtraAnswers result line.now self.old self.new }
+    {
+        let Some((first, _)) = next_word(line) else {
+            return Ok(false);
+        };
+        if !is_text(first, b"types") {
+            return Ok(false);
+        }
+        if self.extra > 2 {
+            return Err(LineFault::BadHeader);
+        }
+        self.types = read_types(alloc, line, self.shards)?;
+        self.extra = 3;
         Ok(true)
     }
 
@@ -212,7 +241,11 @@ impl Draft {
             2 => self.margin = read_setting(line, b"margin", MOST_TICKS)?,
             3 => self.deadline = read_setting(line, b"deadline", MOST_TICKS)?,
             4 => self.stable = read_setting(line, b"stable", MOST_TICKS)?,
-            5 => self.shards = read_setting(line, b"shards", MOST_SHARDS)?,
+            5 => {
+                let shards = read_setting(line, b"shards", MOST_SHARDS)?;
+                self.types = Vec::new(alloc);
+                self.shards = shards;
+            }
             6 => self.buffer = read_setting(line, b"buffer", MOST_BUFFER)?,
             7 => self.threshold = read_setting(line, b"threshold", MOST_SHARDS)?,
             _ => self.limit = read_setting(line, b"limit", MOST_SHARDS)?,

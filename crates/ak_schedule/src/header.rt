@@ -1,17 +1,17 @@
-ghost use Rattle.std.specs.Prelude.{◌≡◌, [], ◌∷◌, MatchOption, MatchResult, codes};
+ghost use Rattle.std.specs.Prelude.{◌≡◌, [], ◌∷◌, MatchOption, MatchResult, IfOk, codes};
 ghost use Rattle.std.specs.List.{list_all};
 ghost use Rattle.ak_settings.specs.Settings.{is_listed};
 ghost use Rattle.ak_address.specs.Spelling.{SpellsAddress};
 ghost use Rattle.ak_schedule.specs.Line.{words};
 ghost use Rattle.ak_schedule.specs.Draft.{RefusesHeader, RefusesValue, SpellsAddresses, SpellsNext};
-ghost use Rattle.ak_schedule.specs.Schedule.{SpellsListing, SpellsOption, SpellsRole, SpellsSetting, SpellsStrategy};
+ghost use Rattle.ak_schedule.specs.Schedule.{SpellsListing, SpellsOption, SpellsRole, SpellsSetting, SpellsStrategy, SpellsTypes};
 
 use crate::fault::LineFault;
 use crate::kind::is_text;
 use crate::line::{next_word, one_word, two_words};
-use ak_address::{Address, AddressFault, contains_address, parse_address, parse_number};
-use ak_settings::{MOST_LISTED, MOST_QUORUM, Strategy};
-use std::alloc::Global;
+use ak_address::{Address, AddressFault, Text, contains_address, parse_address, parse_number};
+use ak_settings::{MOST_LISTED, MOST_QUORUM, Strategy, are_types};
+use std::alloc::{AllocError, Global};
 
 /// The number of a header line that has this name, from 1 to the most. Refused exactly where the line is
 /// no such header.
@@ -186,6 +186,43 @@ fn are_among(role: &[Address], listed: &[Address]) -> bool
     ensures { result ≡ list_all (λ a. is_listed listed.now a) role.now }
 {
     role.iter().all(|each| contains_address(listed, each))
+}
+
+/// The names of types of a header line, each of which has so many shards. Refused as `BadHeader` exactly where the line is no such
+/// header.
+pub(crate) fn read_types(alloc: Global, line: &[u8], shards: u32) -> Result<Vec<Text>, LineFault>
+    ensures { MatchResult result
+        (λ types. SpellsTypes (words line.now) shards types.items)
+        (RefusesValue (SpellsTypes (words line.now) shards)) }
+{
+    let Some((name, rest)) = next_word(line) else {
+        return Err(LineFault::BadHeader);
+    };
+    if !is_text(name, b"types") {
+        return Err(LineFault::BadHeader);
+    }
+    let types = words_of(alloc, rest)?;
+    if types.is_empty() {
+        return Err(LineFault::BadHeader);
+    }
+    if !are_types(shards, &types) {
+        return Err(LineFault::BadHeader);
+    }
+    Ok(types)
+}
+
+// The words of a line. Only memory can fail.
+fn words_of(alloc: Global, line: &[u8]) -> Result<Vec<Text>, AllocError>
+    ensures { IfOk result (λ texts. texts.items ≡ words line.now) }
+{
+    let mut texts = Vec::new(alloc);
+    let mut rest = line;
+    'words: while let Some((word, after_it)) = next_word(rest) {
+        let text = Text::from_bytes(alloc, word)?;
+        texts.push(text)?;
+        rest = after_it;
+    }
+    Ok(texts)
 }
 
 fn read_addresses(alloc: Global, names: &[u8]) -> Result<Vec<Address>, LineFault>

@@ -1,11 +1,13 @@
 -- The settings of a run: at which addresses processes may start, and through which they may join, and the limits of the
 -- rules. Ranges are this project's choice.
-use Rattle.std.specs.Prelude.{◌≡◌, ◌≢◌, ℕ, ◌≤◌, ◌⊎◌, ◌&&◌, Bool, true, false, not, List, [], ◌∷◌, length, Contains, refl}
+use Rattle.std.specs.Prelude.{◌≡◌, ◌≢◌, ℕ, nat_eq, nat_le, ◌*◌, ◌≤◌, ◌⊎◌, ◌&&◌, Bool, true, false, not, IsTrue, List, [], ◌∷◌, length, Contains, refl}
 use Rattle.std.proofs.Common.{inl, inr}
 use Rattle.std.specs.Coded.{Coded, code_by, coded×, coded⊎, coded_ℕ, coded_bool, coded_list}
-use Rattle.std.specs.List.{AllByRecursion, AllPairs}
+use Rattle.std.specs.List.{AllByRecursion, AllPairs, list_all, list_any}
+use Rattle.std.specs.Cmp.Lexicographic.{pointwise}
 use Rattle.ak_address.specs.Distinct.{is_among}
 use Rattle.ak_address.specs.Unique.{AddressModel, IsAddress, coded_address}
+use Rattle.ak_shard_id.specs.Division.{DivisionModel, is_type_name, many_shards, entity_ok, shard_in}
 use Rattle.ak_settings.specs.declared.settings.Strategy.{Strategy}
 use Rattle.ak_settings.specs.declared.settings.Strategy.TheVariants.{StaticQuorum, KeepMajority, KeepOldest, DownAll}
 
@@ -21,6 +23,7 @@ pub record SettingsModel : Type 0 where
   pub limit : ℕ
   pub weakly : ℕ
   pub role : List AddressModel
+  pub types : List (List ℕ)
 
 -- from 1 to most
 pub record IsWithin (most n : ℕ) : Type 0 where
@@ -37,6 +40,22 @@ pub record IsListing (listed : List AddressModel) : Type 0 where
 pub record IsRole (listed role : List AddressModel) : Type 0 where
   pub listing : IsListing role
   pub among : (a : AddressModel) → Contains role a → Contains listed a
+
+-- at most 8 different names of types, each of which has so many shards: at most 1000 for all of them
+pub record AreTypes (shards : ℕ) (types : List (List ℕ)) : Type 0 where
+  pub few : length types ≤ 8
+  pub names : AllByRecursion (λ name. IsTrue (is_type_name name)) types
+  pub different : AllPairs (λ a b. a ≢ b) types
+  pub within : length types * shards ≤ 1000
+
+-- the same but that they are different
+pub record MayBeTypes (shards : ℕ) (types : List (List ℕ)) : Type 0 where
+  pub few : length types ≤ 8
+  pub names : AllByRecursion (λ name. IsTrue (is_type_name name)) types
+  pub within : length types * shards ≤ 1000
+
+abbrev pub may_be_types : ℕ → List (List ℕ) → Bool
+may_be_types shards types = (nat_le (length types) 8 && list_all is_type_name types) && nat_le (length types * shards) 1000
 
 abbrev pub IsStrategy : Strategy → Type 0
 IsStrategy (StaticQuorum quorum) = IsWithin 32 quorum
@@ -56,6 +75,23 @@ pub record IsSettings (s : SettingsModel) : Type 0 where
   pub limit : IsWithin 1000 s.limit
   pub weakly : s.weakly ≤ 1000000
   pub role : IsRole s.listed s.role
+  pub types : AreTypes s.shards s.types
+
+-- how the settings divide entities into shards
+abbrev pub division_of : SettingsModel → DivisionModel
+division_of s = record { types = s.types; each = s.shards }
+
+-- how many shards there are
+abbrev pub number_of_shards : SettingsModel → ℕ
+number_of_shards s = many_shards (division_of s)
+
+-- a text is an entity
+abbrev pub is_entity_in : SettingsModel → List ℕ → Bool
+is_entity_in s entity = entity_ok (division_of s) entity
+
+-- the shard of an entity
+abbrev pub shard_by : SettingsModel → List ℕ → ℕ
+shard_by s entity = shard_in (division_of s) entity
 
 -- an address is listed: a process may start there, and join through it
 abbrev pub is_listed : List AddressModel → AddressModel → Bool
@@ -65,6 +101,15 @@ is_listed listed a = is_among listed a
 abbrev pub all_different : List AddressModel → Bool
 all_different [] = true
 all_different (a ∷ others) = not (is_listed others a) && all_different others
+
+-- a text is one of these
+abbrev pub is_text_among : List (List ℕ) → List ℕ → Bool
+is_text_among texts text = list_any (λ each. pointwise nat_eq each text) texts
+
+-- no text stands twice
+abbrev pub all_texts_differ : List (List ℕ) → Bool
+all_texts_differ [] = true
+all_texts_differ (text ∷ others) = not (is_text_among others text) && all_texts_differ others
 
 -- what is said of shards where nobody chooses: as many shards and as many waiting messages as there may be, a shard moves where
 -- a region has more than one more than another, and three may move at the same time
@@ -94,6 +139,7 @@ of_membership listed strategy margin deadline stable = record {
   limit = default_limit;
   weakly = 0;
   role = listed;
+  types = [];
 }
 
 -- how many addresses a settled view counts at least
@@ -131,9 +177,9 @@ coded_strategy = code_by Stored (coded⊎ coded_ℕ (coded⊎ coded_bool coded_b
 -- settings are stored as their fields, in pairs
 abbrev pub coded_settings : Coded SettingsModel
 coded_settings =
-    code_by (List AddressModel × (Strategy × (ℕ × (ℕ × (ℕ × (ℕ × (ℕ × (ℕ × (ℕ × (ℕ × List AddressModel))))))))))
-    (coded× (coded_list coded_address) (coded× coded_strategy (coded× coded_ℕ (coded× coded_ℕ (coded× coded_ℕ (coded× coded_ℕ (coded× coded_ℕ (coded× coded_ℕ (coded× coded_ℕ (coded× coded_ℕ (coded_list coded_address)))))))))))
-    (λ s. (s.listed, (s.strategy, (s.margin, (s.deadline, (s.stable, (s.shards, (s.buffer, (s.threshold, (s.limit, (s.weakly, s.role)))))))))))
+    code_by (List AddressModel × (Strategy × (ℕ × (ℕ × (ℕ × (ℕ × (ℕ × (ℕ × (ℕ × (ℕ × (List AddressModel × List (List ℕ))))))))))))
+    (coded× (coded_list coded_address) (coded× coded_strategy (coded× coded_ℕ (coded× coded_ℕ (coded× coded_ℕ (coded× coded_ℕ (coded× coded_ℕ (coded× coded_ℕ (coded× coded_ℕ (coded× coded_ℕ (coded× (coded_list coded_address) (coded_list (coded_list coded_ℕ)))))))))))))
+    (λ s. (s.listed, (s.strategy, (s.margin, (s.deadline, (s.stable, (s.shards, (s.buffer, (s.threshold, (s.limit, (s.weakly, (s.role, s.types))))))))))))
     (λ p. record {
       listed = p.0;
       strategy = p.1.0;
@@ -145,6 +191,7 @@ coded_settings =
       threshold = p.1.1.1.1.1.1.1.0;
       limit = p.1.1.1.1.1.1.1.1.0;
       weakly = p.1.1.1.1.1.1.1.1.1.0;
-      role = p.1.1.1.1.1.1.1.1.1.1;
+      role = p.1.1.1.1.1.1.1.1.1.1.0;
+      types = p.1.1.1.1.1.1.1.1.1.1.1;
     })
     (λ _. refl)

@@ -1,9 +1,10 @@
-ghost use Rattle.std.specs.Prelude.{◌≡◌, ◌↔◌, IsTrue, IfOk, Contains, MatchOption};
+ghost use Rattle.std.specs.Prelude.{◌≡◌, ◌↔◌, ◌≤◌, IsTrue, IfOk, Contains, MatchOption};
 ghost use Rattle.ak_settings.specs.Settings as model;
-ghost use Rattle.ak_settings.specs.Settings.{IsSettings, is_listed, settling_size};
+ghost use Rattle.ak_settings.specs.Settings.{IsSettings, is_entity_in, is_listed, number_of_shards, settling_size};
 
 use crate::ranges::{MOST_BUFFER, MOST_SHARDS, are_ticks, is_listing, is_strategy};
-use ak_address::{Address, contains_address};
+use ak_address::{Address, Text, contains_address};
+use ak_shard_id::{entity_ok, many_shards};
 use std::alloc::{AllocError, Global};
 use std::marker::Model;
 
@@ -49,6 +50,9 @@ pub struct Settings {
     pub weakly: u32,
     /// The addresses over which a quorum is counted, 1 to 32 different ones of the listed.
     pub role: Vec<Address>,
+    /// The types that entities have, at most 8 different names of 1 to 32 letters, digits, `-` and `_`; none: entities have no
+    /// types. Each type has `shards` shards, and all of them at most 1,000.
+    pub types: Vec<Text>,
 }
 
 impl Model for Settings {
@@ -58,9 +62,9 @@ impl Model for Settings {
 
     ghost coded = { coded_settings };
 
-    ghost view = { λ s. record { listed = s.listed.items; strategy = s.strategy; margin = s.margin; deadline = s.deadline; stable = s.stable; shards = s.shards; buffer = s.buffer; threshold = s.threshold; limit = s.limit; weakly = s.weakly; role = s.role.items } };
+    ghost view = { λ s. record { listed = s.listed.items; strategy = s.strategy; margin = s.margin; deadline = s.deadline; stable = s.stable; shards = s.shards; buffer = s.buffer; threshold = s.threshold; limit = s.limit; weakly = s.weakly; role = s.role.items; types = s.types.items } };
 
-    ghost invariant = { λ s. IsSettings (record { listed = s.listed.items; strategy = s.strategy; margin = s.margin; deadline = s.deadline; stable = s.stable; shards = s.shards; buffer = s.buffer; threshold = s.threshold; limit = s.limit; weakly = s.weakly; role = s.role.items }) };
+    ghost invariant = { λ s. IsSettings (record { listed = s.listed.items; strategy = s.strategy; margin = s.margin; deadline = s.deadline; stable = s.stable; shards = s.shards; buffer = s.buffer; threshold = s.threshold; limit = s.limit; weakly = s.weakly; role = s.role.items; types = s.types.items }) };
 }
 
 /// Into how many shards entities are divided where nobody chooses: as many as there may be.
@@ -77,7 +81,7 @@ pub const DEFAULT_LIMIT: u32 = 3;
 
 impl Settings {
     /// Settings for who wants membership, a resolver or a singleton, and no shards: of shards they say what a configuration
-    /// says that does not name them (1,000 shards, room for 100,000 messages, threshold 1, limit 3). None exactly where the
+    /// says that does not name them (1,000 shards, room for 100,000 messages, threshold 1, limit 3, no types). None exactly where the
     /// addresses, the strategy or one of the three numbers of ticks is out of its range. Every listed address has the role, which
     /// takes a copy of them: only memory can fail.
     pub fn of_membership(
@@ -113,6 +117,7 @@ impl Settings {
             limit: DEFAULT_LIMIT,
             weakly: 0,
             role,
+            types: Vec::new(alloc),
         }))
     }
 
@@ -152,12 +157,31 @@ impl Settings {
         contains_address(&self.role, at)
     }
 
+    /// How many shards there are, from 1 to 1,000: those of each type, or, without types, `shards`. Takes no memory.
+    #[tactic(auto, using(ak_shard_id::proofs::DivisionLaws::some_shards))]
+    pub fn number_of_shards(&self) -> u32
+        ensures is { result ≡ number_of_shards self.now }
+        ensures some { 1 ≤ result }
+        ensures few { result ≤ MOST_SHARDS }
+    {
+        many_shards(&self.types, self.shards)
+    }
+
+    /// True exactly where the text is an entity: an id of 1 to 64 bytes from `!` to `~`, and with types a type, `/` and an id. Takes
+    /// no memory.
+    pub fn entity_ok(&self, entity: &[u8]) -> bool
+        ensures { result ≡ is_entity_in self.now entity.now }
+    {
+        entity_ok(&self.types, entity)
+    }
+
     /// Equal settings. Only memory can fail.
     pub fn copy(&self, alloc: Global) -> Result<Settings, AllocError>
         ensures { IfOk result (λ copy. copy ≡ self.now) }
     {
         let listed = copy_addresses(alloc, &self.listed)?;
         let role = copy_addresses(alloc, &self.role)?;
+        let types = copy_texts(alloc, &self.types)?;
         Ok(Settings {
             listed,
             strategy: self.strategy,
@@ -170,8 +194,21 @@ impl Settings {
             limit: self.limit,
             weakly: self.weakly,
             role,
+            types,
         })
     }
+}
+
+/// Equal texts. Only memory can fail.
+pub fn copy_texts(alloc: Global, texts: &[Text]) -> Result<Vec<Text>, AllocError>
+    ensures { IfOk result (λ copies. copies.items ≡ texts.now) }
+{
+    let mut copies = Vec::new(alloc);
+    'texts: for each in texts {
+        let copy = each.copy(alloc)?;
+        copies.push(copy)?;
+    }
+    Ok(copies)
 }
 
 /// Equal addresses. Only memory can fail.

@@ -5,6 +5,7 @@ use Rattle.ak_address.specs.Unique.{AddressModel}
 use Rattle.ak_address.proofs.AmongLaws.{contains_from}
 use Rattle.ak_settings.specs.Settings.{IsListing, all_different, is_listed}
 use Rattle.ak_settings.proofs.Different.{different_pairs}
+use Rattle.ak_settings.proofs.Names.{texts_apart, types_of}
 use Rattle.ak_config.specs.ConfigContracts.{IsList}
 use Rattle.ak_config.proofs.config.config_of.Goals as goal
 
@@ -31,4 +32,5 @@ invariant_of-settings c =
         listing = listing role ranges.role c.requires.role;
         among = λ a there. contains_from listed a (All-contains (λ x. IsTrue (is_listed listed x)) role a (All-from_recursion (λ x. IsTrue (is_listed listed x)) role ranges.among) there);
       };
+      types = types_of c.args.entries.limits.shards c.args.entries.types.items ranges.types (texts_apart c.args.entries.types.items c.requires.types);
     }

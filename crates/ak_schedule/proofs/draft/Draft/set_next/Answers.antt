@@ -1,4 +1,4 @@
-use Rattle.std.proofs.Common.{◌≡◌, ◌∙◌, codes, refl, ap, arith}
+use Rattle.std.proofs.Common.{◌≡◌, ◌∙◌, [], codes, refl, ap, arith}
 use Rattle.std.proofs.lemmas.Result.{err_from_is_err_and}
 use Rattle.ak_schedule.specs.declared.draft.Header as header
 use Rattle.ak_schedule.specs.Draft.{Drafted}
@@ -14,7 +14,7 @@ returns-in_ok-self-inside-in-0 c =
     let same : c.in_ok-self-inside-in-0.field-0.items ≡ listed = c.in_ok-self-inside-in-0.ensures ∙ c.deref.ensures.value in
     rw (← c.self.view_is)
     (next_set 0 header.TheVariants.Listed c.args.line.now _ _ c.in-0.is refl c.requires.short
-    (listed, c.in_ok-listed-in-0.ensures, λ i. record { listed = listed; strategy = s.strategy; margin = s.margin; deadline = s.deadline; stable = s.stable; shards = s.shards; buffer = s.buffer; threshold = s.threshold; limit = s.limit; weakly = s.weakly; role = same i }) refl refl)
+    (listed, c.in_ok-listed-in-0.ensures, λ i. record { listed = listed; strategy = s.strategy; margin = s.margin; deadline = s.deadline; stable = s.stable; shards = s.shards; buffer = s.buffer; threshold = s.threshold; limit = s.limit; weakly = s.weakly; role = same i; types = s.types.items }) refl refl)
 
 pub returns-in_err-listed-in-0 : goal.returns-in_err-listed-in-0
 returns-in_err-listed-in-0 c =
@@ -34,8 +34,14 @@ returns-in_ok-self-inside-in-3 c = rw (← c.self.view_is) (next_set 3 header.Th
 pub returns-in_ok-self-inside-in-4 : goal.returns-in_ok-self-inside-in-4
 returns-in_ok-self-inside-in-4 c = rw (← c.self.view_is) (next_set 4 header.TheVariants.Stable c.args.line.now _ _ c.in-4.is refl c.requires.short (c.in_ok-self-inside-in-4.field-0, c.in_ok-self-inside-in-4.ensures, refl) refl refl)
 
-pub returns-in_ok-self-inside-in-5 : goal.returns-in_ok-self-inside-in-5
-returns-in_ok-self-inside-in-5 c = rw (← c.self.view_is) (next_set 5 header.TheVariants.Shards c.args.line.now _ _ c.in-5.is refl c.requires.short (c.in_ok-self-inside-in-5.field-0, c.in_ok-self-inside-in-5.ensures, refl) refl refl)
+pub returns-in_ok-shards-in-5 : goal.returns-in_ok-shards-in-5
+returns-in_ok-shards-in-5 c =
+    let s = c.self.inside in
+    let shards = c.in_ok-shards-in-5.shards in
+    let none : c.new.result.items ≡ [] = c.new.ensures.items in
+    rw (← c.self.view_is)
+    (next_set 5 header.TheVariants.Shards c.args.line.now _ _ c.in-5.is refl c.requires.short
+    (shards, c.in_ok-shards-in-5.ensures, λ i. record { listed = s.listed.items; strategy = s.strategy; margin = s.margin; deadline = s.deadline; stable = s.stable; shards = shards; buffer = s.buffer; threshold = s.threshold; limit = s.limit; weakly = s.weakly; role = s.role.items; types = none i }) refl refl)
 
 pub returns-in_ok-self-inside-in-6 : goal.returns-in_ok-self-inside-in-6
 returns-in_ok-self-inside-in-6 c = rw (← c.self.view_is) (next_set 6 header.TheVariants.Buffer c.args.line.now _ _ c.in-6.is refl c.requires.short (c.in_ok-self-inside-in-6.field-0, c.in_ok-self-inside-in-6.ensures, refl) refl refl)
@@ -67,11 +73,11 @@ returns-in_err-self-inside-in-4 c =
     rw (is.1, is.2, ← c.self.view_is) (
     next_refused (SpellsSetting (codes "stable") 1000000 (words c.args.line.now)) 4 header.TheVariants.Stable c.args.line.now _ c.in_err-self-inside-in-4.field-0.0 c.in-4.is refl c.in_err-self-inside-in-4.ensures (λ new sets. (sets.0, sets.1)))
 
-pub returns-in_err-self-inside-in-5 : goal.returns-in_err-self-inside-in-5
-returns-in_err-self-inside-in-5 c =
-    let is = err_from_is_err_and c.from_residual-in_err-self-inside-in-5.result c.from_residual-in_err-self-inside-in-5.ensures.1 in
+pub returns-in_err-shards-in-5 : goal.returns-in_err-shards-in-5
+returns-in_err-shards-in-5 c =
+    let is = err_from_is_err_and c.from_residual-in_err-shards-in-5.result c.from_residual-in_err-shards-in-5.ensures.1 in
     rw (is.1, is.2, ← c.self.view_is) (
-    next_refused (SpellsSetting (codes "shards") 1000 (words c.args.line.now)) 5 header.TheVariants.Shards c.args.line.now _ c.in_err-self-inside-in-5.field-0.0 c.in-5.is refl c.in_err-self-inside-in-5.ensures (λ new sets. (sets.0, sets.1)))
+    next_refused (SpellsSetting (codes "shards") 1000 (words c.args.line.now)) 5 header.TheVariants.Shards c.args.line.now _ c.in_err-shards-in-5.field-0.0 c.in-5.is refl c.in_err-shards-in-5.ensures (λ new sets. (sets.0, sets.1)))
 
 pub returns-in_err-self-inside-in-6 : goal.returns-in_err-self-inside-in-6
 returns-in_err-self-inside-in-6 c =

@@ -1,4 +1,4 @@
-use Rattle.std.proofs.Common.{◌≡◌, ◌∷◌, List, codes, refl, subst, arith}
+use Rattle.std.proofs.Common.{◌≡◌, ◌∷◌, List, codes, refl, subst, arith, inl}
 use Rattle.std.proofs.lemmas.Result.{err_from_is_err_and}
 use Rattle.ak_address.specs.Unique.{AddressModel}
 use Rattle.ak_schedule.specs.declared.draft.Extra.TheVariants.{Role}
@@ -19,7 +19,7 @@ returns-in_err-self-inside c =
     let named : ws ≡ codes "role" ∷ rest = rw (whole, first) refl in
     let refused : RefusesValue (SpellsRole ws c.self.inside.listed.items) fault = subst (λ (l : List AddressModel). RefusesValue (SpellsRole ws l) fault) c.deref.ensures.value c.in_err-self-inside.ensures in
     rw (is.1, is.2, ← c.self.view_is)
-    (extra_value_refused (SpellsRole ws c.self.inside.listed.items) c.args.line.now _ fault (rest, named) refused (λ which next sets. sets_role which ws rest _ next named sets))
+    (extra_value_refused (SpellsRole ws c.self.inside.listed.items) c.args.line.now _ fault (rest, inl named) refused (λ which next sets. sets_role which ws rest _ next named sets))
 
 pub returns : goal.returns
 returns c =
