@@ -8,6 +8,7 @@ use Rattle.ak_gossip.specs.declared.part.Part.{Part}
 use Rattle.ak_field.specs.declared.fault.WireFault.{WireFault}
 use Rattle.ak_field.specs.declared.fault.WireFault.TheVariants.{Short, Magic, Version, Kind, Count, Order, Range, Trailing, NoMemory}
 use Rattle.ak_field.specs.Reading.{◌>>=◌, bytes_at, byte_at, wide_at, checked, items_at, fault_number, IsThere}
+use Rattle.ak_field.specs.Ranges.{most_entity}
 use Rattle.ak_field.specs.Fields.{length_at, number_at, shard_at, flag_at, process_bytes_at, process_at, receiver_at, ballot_at, entity_at, header_at}
 use Rattle.ak_field.specs.Lists.{next_unique_at, counted_at, counts_at, version_at, report_at, report_count_at, reports_at}
 use Rattle.ak_field.specs.Parts.{state_at, up_number_at, seen_at, index_at, indices_at, subjects_at, part_at, parts_at}
@@ -89,16 +90,16 @@ pub a_ballot : (bytes : List ℕ) → IsNumbered (ballot_at bytes)
 unfolding ballot_at
 a_ballot bytes = bind (number_at 1 BOUND bytes) _ (a_number 1 BOUND bytes) (λ term. bind (process_at _ _ term.1) _ (a_process _ _ term.1) (λ who. fine _))
 
-pub an_entity : (bytes : List ℕ) → IsNumbered (entity_at bytes)
+pub an_entity : (version : ℕ) (bytes : List ℕ) → IsNumbered (entity_at version bytes)
 unfolding entity_at
-an_entity bytes = bind (length_at 1 64 bytes) _ (a_length 1 64 bytes) (λ n. check Range _ (bytes_at n.0 n.1) refl (some_bytes n.0 n.1))
+an_entity version bytes = bind (length_at 1 (most_entity version) bytes) _ (a_length 1 (most_entity version) bytes) (λ n. check Range _ (bytes_at n.0 n.1) refl (some_bytes n.0 n.1))
 
 pub a_header : (bytes : List ℕ) → IsNumbered (header_at bytes)
 unfolding header_at
 a_header bytes =
     bind _ _ (check Magic _ (bytes_at 3 bytes) refl (some_bytes 3 bytes)) (λ first.
     bind _ _ (check Version _ (byte_at first.1) refl (one_byte first.1)) (λ version.
-    check Kind _ (byte_at version.1) refl (one_byte version.1)))
+    bind _ _ (check Kind _ (byte_at version.1) refl (one_byte version.1)) (λ kind. fine _)))
 
 -- ---- lists
 pub next_unique : (last : Option UniqueModel) (bytes : List ℕ) → IsNumbered (next_unique_at last bytes)

@@ -11,7 +11,8 @@ use Rattle.ak_promise.specs.Ballot.{BallotModel, IsBallot}
 use Rattle.ak_field.specs.declared.fault.WireFault.{WireFault}
 use Rattle.ak_field.specs.declared.fault.WireFault.TheVariants.{Magic, Version, Kind, Count, Range}
 use Rattle.ak_field.specs.Reading.{◌>>=◌, bytes_at, byte_at, wide_at, checked}
-use Rattle.ak_field.specs.Ranges.{is_from, is_process, IsProcess, is_entity_byte, IsEntity, IsShard}
+use Rattle.ak_field.specs.Ranges.{is_from, is_process, IsProcess, most_entity, IsEntityIn, IsVersionOfFormat, IsHeader, IsShard}
+use Rattle.ak_shard_id.specs.Division.{is_entity_byte}
 use Rattle.ak_field.specs.Spelling.{byte, two_bytes, eight_bytes, magic, format, header, process, ballot, shard, flag, entity}
 use Rattle.ak_field.specs.Fields.{length_at, number_at, shard_at, flag_at, process_of, process_bytes_at, process_at, unique_at, ballot_at, entity_at, is_magic, header_at}
 use Rattle.ak_field.specs.Laws.{IsBytes, IsField}
@@ -186,14 +187,22 @@ ballot_field =
     (λ term b range v. (v.0, record { unique = v.1; term = omega (arith, v.0, range.0); term_fits = omega (arith, v.0, range.1) }))
 
 -- ---- names of entities
-pub entity_field : IsField entity_at entity IsEntity
+few_entity : (version : ℕ) → most_entity version < 256
+few_entity version = go (version == 1)
+  where
+    go : (b : Bool) → (if b then 64 else 97) < 256
+    go true = omega arith
+    go false = omega arith
+
+pub entity_field : (version : ℕ) → IsField (entity_at version) entity (IsEntityIn version)
 unfolding entity_at
-entity_field =
+entity_field version =
+    let most = most_entity version in
     let After : ℕ → List ℕ → Type 0 = λ n name. (length name ≡ n) × IsTrue (list_all is_entity_byte name) in
-    let rest : (n : ℕ) → Ranges 1 64 n → IsField (λ bytes. checked Range (list_all is_entity_byte) (bytes_at n bytes)) (λ name. name) (After n) =
+    let rest : (n : ℕ) → Ranges 1 most n → IsField (λ bytes. checked Range (list_all is_entity_byte) (bytes_at n bytes)) (λ name. name) (After n) =
     (λ n range. checked_field Range (list_all is_entity_byte) (bytes_at n) (λ name. name) (λ name. length name ≡ n) (After n) (bytes_field n) (λ name v. v) (λ name len e. (len, e))) in
-    first_field (length_at 1 64) byte (Ranges 1 64) (λ name. length name) (λ n bytes. checked Range (list_all is_entity_byte) (bytes_at n bytes)) (λ name. name) After IsEntity
-    (length_field 1 64 (omega arith)) rest
+    first_field (length_at 1 most) byte (Ranges 1 most) (λ name. length name) (λ n bytes. checked Range (list_all is_entity_byte) (bytes_at n bytes)) (λ name. name) After (IsEntityIn version)
+    (length_field 1 most (few_entity version)) rest
     (λ name is. ((is.not_empty, is.short), (refl, is.printable)))
     (λ n name range v. (v.0, record { not_empty = omega (arith, v.0, range.0); short = omega (arith, v.0, range.1); printable = v.1 }))
 
@@ -217,11 +226,11 @@ magic_field =
     (λ bytes is. subst (λ (b : List ℕ). (length b ≡ 3) × (is_magic b ≡ true)) (sym is) (refl, refl))
     magic_is
 
-format_field : IsField (λ bytes. checked Version (λ n. n == format) (byte_at bytes)) byte (λ n. n ≡ format)
-format_field =
-    checked_field Version (λ n. n == format) byte_at byte (λ n. n < 256) (λ n. n ≡ format) byte_field
-    (λ n is. subst (λ (k : ℕ). (k < 256) × ((k == format) ≡ true)) (sym is) (omega arith, refl))
-    (λ n lt e. eq_is n format e)
+version_of_format_field : IsField (λ bytes. checked Version (is_from 1 format) (byte_at bytes)) byte IsVersionOfFormat
+version_of_format_field =
+    checked_field Version (is_from 1 format) byte_at byte (λ n. n < 256) IsVersionOfFormat byte_field
+    (λ n is. (let last = is.last in omega (arith, last), in_range 1 format n is.first is.last))
+    (λ n lt e. let r = range_of 1 format n e in record { first = r.0; last = r.1 })
 
 kind_field : IsField (λ bytes. checked Kind (is_from 1 25) (byte_at bytes)) byte (Ranges 1 25)
 kind_field =
@@ -229,13 +238,19 @@ kind_field =
     (λ n v. (omega (arith, v.1), in_range 1 25 n v.0 v.1))
     (λ n lt e. range_of 1 25 n e)
 
-pub header_field : IsField header_at header (Ranges 1 25)
+pub header_field : IsField header_at header IsHeader
 unfolding header_at
 header_field =
     let kind : List ℕ → Result (ℕ × List ℕ) WireFault = λ bytes. checked Kind (is_from 1 25) (byte_at bytes) in
-    let after_magic : List ℕ → Result (ℕ × List ℕ) WireFault = λ bytes. checked Version (λ n. n == format) (byte_at bytes) >>= λ version. kind version.1 in
-    let second : IsField after_magic (λ k. byte format ++ byte k) (Ranges 1 25) =
-    first_field (λ bytes. checked Version (λ n. n == format) (byte_at bytes)) byte (λ n. n ≡ format) (λ k. format) (λ n bytes. kind bytes) byte (λ n k. Ranges 1 25 k) (Ranges 1 25)
-    format_field (λ n is. kind_field) (λ k v. (refl, v)) (λ n k is v. (sym is, v)) in
-    first_field (λ bytes. checked Magic is_magic (bytes_at 3 bytes)) (λ bytes. bytes) (λ bytes. bytes ≡ magic) (λ k. magic) (λ b bytes. after_magic bytes) (λ k. byte format ++ byte k) (λ b k. Ranges 1 25 k) (Ranges 1 25)
-    magic_field (λ b is. second) (λ k v. (refl, v)) (λ b k is v. (sym is, v))
+    let with_kind : ℕ → List ℕ → Result ((ℕ × ℕ) × List ℕ) WireFault = λ version bytes. kind bytes >>= λ k. Ok ((version, k.0), k.1) in
+    let after_magic : List ℕ → Result ((ℕ × ℕ) × List ℕ) WireFault = λ bytes. checked Version (is_from 1 format) (byte_at bytes) >>= λ version. with_kind version.0 version.1 in
+    let After : ℕ → ℕ × ℕ → Type 0 = λ version x. (x.0 ≡ version) × Ranges 1 25 x.1 in
+    let last : (version : ℕ) → IsVersionOfFormat version → IsField (with_kind version) (λ x. byte x.1) (After version) =
+    (λ version is. made_field kind byte (Ranges 1 25) (λ k. (version, k)) (λ x. x.1) (After version) kind_field
+    (λ x v. (v.1, ap (λ (n : ℕ). (n, x.1)) (sym v.0)))
+    (λ k v fits. (refl, (refl, v)))) in
+    let second : IsField after_magic (λ x. byte x.0 ++ byte x.1) IsHeader =
+    first_field (λ bytes. checked Version (is_from 1 format) (byte_at bytes)) byte IsVersionOfFormat (λ x. x.0) with_kind (λ x. byte x.1) After IsHeader
+    version_of_format_field last (λ x v. (v.0, (refl, v.1))) (λ n x is v. (v.0, (subst IsVersionOfFormat (sym v.0) is, v.1))) in
+    first_field (λ bytes. checked Magic is_magic (bytes_at 3 bytes)) (λ bytes. bytes) (λ bytes. bytes ≡ magic) (λ x. magic) (λ b bytes. after_magic bytes) (λ x. byte x.0 ++ byte x.1) (λ b x. IsHeader x) IsHeader
+    magic_field (λ b is. second) (λ x v. (refl, v)) (λ b x is v. (sym is, v))

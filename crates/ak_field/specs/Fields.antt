@@ -9,7 +9,8 @@ use Rattle.ak_promise.specs.Ballot.{BallotModel}
 use Rattle.ak_field.specs.declared.fault.WireFault.{WireFault}
 use Rattle.ak_field.specs.declared.fault.WireFault.TheVariants.{Magic, Version, Kind, Count, Range}
 use Rattle.ak_field.specs.Reading.{◌>>=◌, bytes_at, byte_at, wide_at, checked}
-use Rattle.ak_field.specs.Ranges.{is_from, is_process, is_entity_byte}
+use Rattle.ak_field.specs.Ranges.{is_from, is_process, most_entity}
+use Rattle.ak_shard_id.specs.Division.{is_entity_byte}
 use Rattle.ak_field.specs.Spelling.{format}
 
 -- a length of one byte
@@ -59,9 +60,10 @@ ballot_at bytes = do
   who ← unique_at term.1
   Ok (record { term = term.0; unique = who.0 }, who.1)
 
-unfoldable pub entity_at : List ℕ → Result (List ℕ × List ℕ) WireFault
-entity_at bytes = do
-  n ← length_at 1 64 bytes
+-- in a version of the format
+unfoldable pub entity_at : ℕ → List ℕ → Result (List ℕ × List ℕ) WireFault
+entity_at version bytes = do
+  n ← length_at 1 (most_entity version) bytes
   checked Range (list_all is_entity_byte) (bytes_at n.0 n.1)
 
 abbrev pub is_magic : List ℕ → Bool
@@ -70,9 +72,10 @@ is_magic (a ∷ []) = false
 is_magic (a ∷ b ∷ []) = false
 is_magic (a ∷ b ∷ c ∷ rest) = a == 65 && (b == 75 && c == 67)
 
--- the first five bytes of a datagram: the kind, from 1 to 25
-unfoldable pub header_at : List ℕ → Result (ℕ × List ℕ) WireFault
+-- the first five bytes of a datagram: the version of the format, and the kind, from 1 to 25
+unfoldable pub header_at : List ℕ → Result ((ℕ × ℕ) × List ℕ) WireFault
 header_at bytes = do
   first ← checked Magic is_magic (bytes_at 3 bytes)
-  version ← checked Version (λ n. n == format) (byte_at first.1)
-  checked Kind (is_from 1 25) (byte_at version.1)
+  version ← checked Version (is_from 1 format) (byte_at first.1)
+  kind ← checked Kind (is_from 1 25) (byte_at version.1)
+  Ok ((version.0, kind.0), kind.1)

@@ -18,15 +18,17 @@ two_bytes n = to_be_bytes w16 n
 abbrev pub eight_bytes : ℕ → List ℕ
 eight_bytes n = to_be_bytes w64 n
 
--- `AK` and `C`, the version of the format, and the kind of a message
+-- `AK` and `C`
 abbrev pub magic : List ℕ
 magic = 65 ∷ 75 ∷ 67 ∷ []
 
+-- the version of the format that is written; the ones before it, from 1 on, are read too
 abbrev pub format : ℕ
-format = 1
+format = 2
 
-abbrev pub header : ℕ → List ℕ
-header kind = magic ++ (byte format ++ byte kind)
+-- then the version of the format, and the kind of a message
+abbrev pub header : ℕ × ℕ → List ℕ
+header x = magic ++ (byte x.0 ++ byte x.1)
 
 -- the length of the host, the host, the port and the uid
 abbrev pub process : UniqueModel → List ℕ

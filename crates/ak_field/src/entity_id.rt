@@ -5,7 +5,7 @@ use ak_address::Text;
 use std::alloc::{AllocError, Global};
 use std::marker::Model;
 
-/// What an entity is called: 1 to 64 bytes from `!` to `~`, so that each has a spelling in a packet (Akka's Cluster Sharding,
+/// What an entity is called: 1 to 97 bytes from `!` to `~`, so that each has a spelling in a packet (Akka's Cluster Sharding,
 /// the entity id; its range is this project's choice).
 #[derive(Debug, Drop)]
 pub struct EntityId {
@@ -32,7 +32,7 @@ impl EntityId {
         EntityId { name }
     }
 
-    /// Its name, of 1 to 64 bytes from `!` to `~`. Takes no memory.
+    /// Its name, of 1 to 97 bytes from `!` to `~`. Takes no memory.
     pub fn name(&self) -> &Text
         ensures same { result.now ≡ self.now }
         ensures range { IsEntity self.now }

@@ -4,12 +4,13 @@ ghost use Rattle.ak_field.specs.Fields.{header_at, is_magic};
 
 use crate::fault::WireFault;
 use crate::fields::Fields;
+use crate::write::FORMAT;
 
 impl<'a> Fields<'a> {
-    /// The first five bytes of a datagram: `AKC`, the version of the format, 1, and the kind of the message, from 1 to 25.
-    /// Takes no memory.
+    /// The first five bytes of a datagram: `AKC`, the version of the format, 1 or 2, and the kind of the message, from 1 to 25.
+    /// Both are given. Takes no memory.
     #[tactic(auto, unfolding(crate::specs::Fields::header_at))]
-    pub fn header(&mut self) -> Result<u8, WireFault>
+    pub fn header(&mut self) -> Result<(u8, u8), WireFault>
         ensures { GivesExactly result self.new (header_at self.old) }
     {
         let magic = self.take(3)?;
@@ -17,14 +18,14 @@ impl<'a> Fields<'a> {
             return Err(WireFault::Magic);
         }
         let version = self.byte()?;
-        if version != 1 {
+        if version < 1 || version > FORMAT {
             return Err(WireFault::Version);
         }
         let kind = self.byte()?;
         if kind < 1 || kind > 25 {
             return Err(WireFault::Kind);
         }
-        Ok(kind)
+        Ok((version, kind))
     }
 }
 

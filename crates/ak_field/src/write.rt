@@ -1,18 +1,21 @@
 ghost use Rattle.std.specs.Prelude.{◌≡◌, ℕ, ◌+◌, ◌≤◌, ◌<◌, ◌++◌, OnOk, OnErr, length, take, vec_len};
 ghost use Rattle.ak_field.specs.Ranges.{IsEntity, IsShard};
-ghost use Rattle.ak_field.specs.Spelling.{byte, eight_bytes, header, process, ballot, shard, flag, entity};
+ghost use Rattle.ak_field.specs.Spelling.{byte, eight_bytes, format, header, process, ballot, shard, flag, entity};
 
 use ak_address::{Address, Text, Unique};
 use ak_promise::Ballot;
 use std::alloc::AllocError;
 
-/// Appends the first five bytes of a datagram. Where memory runs out, what `out` had is still at its front, here and in each
-/// call that appends a field.
+/// The version of the format that is written.
+pub const FORMAT: u8 = 2;
+
+/// Appends the first five bytes of a datagram, with the version of the format that is written. Where memory runs out, what `out`
+/// had is still at its front, here and in each call that appends a field.
 pub fn write_header(kind: u8, out: &mut Vec<u8>) -> Result<(), AllocError>
-    ensures ok { OnOk result (out.new.items ≡ out.old.items ++ header kind) }
+    ensures ok { OnOk result (out.new.items ≡ out.old.items ++ header (format, kind)) }
     ensures err { OnErr result (take (vec_len out.old) out.new.items ≡ out.old.items) }
 {
-    out.extend_from_slice(&[b'A', b'K', b'C', 1, kind])
+    out.extend_from_slice(&[b'A', b'K', b'C', FORMAT, kind])
 }
 
 /// Appends a number of one byte.
@@ -115,7 +118,7 @@ pub fn ballot_len(asked: &Ballot) -> usize
 pub fn entity_len(name: &Text) -> usize
     requires { IsEntity name.now }
     ensures is { result ≡ length (entity name.now) }
-    ensures few { result ≤ 65 }
+    ensures few { result ≤ 98 }
 {
     name.bytes().len() + 1
 }

@@ -11,7 +11,7 @@ use Rattle.ak_gossip.specs.declared.part.Part.{Part}
 use Rattle.ak_gossip.specs.Gossip.{GossipState}
 use Rattle.ak_gossip.specs.Parts.{parts_of}
 use Rattle.ak_field.specs.Ranges.{IsNumber, IsEntity}
-use Rattle.ak_field.specs.Spelling.{byte, two_bytes, eight_bytes, header, process, ballot, shard, flag, entity, counted, version, reports, report}
+use Rattle.ak_field.specs.Spelling.{byte, two_bytes, eight_bytes, header, process, ballot, shard, flag, entity, counted, version, reports, report, format}
 use Rattle.ak_field.specs.Lists.{IsShort, AreReports}
 use Rattle.ak_field.specs.Parts.{subjects, part, parts, AreSpelled}
 use Rattle.ak_field.proofs.Measured.{reports_measured}
@@ -81,11 +81,11 @@ gossip_len g is = parts_len (parts_of g) (spelled_parts g is)
 placed_len : (b : BallotModel) (s n : ℕ) → IsBallot b → length (placed b s n) ≤ 93
 placed_len b s n is = both (ballot b) (shard s ++ eight_bytes n) 83 10 (ballot_len b is) (both (shard s) (eight_bytes n) 2 8 (omega arith) (omega arith))
 
-entity_len : (name : List ℕ) → IsEntity name → length (entity name) ≤ 65
-entity_len name is = both (byte (length name)) name 1 64 (omega arith) is.short
+entity_len : (name : List ℕ) → IsEntity name → length (entity name) ≤ 98
+entity_len name is = both (byte (length name)) name 1 97 (omega arith) is.short
 
-payload_len : (name : List ℕ) (bits : ℕ) → IsEntity name → length (payload name bits) ≤ 73
-payload_len name bits is = both (entity name) (eight_bytes bits) 65 8 (entity_len name is) (omega arith)
+payload_len : (name : List ℕ) (bits : ℕ) → IsEntity name → length (payload name bits) ≤ 106
+payload_len name bits is = both (entity name) (eight_bytes bits) 98 8 (entity_len name is) (omega arith)
 
 most : (xs : List ℕ) (n : ℕ) → length xs ≤ n → n ≤ 29441 → length xs ≤ 29441
 most xs n p q = omega arith
@@ -114,16 +114,16 @@ body_len (BeginHandOff b s n) is = most (placed b s n) 93 (placed_len b s n is.0
 body_len (BeginHandOffAck b s n) is = most (placed b s n) 93 (placed_len b s n is.0) (omega arith)
 body_len (HandOff b s n) is = most (placed b s n) 93 (placed_len b s n is.0) (omega arith)
 body_len (ShardStopped b s n) is = most (placed b s n) 93 (placed_len b s n is.0) (omega arith)
-body_len (Forward name bits) is = most (payload name bits) 73 (payload_len name bits is.0) (omega arith)
+body_len (Forward name bits) is = most (payload name bits) 106 (payload_len name bits is.0) (omega arith)
 body_len (Leave u) is = most (process u) 75 (process_len u is.address) (omega arith)
 body_len (Down u) is = most (process u) 75 (process_len u is.address) (omega arith)
-body_len (Offer name bits) is = most (payload name bits) 73 (payload_len name bits is.0) (omega arith)
+body_len (Offer name bits) is = most (payload name bits) 106 (payload_len name bits is.0) (omega arith)
 
-header_len : (kind : ℕ) → length (header kind) ≤ 5
+header_len : (kind : ℕ × ℕ) → length (header kind) ≤ 5
 header_len kind = let e : length (header kind) ≡ 5 = refl in omega (arith, e)
 
 pub datagram_len : (e : Envelope) → IsValid e → length (datagram e) ≤ 29596
 datagram_len e is =
-    both (header (kind_number e.message)) (process e.from ++ (process (receiver e) ++ body e.message)) 5 29591 (header_len (kind_number e.message))
+    both (header (format, kind_number e.message)) (process e.from ++ (process (receiver e) ++ body e.message)) 5 29591 (header_len (format, kind_number e.message))
     (both (process e.from) (process (receiver e) ++ body e.message) 75 29516 (process_len e.from is.from.address)
     (both (process (receiver e)) (body e.message) 75 29441 (process_len (receiver e) is.to) (body_len e.message is.body)))

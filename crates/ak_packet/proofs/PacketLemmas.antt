@@ -8,13 +8,13 @@ use Rattle.ak_wire.specs.declared.envelope.Message.{Message}
 use Rattle.ak_wire.specs.declared.envelope.Message.TheVariants.{Join, Welcome, Gossip, Heartbeat, HeartbeatReply, ExitingConfirmed, Ask, Granted, Busy, Old, HandOverToMe, HandOverDone, Release, GetHome, Home, HostShard, ShardStarted, BeginHandOff, BeginHandOffAck, HandOff, ShardStopped, Forward, Leave, Down, Offer}
 use Rattle.ak_wire.specs.Datagram.{datagram, IsValid}
 use Rattle.ak_wire.specs.ReadingDatagram.{read}
-use Rattle.ak_wire.proofs.DatagramFields.{read_again}
+use Rattle.ak_wire.proofs.DatagramFields.{written_again}
 use Rattle.ak_packet.specs.Alike.{bare, bare_message}
 use Rattle.ak_packet.specs.Hashed.{hashed_message, hashed}
 
 -- two valid envelopes with the same bytes are the same
 pub of_same_bytes : (d e : Envelope) → IsValid d → IsValid e → datagram d ≡ datagram e → d ≡ e
-of_same_bytes d e valid too same = ok_is d e (sym (read_again d valid) ∙ ap read same ∙ read_again e too)
+of_same_bytes d e valid too same = ok_is d e (sym (written_again d valid) ∙ ap read same ∙ written_again e too)
 
 -- nothing is fed of what a version shows
 of_bare : (m : Message) → hashed_message (bare_message m) ≡ hashed_message m

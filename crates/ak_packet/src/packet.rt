@@ -1,6 +1,7 @@
 ghost use Rattle.std.specs.Prelude.{◌≡◌, IfOk};
 ghost use Rattle.std.specs.Cmp.{partial_equiv_from_equiv};
-ghost use Rattle.ak_wire.specs.Datagram.{IsValid, Spells};
+ghost use Rattle.ak_wire.specs.Datagram.{IsValid, SpellsIn};
+ghost use Rattle.ak_field.specs.Spelling.{format};
 ghost use Rattle.ak_packet.specs.Alike.{bare, is_alike};
 ghost use Rattle.ak_packet.specs.Hashed.{hashed};
 ghost use Rattle.ak_packet.specs.AlikeLaws.{alike_decides, alike_equiv};
@@ -68,7 +69,7 @@ impl Packet {
 
     /// Its bytes: the one spelling of its envelope, which `decode` reads again. Only memory can fail.
     pub fn bytes(&self, alloc: Global) -> Result<Vec<u8>, AllocError>
-        ensures { IfOk result (λ bytes. Spells bytes.items self.now) }
+        ensures { IfOk result (λ bytes. SpellsIn format bytes.items self.now) }
     {
         encode(alloc, self.envelope.get())
     }

@@ -11,7 +11,7 @@ use Rattle.ak_gossip.specs.Gossip.{GossipState}
 use Rattle.ak_gossip.specs.Parts.{parts_of}
 use Rattle.ak_field.specs.declared.fault.WireFault.{WireFault}
 use Rattle.ak_field.specs.Reading.{◌>>=◌, wide_at}
-use Rattle.ak_field.specs.Ranges.{IsEntity, IsNumber, IsShard}
+use Rattle.ak_field.specs.Ranges.{IsEntityIn, IsNumber, IsShard}
 use Rattle.ak_field.specs.Spelling.{eight_bytes, process, ballot, shard, entity, version, reports}
 use Rattle.ak_field.specs.Fields.{number_at, shard_at, unique_at, ballot_at, entity_at}
 use Rattle.ak_field.specs.Lists.{version_at, reports_at, IsShort, AreReports}
@@ -23,7 +23,7 @@ use Rattle.ak_field.proofs.Small.{wide_field, wide64}
 use Rattle.ak_field.proofs.Whole.{Ranges, number_field, shard_field, unique_field, ballot_field, entity_field}
 use Rattle.ak_wire.specs.declared.envelope.Message.{Message}
 use Rattle.ak_wire.specs.declared.envelope.Message.TheVariants.{Join, Welcome, Gossip, Heartbeat, HeartbeatReply, ExitingConfirmed, Ask, Granted, Busy, Old, HandOverToMe, HandOverDone, Release, GetHome, Home, HostShard, ShardStarted, BeginHandOff, BeginHandOffAck, HandOff, ShardStopped, Forward, Leave, Down, Offer}
-use Rattle.ak_wire.specs.Datagram.{kind_number, body, placed, payload, IsSendable, IsBody}
+use Rattle.ak_wire.specs.Datagram.{kind_number, body, placed, payload, IsSendable, IsBodyIn}
 use Rattle.ak_wire.specs.ReadingDatagram.{pair_at, made_at, gossip_at, granted_at, two_ballots_at, done_at, get_home_at, home_at, placed_at, payload_at, told, asking, granting, refusing, ending, seeking, homing, placing, carrying, naming, early_body_at, late_body_at, body_at}
 use Rattle.ak_wire.proofs.GossipFields.{gossip_field}
 
@@ -70,78 +70,78 @@ placed_field =
     pair_field ballot_at ballot IsBallot (pair_at shard_at (number_at 1 BOUND)) (λ y. shard y.0 ++ eight_bytes y.1) (λ y. IsShard y.0 × IsNumber y.1) ballot_field
     (pair_field shard_at shard IsShard (number_at 1 BOUND) eight_bytes IsNumber shard_field some_number_field)
 
-payload_field : IsField payload_at (λ x. payload x.0 x.1) (λ x. IsEntity x.0 × (x.1 < 2 ^ 64))
-payload_field = pair_field entity_at entity IsEntity (wide_at w64) eight_bytes (λ n. n < 2 ^ 64) entity_field (wide_field w64 (2 ^ 64) wide64)
+payload_field : (edition : ℕ) → IsField (payload_at edition) (λ x. payload x.0 x.1) (λ x. IsEntityIn edition x.0 × (x.1 < 2 ^ 64))
+payload_field edition = pair_field (entity_at edition) entity (IsEntityIn edition) (wide_at w64) eight_bytes (λ n. n < 2 ^ 64) (entity_field edition) (wide_field w64 (2 ^ 64) wide64)
 
 -- ---- what is spelled is read again
-pub body_again : (m : Message) (rest : List ℕ) → IsBody m → body_at (kind_number m) (body m ++ rest) ≡ Ok (m, rest)
+pub body_again : (edition : ℕ) (m : Message) (rest : List ℕ) → IsBodyIn edition m → body_at edition (kind_number m) (body m ++ rest) ≡ Ok (m, rest)
 unfolding body_at early_body_at late_body_at made_at
-body_again Join rest is = refl
-body_again (Welcome g) rest is = ap (made_at (told 2)) (gossip_field.again g rest is)
-body_again (Gossip g) rest is = ap (made_at (told 3)) (gossip_field.again g rest is)
-body_again Heartbeat rest is = refl
-body_again HeartbeatReply rest is = refl
-body_again ExitingConfirmed rest is = refl
-body_again (Ask b) rest is = ap (made_at (asking 7)) (ballot_field.again b rest is)
-body_again (Granted b v rs) rest is = ap (made_at granting) (granted_field.again (b, (v, rs)) rest is)
-body_again (Busy b c) rest is = ap (made_at (refusing 9)) (two_ballots_field.again (b, c) rest is)
-body_again (Old b c) rest is = ap (made_at (refusing 10)) (two_ballots_field.again (b, c) rest is)
-body_again (HandOverToMe b) rest is = ap (made_at (asking 11)) (ballot_field.again b rest is)
-body_again (HandOverDone b v) rest is = ap (made_at (ending 12)) (done_field.again (b, v) rest is)
-body_again (Release b v) rest is = ap (made_at (ending 13)) (done_field.again (b, v) rest is)
-body_again (GetHome b s) rest is = ap (made_at seeking) (get_home_field.again (b, s) rest is)
-body_again (Home b s u) rest is = ap (made_at homing) (home_field.again (b, (s, u)) rest is)
-body_again (HostShard b s n) rest is = ap (made_at (placing 16)) (placed_field.again (b, (s, n)) rest is)
-body_again (ShardStarted b s n) rest is = ap (made_at (placing 17)) (placed_field.again (b, (s, n)) rest is)
-body_again (BeginHandOff b s n) rest is = ap (made_at (placing 18)) (placed_field.again (b, (s, n)) rest is)
-body_again (BeginHandOffAck b s n) rest is = ap (made_at (placing 19)) (placed_field.again (b, (s, n)) rest is)
-body_again (HandOff b s n) rest is = ap (made_at (placing 20)) (placed_field.again (b, (s, n)) rest is)
-body_again (ShardStopped b s n) rest is = ap (made_at (placing 21)) (placed_field.again (b, (s, n)) rest is)
-body_again (Forward name bits) rest is = ap (made_at (carrying 22)) (payload_field.again (name, bits) rest is)
-body_again (Leave u) rest is = ap (made_at (naming 23)) (unique_field.again u rest is)
-body_again (Down u) rest is = ap (made_at (naming 24)) (unique_field.again u rest is)
-body_again (Offer name bits) rest is = ap (made_at (carrying 25)) (payload_field.again (name, bits) rest is)
+body_again edition Join rest is = refl
+body_again edition (Welcome g) rest is = ap (made_at (told 2)) (gossip_field.again g rest is)
+body_again edition (Gossip g) rest is = ap (made_at (told 3)) (gossip_field.again g rest is)
+body_again edition Heartbeat rest is = refl
+body_again edition HeartbeatReply rest is = refl
+body_again edition ExitingConfirmed rest is = refl
+body_again edition (Ask b) rest is = ap (made_at (asking 7)) (ballot_field.again b rest is)
+body_again edition (Granted b v rs) rest is = ap (made_at granting) (granted_field.again (b, (v, rs)) rest is)
+body_again edition (Busy b c) rest is = ap (made_at (refusing 9)) (two_ballots_field.again (b, c) rest is)
+body_again edition (Old b c) rest is = ap (made_at (refusing 10)) (two_ballots_field.again (b, c) rest is)
+body_again edition (HandOverToMe b) rest is = ap (made_at (asking 11)) (ballot_field.again b rest is)
+body_again edition (HandOverDone b v) rest is = ap (made_at (ending 12)) (done_field.again (b, v) rest is)
+body_again edition (Release b v) rest is = ap (made_at (ending 13)) (done_field.again (b, v) rest is)
+body_again edition (GetHome b s) rest is = ap (made_at seeking) (get_home_field.again (b, s) rest is)
+body_again edition (Home b s u) rest is = ap (made_at homing) (home_field.again (b, (s, u)) rest is)
+body_again edition (HostShard b s n) rest is = ap (made_at (placing 16)) (placed_field.again (b, (s, n)) rest is)
+body_again edition (ShardStarted b s n) rest is = ap (made_at (placing 17)) (placed_field.again (b, (s, n)) rest is)
+body_again edition (BeginHandOff b s n) rest is = ap (made_at (placing 18)) (placed_field.again (b, (s, n)) rest is)
+body_again edition (BeginHandOffAck b s n) rest is = ap (made_at (placing 19)) (placed_field.again (b, (s, n)) rest is)
+body_again edition (HandOff b s n) rest is = ap (made_at (placing 20)) (placed_field.again (b, (s, n)) rest is)
+body_again edition (ShardStopped b s n) rest is = ap (made_at (placing 21)) (placed_field.again (b, (s, n)) rest is)
+body_again edition (Forward name bits) rest is = ap (made_at (carrying 22)) ((payload_field edition).again (name, bits) rest is)
+body_again edition (Leave u) rest is = ap (made_at (naming 23)) (unique_field.again u rest is)
+body_again edition (Down u) rest is = ap (made_at (naming 24)) (unique_field.again u rest is)
+body_again edition (Offer name bits) rest is = ap (made_at (carrying 25)) ((payload_field edition).again (name, bits) rest is)
 
 -- ---- what is read was spelled
-abbrev IsOf : ℕ → Message → Type 0
-IsOf kind m = IsBody m × (kind_number m ≡ kind)
+abbrev IsOf : ℕ → ℕ → Message → Type 0
+IsOf edition kind m = IsBodyIn edition m × (kind_number m ≡ kind)
 
-abbrev Was : ℕ → (List ℕ → Result (Message × List ℕ) WireFault) → Type 0
-Was kind at = (bytes : List ℕ) (m : Message) (rest : List ℕ) → IsBytes bytes → at bytes ≡ Ok (m, rest) → (bytes ≡ body m ++ rest) × IsOf kind m
+abbrev Was : ℕ → ℕ → (List ℕ → Result (Message × List ℕ) WireFault) → Type 0
+Was edition kind at = (bytes : List ℕ) (m : Message) (rest : List ℕ) → IsBytes bytes → at bytes ≡ Ok (m, rest) → (bytes ≡ body m ++ rest) × IsOf edition kind m
 
-was : {A : Type 0} (kind : ℕ) (at : List ℕ → Result (A × List ℕ) WireFault) (spelled : A → List ℕ) (Valid : A → Type 0) (make : A → Message)
-    → IsField at spelled Valid → ((a : A) → Valid a → (body (make a) ≡ spelled a) × IsOf kind (make a)) → Was kind (λ bytes. made_at make (at bytes))
+was : {A : Type 0} (edition kind : ℕ) (at : List ℕ → Result (A × List ℕ) WireFault) (spelled : A → List ℕ) (Valid : A → Type 0) (make : A → Message)
+    → IsField at spelled Valid → ((a : A) → Valid a → (body (make a) ≡ spelled a) × IsOf edition kind (make a)) → Was edition kind (λ bytes. made_at make (at bytes))
 unfolding made_at
-was {A} kind at spelled Valid make field made bytes m rest fits e =
+was {A} edition kind at spelled Valid make field made bytes m rest fits e =
     let b = bind_ok (at bytes) (λ field. Ok (make field.0, field.1)) (m, rest) e in
     let w = field.was bytes b.0.0 b.0.1 fits b.1 in
     let h = made b.0.0 w.1 in
-    subst (λ (y : Message × List ℕ). (bytes ≡ body y.0 ++ y.1) × IsOf kind y.0) (ok_is (make b.0.0, b.0.1) (m, rest) b.2) (w.0 ∙ ap (λ (t : List ℕ). t ++ b.0.1) (sym h.0), h.1)
+    subst (λ (y : Message × List ℕ). (bytes ≡ body y.0 ++ y.1) × IsOf edition kind y.0) (ok_is (make b.0.0, b.0.1) (m, rest) b.2) (w.0 ∙ ap (λ (t : List ℕ). t ++ b.0.1) (sym h.0), h.1)
 
-bare_was : (kind : ℕ) (made : Message) → (body made ≡ []) × IsOf kind made → Was kind (λ bytes. Ok (made, bytes))
-bare_was kind made is bytes m rest fits e =
-    subst (λ (y : Message × List ℕ). (bytes ≡ body y.0 ++ y.1) × IsOf kind y.0) (ok_is (made, bytes) (m, rest) e) (ap (λ (t : List ℕ). t ++ bytes) (sym is.0), is.1)
+bare_was : (edition kind : ℕ) (made : Message) → (body made ≡ []) × IsOf edition kind made → Was edition kind (λ bytes. Ok (made, bytes))
+bare_was edition kind made is bytes m rest fits e =
+    subst (λ (y : Message × List ℕ). (bytes ≡ body y.0 ++ y.1) × IsOf edition kind y.0) (ok_is (made, bytes) (m, rest) e) (ap (λ (t : List ℕ). t ++ bytes) (sym is.0), is.1)
 
-told_was : (kind : ℕ) → ((g : GossipState) → IsSendable g → (body (told kind g) ≡ parts (parts_of g)) × IsOf kind (told kind g)) → Was kind (λ bytes. made_at (told kind) (gossip_at bytes))
-told_was kind made = was kind gossip_at (λ g. parts (parts_of g)) IsSendable (told kind) gossip_field made
+told_was : (edition kind : ℕ) → ((g : GossipState) → IsSendable g → (body (told kind g) ≡ parts (parts_of g)) × IsOf edition kind (told kind g)) → Was edition kind (λ bytes. made_at (told kind) (gossip_at bytes))
+told_was edition kind made = was edition kind gossip_at (λ g. parts (parts_of g)) IsSendable (told kind) gossip_field made
 
-asking_was : (kind : ℕ) → ((b : BallotModel) → IsBallot b → (body (asking kind b) ≡ ballot b) × IsOf kind (asking kind b)) → Was kind (λ bytes. made_at (asking kind) (ballot_at bytes))
-asking_was kind made = was kind ballot_at ballot IsBallot (asking kind) ballot_field made
+asking_was : (edition kind : ℕ) → ((b : BallotModel) → IsBallot b → (body (asking kind b) ≡ ballot b) × IsOf edition kind (asking kind b)) → Was edition kind (λ bytes. made_at (asking kind) (ballot_at bytes))
+asking_was edition kind made = was edition kind ballot_at ballot IsBallot (asking kind) ballot_field made
 
-refusing_was : (kind : ℕ) → ((x : BallotModel × BallotModel) → IsBallot x.0 × IsBallot x.1 → (body (refusing kind x) ≡ ballot x.0 ++ ballot x.1) × IsOf kind (refusing kind x)) → Was kind (λ bytes. made_at (refusing kind) (two_ballots_at bytes))
-refusing_was kind made = was kind two_ballots_at (λ x. ballot x.0 ++ ballot x.1) (λ x. IsBallot x.0 × IsBallot x.1) (refusing kind) two_ballots_field made
+refusing_was : (edition kind : ℕ) → ((x : BallotModel × BallotModel) → IsBallot x.0 × IsBallot x.1 → (body (refusing kind x) ≡ ballot x.0 ++ ballot x.1) × IsOf edition kind (refusing kind x)) → Was edition kind (λ bytes. made_at (refusing kind) (two_ballots_at bytes))
+refusing_was edition kind made = was edition kind two_ballots_at (λ x. ballot x.0 ++ ballot x.1) (λ x. IsBallot x.0 × IsBallot x.1) (refusing kind) two_ballots_field made
 
-ending_was : (kind : ℕ) → ((x : BallotModel × Counts) → IsBallot x.0 × IsShort x.1 → (body (ending kind x) ≡ ballot x.0 ++ version x.1) × IsOf kind (ending kind x)) → Was kind (λ bytes. made_at (ending kind) (done_at bytes))
-ending_was kind made = was kind done_at (λ x. ballot x.0 ++ version x.1) (λ x. IsBallot x.0 × IsShort x.1) (ending kind) done_field made
+ending_was : (edition kind : ℕ) → ((x : BallotModel × Counts) → IsBallot x.0 × IsShort x.1 → (body (ending kind x) ≡ ballot x.0 ++ version x.1) × IsOf edition kind (ending kind x)) → Was edition kind (λ bytes. made_at (ending kind) (done_at bytes))
+ending_was edition kind made = was edition kind done_at (λ x. ballot x.0 ++ version x.1) (λ x. IsBallot x.0 × IsShort x.1) (ending kind) done_field made
 
-placing_was : (kind : ℕ) → ((x : BallotModel × (ℕ × ℕ)) → IsBallot x.0 × (IsShard x.1.0 × IsNumber x.1.1) → (body (placing kind x) ≡ placed x.0 x.1.0 x.1.1) × IsOf kind (placing kind x)) → Was kind (λ bytes. made_at (placing kind) (placed_at bytes))
-placing_was kind made = was kind placed_at (λ x. placed x.0 x.1.0 x.1.1) (λ x. IsBallot x.0 × (IsShard x.1.0 × IsNumber x.1.1)) (placing kind) placed_field made
+placing_was : (edition kind : ℕ) → ((x : BallotModel × (ℕ × ℕ)) → IsBallot x.0 × (IsShard x.1.0 × IsNumber x.1.1) → (body (placing kind x) ≡ placed x.0 x.1.0 x.1.1) × IsOf edition kind (placing kind x)) → Was edition kind (λ bytes. made_at (placing kind) (placed_at bytes))
+placing_was edition kind made = was edition kind placed_at (λ x. placed x.0 x.1.0 x.1.1) (λ x. IsBallot x.0 × (IsShard x.1.0 × IsNumber x.1.1)) (placing kind) placed_field made
 
-carrying_was : (kind : ℕ) → ((x : List ℕ × ℕ) → IsEntity x.0 × (x.1 < 2 ^ 64) → (body (carrying kind x) ≡ payload x.0 x.1) × IsOf kind (carrying kind x)) → Was kind (λ bytes. made_at (carrying kind) (payload_at bytes))
-carrying_was kind made = was kind payload_at (λ x. payload x.0 x.1) (λ x. IsEntity x.0 × (x.1 < 2 ^ 64)) (carrying kind) payload_field made
+carrying_was : (edition kind : ℕ) → ((x : List ℕ × ℕ) → IsEntityIn edition x.0 × (x.1 < 2 ^ 64) → (body (carrying kind x) ≡ payload x.0 x.1) × IsOf edition kind (carrying kind x)) → Was edition kind (λ bytes. made_at (carrying kind) (payload_at edition bytes))
+carrying_was edition kind made = was edition kind (payload_at edition) (λ x. payload x.0 x.1) (λ x. IsEntityIn edition x.0 × (x.1 < 2 ^ 64)) (carrying kind) (payload_field edition) made
 
-naming_was : (kind : ℕ) → ((u : UniqueModel) → IsUnique u → (body (naming kind u) ≡ process u) × IsOf kind (naming kind u)) → Was kind (λ bytes. made_at (naming kind) (unique_at bytes))
-naming_was kind made = was kind unique_at process IsUnique (naming kind) unique_field made
+naming_was : (edition kind : ℕ) → ((u : UniqueModel) → IsUnique u → (body (naming kind u) ≡ process u) × IsOf edition kind (naming kind u)) → Was edition kind (λ bytes. made_at (naming kind) (unique_at bytes))
+naming_was edition kind made = was edition kind unique_at process IsUnique (naming kind) unique_field made
 
 -- of so many numbers, from the first on
 abbrev Each : (ℕ → Type 0) → ℕ → ℕ → Type 0
@@ -155,58 +155,58 @@ each_at P first (suc many) each n above below = elim (cases_lt first n) [
   | inr le ↦ let same : first ≡ n = omega (arith, le, above) in subst P same each.0
 ]
 
-each_kind : Each (λ kind. Was kind (body_at kind)) 1 25
+each_kind : (edition : ℕ) → Each (λ kind. Was edition kind (body_at edition kind)) 1 25
 unfolding body_at early_body_at late_body_at
-each_kind = (
-  bare_was 1 Join (refl, (tt, refl)),
+each_kind edition = (
+  bare_was edition 1 Join (refl, (tt, refl)),
   (
-    told_was 2 (λ g is. (refl, (is, refl))),
+    told_was edition 2 (λ g is. (refl, (is, refl))),
     (
-      told_was 3 (λ g is. (refl, (is, refl))),
+      told_was edition 3 (λ g is. (refl, (is, refl))),
       (
-        bare_was 4 Heartbeat (refl, (tt, refl)),
+        bare_was edition 4 Heartbeat (refl, (tt, refl)),
         (
-          bare_was 5 HeartbeatReply (refl, (tt, refl)),
+          bare_was edition 5 HeartbeatReply (refl, (tt, refl)),
           (
-            bare_was 6 ExitingConfirmed (refl, (tt, refl)),
+            bare_was edition 6 ExitingConfirmed (refl, (tt, refl)),
             (
-              asking_was 7 (λ b is. (refl, (is, refl))),
+              asking_was edition 7 (λ b is. (refl, (is, refl))),
               (
-                was 8 granted_at (λ x. ballot x.0 ++ (version x.1.0 ++ reports x.1.1)) (λ x. IsBallot x.0 × (IsShort x.1.0 × AreReports x.1.1)) granting granted_field (λ x is. (refl, (is, refl))),
+                was edition 8 granted_at (λ x. ballot x.0 ++ (version x.1.0 ++ reports x.1.1)) (λ x. IsBallot x.0 × (IsShort x.1.0 × AreReports x.1.1)) granting granted_field (λ x is. (refl, (is, refl))),
                 (
-                  refusing_was 9 (λ x is. (refl, (is, refl))),
+                  refusing_was edition 9 (λ x is. (refl, (is, refl))),
                   (
-                    refusing_was 10 (λ x is. (refl, (is, refl))),
+                    refusing_was edition 10 (λ x is. (refl, (is, refl))),
                     (
-                      asking_was 11 (λ b is. (refl, (is, refl))),
+                      asking_was edition 11 (λ b is. (refl, (is, refl))),
                       (
-                        ending_was 12 (λ x is. (refl, (is, refl))),
+                        ending_was edition 12 (λ x is. (refl, (is, refl))),
                         (
-                          ending_was 13 (λ x is. (refl, (is, refl))),
+                          ending_was edition 13 (λ x is. (refl, (is, refl))),
                           (
-                            was 14 get_home_at (λ x. ballot x.0 ++ shard x.1) (λ x. IsBallot x.0 × IsShard x.1) seeking get_home_field (λ x is. (refl, (is, refl))),
+                            was edition 14 get_home_at (λ x. ballot x.0 ++ shard x.1) (λ x. IsBallot x.0 × IsShard x.1) seeking get_home_field (λ x is. (refl, (is, refl))),
                             (
-                              was 15 home_at (λ x. ballot x.0 ++ (shard x.1.0 ++ process x.1.1)) (λ x. IsBallot x.0 × (IsShard x.1.0 × IsUnique x.1.1)) homing home_field (λ x is. (refl, (is, refl))),
+                              was edition 15 home_at (λ x. ballot x.0 ++ (shard x.1.0 ++ process x.1.1)) (λ x. IsBallot x.0 × (IsShard x.1.0 × IsUnique x.1.1)) homing home_field (λ x is. (refl, (is, refl))),
                               (
-                                placing_was 16 (λ x is. (refl, (is, refl))),
+                                placing_was edition 16 (λ x is. (refl, (is, refl))),
                                 (
-                                  placing_was 17 (λ x is. (refl, (is, refl))),
+                                  placing_was edition 17 (λ x is. (refl, (is, refl))),
                                   (
-                                    placing_was 18 (λ x is. (refl, (is, refl))),
+                                    placing_was edition 18 (λ x is. (refl, (is, refl))),
                                     (
-                                      placing_was 19 (λ x is. (refl, (is, refl))),
+                                      placing_was edition 19 (λ x is. (refl, (is, refl))),
                                       (
-                                        placing_was 20 (λ x is. (refl, (is, refl))),
+                                        placing_was edition 20 (λ x is. (refl, (is, refl))),
                                         (
-                                          placing_was 21 (λ x is. (refl, (is, refl))),
+                                          placing_was edition 21 (λ x is. (refl, (is, refl))),
                                           (
-                                            carrying_was 22 (λ x is. (refl, (is, refl))),
+                                            carrying_was edition 22 (λ x is. (refl, (is, refl))),
                                             (
-                                              naming_was 23 (λ u is. (refl, (is, refl))),
+                                              naming_was edition 23 (λ u is. (refl, (is, refl))),
                                               (
-                                                naming_was 24 (λ u is. (refl, (is, refl))),
+                                                naming_was edition 24 (λ u is. (refl, (is, refl))),
                                                 (
-                                                  carrying_was 25 (λ x is. (refl, (is, refl))),
+                                                  carrying_was edition 25 (λ x is. (refl, (is, refl))),
                                                   tt,
                                                 ),
                                               ),
@@ -234,11 +234,11 @@ each_kind = (
   ),
 )
 
-pub body_was : (kind : ℕ) → 1 ≤ kind → kind ≤ 25 → Was kind (body_at kind)
-body_was kind above below = each_at (λ kind. Was kind (body_at kind)) 1 25 each_kind kind above (omega (arith, below))
+pub body_was : (edition kind : ℕ) → 1 ≤ kind → kind ≤ 25 → Was edition kind (body_at edition kind)
+body_was edition kind above below = each_at (λ kind. Was edition kind (body_at edition kind)) 1 25 (each_kind edition) kind above (omega (arith, below))
 
-pub body_field : (kind : ℕ) → 1 ≤ kind → kind ≤ 25 → IsField (body_at kind) body (IsOf kind)
-body_field kind above below = record {
-  again = λ m rest is. ap (λ (k : ℕ). body_at k (body m ++ rest)) (sym is.1) ∙ body_again m rest is.0;
-  was = body_was kind above below;
+pub body_field : (edition kind : ℕ) → 1 ≤ kind → kind ≤ 25 → IsField (body_at edition kind) body (IsOf edition kind)
+body_field edition kind above below = record {
+  again = λ m rest is. ap (λ (k : ℕ). body_at edition k (body m ++ rest)) (sym is.1) ∙ body_again edition m rest is.0;
+  was = body_was edition kind above below;
 }

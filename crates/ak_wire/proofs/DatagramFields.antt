@@ -1,11 +1,11 @@
 -- A datagram is read as it is spelled.
-use Rattle.std.proofs.Common.{◌≡◌, ℕ, Bool, true, false, List, [], ◌∷◌, ◌++◌, Result, Ok, Err, IfOk, refl, sym, ap, subst, ◌∙◌, arith}
+use Rattle.std.proofs.Common.{◌≡◌, ℕ, Bool, true, false, List, [], ◌∷◌, ◌++◌, length, ◌==◌, ◌≤◌, if◌then◌else◌, Result, Ok, Err, IfOk, refl, sym, ap, subst, ◌∙◌, arith}
 use Rattle.std.proofs.lemmas.List.{append-nil}
 use Rattle.ak_address.specs.Unique.{UniqueModel, IsUnique, IsAddress}
 use Rattle.ak_field.specs.declared.fault.WireFault.{WireFault}
 use Rattle.ak_field.specs.Reading.{◌>>=◌}
-use Rattle.ak_field.specs.Ranges.{IsProcess}
-use Rattle.ak_field.specs.Spelling.{header, process}
+use Rattle.ak_field.specs.Ranges.{IsProcess, IsHeader, IsVersionOfFormat, IsEntityIn, IsEntity}
+use Rattle.ak_field.specs.Spelling.{format, header, process}
 use Rattle.ak_field.specs.Fields.{header_at, process_at, unique_at, receiver_at}
 use Rattle.ak_field.specs.Laws.{IsBytes, IsField, IsPrefixFree}
 use Rattle.ak_field.proofs.Combined.{bind_ok, ok_is, made_field, first_field, valid_field, prefix_free}
@@ -13,7 +13,7 @@ use Rattle.ak_field.proofs.Whole.{Ranges, header_field, process_field, unique_fi
 use Rattle.ak_wire.specs.declared.envelope.Envelope.{Envelope}
 use Rattle.ak_wire.specs.declared.envelope.Message.{Message}
 use Rattle.ak_wire.specs.declared.envelope.Message.TheVariants.{Join, Welcome, Gossip, Heartbeat, HeartbeatReply, ExitingConfirmed, Ask, Granted, Busy, Old, HandOverToMe, HandOverDone, Release, GetHome, Home, HostShard, ShardStarted, BeginHandOff, BeginHandOffAck, HandOff, ShardStopped, Forward, Leave, Down, Offer}
-use Rattle.ak_wire.specs.Datagram.{kind_number, is_for_anybody, body, receiver, datagram, IsBody, IsReceiverUid, IsValid, Spells}
+use Rattle.ak_wire.specs.Datagram.{Versioned, IsSpelled, spelled, kind_number, is_for_anybody, body, receiver, datagram_in, datagram, IsBodyIn, IsBody, IsReceiverUid, IsValidIn, IsValid, SpellsIn, Spells}
 use Rattle.ak_wire.specs.ReadingDatagram.{body_at, is_kind_for_anybody, datagram_at, ended, read, GivesWhole}
 use Rattle.ak_wire.proofs.BodyFields.{body_field}
 
@@ -94,80 +94,148 @@ receiver_field false =
 abbrev made : UniqueModel → UniqueModel → Message → Envelope
 made from to message = record { from = from; to = to.address; uid = to.uid; message = message }
 
-abbrev AfterTo : ℕ → UniqueModel → UniqueModel → Envelope → Type 0
-AfterTo kind from to e = (e ≡ made from to e.message) × (IsBody e.message × (kind_number e.message ≡ kind))
+abbrev with_version : ℕ → Envelope → Versioned
+with_version version e = (version, e)
 
-abbrev AfterFrom : ℕ → UniqueModel → Envelope → Type 0
-AfterFrom kind from e = (e.from ≡ from) × (IsReceiver (is_kind_for_anybody kind) (receiver e) × (IsBody e.message × (kind_number e.message ≡ kind)))
+abbrev AfterTo : ℕ × ℕ → UniqueModel → UniqueModel → Versioned → Type 0
+AfterTo h from to x = (x ≡ with_version h.0 (made from to x.1.message)) × (IsBodyIn h.0 x.1.message × (kind_number x.1.message ≡ h.1))
 
-abbrev AfterKind : ℕ → Envelope → Type 0
-AfterKind kind e = IsUnique e.from × (IsReceiver (is_kind_for_anybody kind) (receiver e) × (IsBody e.message × (kind_number e.message ≡ kind)))
+abbrev AfterFrom : ℕ × ℕ → UniqueModel → Versioned → Type 0
+AfterFrom h from x = (x.0 ≡ h.0) × ((x.1.from ≡ from) × (IsReceiver (is_kind_for_anybody h.1) (receiver x.1) × (IsBodyIn h.0 x.1.message × (kind_number x.1.message ≡ h.1))))
 
-last_field : (kind : ℕ) → Ranges 1 25 kind → (from to : UniqueModel) → IsField (λ bytes. body_at kind bytes >>= λ message. Ok (made from to message.0, message.1)) (λ e. body e.message) (AfterTo kind from to)
-last_field kind range from to =
-    made_field (body_at kind) body (λ m. IsBody m × (kind_number m ≡ kind)) (made from to) (λ e. e.message) (AfterTo kind from to) (body_field kind range.0 range.1)
-    (λ e is. (is.1, sym is.0))
+abbrev AfterKind : ℕ × ℕ → Versioned → Type 0
+AfterKind h x = (x.0 ≡ h.0) × (IsUnique x.1.from × (IsReceiver (is_kind_for_anybody h.1) (receiver x.1) × (IsBodyIn h.0 x.1.message × (kind_number x.1.message ≡ h.1))))
+
+last_field : (h : ℕ × ℕ) → IsHeader h → (from to : UniqueModel) → IsField (λ bytes. body_at h.0 h.1 bytes >>= λ message. Ok (with_version h.0 (made from to message.0), message.1)) (λ x. body x.1.message) (AfterTo h from to)
+last_field h range from to =
+    made_field (body_at h.0 h.1) body (λ m. IsBodyIn h.0 m × (kind_number m ≡ h.1)) (λ m. with_version h.0 (made from to m)) (λ x. x.1.message) (AfterTo h from to) (body_field h.0 h.1 range.1.0 range.1.1)
+    (λ x is. (is.1, sym is.0))
     (λ m is fits. (refl, (refl, is)))
 
-to_field : (kind : ℕ) → Ranges 1 25 kind → (from : UniqueModel) → IsField (λ bytes. receiver_at (is_kind_for_anybody kind) bytes >>= λ to. body_at kind to.1 >>= λ message. Ok (made from to.0 message.0, message.1)) (λ e. process (receiver e) ++ body e.message) (AfterFrom kind from)
-to_field kind range from =
-    first_field (receiver_at (is_kind_for_anybody kind)) process (IsReceiver (is_kind_for_anybody kind)) receiver (λ to bytes. body_at kind bytes >>= λ message. Ok (made from to message.0, message.1)) (λ e. body e.message) (AfterTo kind from) (AfterFrom kind from)
-    (receiver_field (is_kind_for_anybody kind))
-    (λ to is. last_field kind range from to)
-    (λ e is. (is.1.0, (ap (λ (u : UniqueModel). made u (receiver e) e.message) is.0, is.1.1)))
-    (λ to e is after.
-    let same : receiver e ≡ to = ap receiver after.0 in
-    (same, (ap (λ (d : Envelope). d.from) after.0, (subst (IsReceiver (is_kind_for_anybody kind)) (sym same) is, after.1))))
+to_field : (h : ℕ × ℕ) → IsHeader h → (from : UniqueModel)
+    → IsField (λ bytes. receiver_at (is_kind_for_anybody h.1) bytes >>= λ to. body_at h.0 h.1 to.1 >>= λ message. Ok (with_version h.0 (made from to.0 message.0), message.1)) (λ x. process (receiver x.1) ++ body x.1.message) (AfterFrom h from)
+to_field h range from =
+    first_field (receiver_at (is_kind_for_anybody h.1)) process (IsReceiver (is_kind_for_anybody h.1)) (λ x. receiver x.1) (λ to bytes. body_at h.0 h.1 bytes >>= λ message. Ok (with_version h.0 (made from to message.0), message.1)) (λ x. body x.1.message) (AfterTo h from) (AfterFrom h from)
+    (receiver_field (is_kind_for_anybody h.1))
+    (λ to is. last_field h range from to)
+    (λ x is. (is.1.1.0, ((λ i. with_version (is.0 i) (made (is.1.0 i) (receiver x.1) x.1.message)), is.1.1.1)))
+    (λ to x is after.
+    let same : receiver x.1 ≡ to = ap (λ (y : Versioned). receiver y.1) after.0 in
+    (same, (ap (λ (y : Versioned). y.0) after.0, (ap (λ (y : Versioned). y.1.from) after.0, (subst (IsReceiver (is_kind_for_anybody h.1)) (sym same) is, after.1)))))
 
-from_field : (kind : ℕ) → Ranges 1 25 kind → IsField (λ bytes. unique_at bytes >>= λ from. receiver_at (is_kind_for_anybody kind) from.1 >>= λ to. body_at kind to.1 >>= λ message. Ok (made from.0 to.0 message.0, message.1)) (λ e. process e.from ++ (process (receiver e) ++ body e.message)) (AfterKind kind)
-from_field kind range =
-    first_field unique_at process IsUnique (λ e. e.from) (λ from bytes. receiver_at (is_kind_for_anybody kind) bytes >>= λ to. body_at kind to.1 >>= λ message. Ok (made from to.0 message.0, message.1)) (λ e. process (receiver e) ++ body e.message) (AfterFrom kind) (AfterKind kind)
+from_field : (h : ℕ × ℕ) → IsHeader h
+    → IsField (λ bytes. unique_at bytes >>= λ from. receiver_at (is_kind_for_anybody h.1) from.1 >>= λ to. body_at h.0 h.1 to.1 >>= λ message. Ok (with_version h.0 (made from.0 to.0 message.0), message.1)) (λ x. process x.1.from ++ (process (receiver x.1) ++ body x.1.message)) (AfterKind h)
+from_field h range =
+    first_field unique_at process IsUnique (λ x. x.1.from) (λ from bytes. receiver_at (is_kind_for_anybody h.1) bytes >>= λ to. body_at h.0 h.1 to.1 >>= λ message. Ok (with_version h.0 (made from to.0 message.0), message.1)) (λ x. process (receiver x.1) ++ body x.1.message) (AfterFrom h) (AfterKind h)
     unique_field
-    (λ from is. to_field kind range from)
-    (λ e is. (is.0, (refl, is.1)))
-    (λ from e is after. (after.0, (subst IsUnique (sym after.0) is, after.1)))
+    (λ from is. to_field h range from)
+    (λ x is. (is.1.0, (is.0, (refl, is.1.1))))
+    (λ from x is after. (after.1.0, (after.0, (subst IsUnique (sym after.1.0) is, after.1.1))))
 
 uid_of_kind : (e : Envelope) (kind : ℕ) → kind_number e.message ≡ kind → is_kind_for_anybody kind ≡ is_for_anybody e.message
 uid_of_kind e kind is = ap is_kind_for_anybody (sym is) ∙ anybody e.message
 
-pub datagram_field : IsField datagram_at datagram IsValid
+pub datagram_field : IsField datagram_at spelled IsSpelled
 unfolding datagram_at
 datagram_field =
-    first_field header_at header (Ranges 1 25) (λ e. kind_number e.message) (λ kind bytes. unique_at bytes >>= λ from. receiver_at (is_kind_for_anybody kind) from.1 >>= λ to. body_at kind to.1 >>= λ message. Ok (made from.0 to.0 message.0, message.1)) (λ e. process e.from ++ (process (receiver e) ++ body e.message)) AfterKind IsValid
+    first_field header_at header IsHeader (λ x. (x.0, kind_number x.1.message)) (λ h bytes. unique_at bytes >>= λ from. receiver_at (is_kind_for_anybody h.1) from.1 >>= λ to. body_at h.0 h.1 to.1 >>= λ message. Ok (with_version h.0 (made from.0 to.0 message.0), message.1)) (λ x. process x.1.from ++ (process (receiver x.1) ++ body x.1.message)) AfterKind IsSpelled
     header_field
-    (λ kind range. from_field kind range)
-    (λ e is. (kind_in_range e.message, (is.from, ((is.to, subst (λ (b : Bool). IsReceiverUid b e.uid) (sym (anybody e.message)) is.uid), (is.body, refl)))))
-    (λ kind e range after. (
-      after.1.1.1,
-      record {
-        from = after.0;
-        to = after.1.0.0;
-        uid = subst (λ (b : Bool). IsReceiverUid b e.uid) (uid_of_kind e kind after.1.1.1) after.1.0.1;
-        body = after.1.1.0;
-      },
+    (λ h range. from_field h range)
+    (λ x is. ((is.0, kind_in_range x.1.message), (refl, (is.1.from, ((is.1.to, subst (λ (b : Bool). IsReceiverUid b x.1.uid) (sym (anybody x.1.message)) is.1.uid), (is.1.body, refl))))))
+    (λ h x range after.
+    let kind = after.1.1.1.1 in (
+      (λ i. (after.0 i, kind i)),
+      (
+        subst IsVersionOfFormat (sym after.0) range.0,
+        record {
+          from = after.1.0;
+          to = after.1.1.0.0;
+          uid = subst (λ (b : Bool). IsReceiverUid b x.1.uid) (uid_of_kind x.1 h.1 kind) after.1.1.0.1;
+          body = subst (λ (n : ℕ). IsBodyIn n x.1.message) (sym after.0) after.1.1.1.0;
+        },
+      ),
     ))
 
 -- ---- and nothing after it
-ended_ok : (x : Envelope × List ℕ) (e : Envelope) → ended x ≡ Ok e → x ≡ (e, [])
-ended_ok (d, []) e is = ap (λ (v : Envelope). (v, [])) (ok_is d e is)
-ended_ok (d, byte ∷ rest) e is = absurd cc
+ended_ok : (x : Versioned × List ℕ) (y : Versioned) → ended x ≡ Ok y → x ≡ (y, [])
+ended_ok (y, []) z is = ap (λ (v : Versioned). (v, [])) (ok_is y z is)
+ended_ok (y, byte ∷ rest) z is = absurd cc
 
-pub read_again : (e : Envelope) → IsValid e → read (datagram e) ≡ Ok e
+abbrev whole : Versioned → Result Envelope WireFault
+whole x = Ok x.1
+
+pub read_again : (version : ℕ) (e : Envelope) → IsVersionOfFormat version → IsValidIn version e → read (datagram_in version e) ≡ Ok e
 unfolding read
-read_again e is = ap (λ (l : List ℕ). datagram_at l >>= ended) (sym (append-nil (datagram e))) ∙ ap (λ r. r >>= ended) (datagram_field.again e [] is)
+read_again version e of_format is =
+    ap (λ (l : List ℕ). datagram_at l >>= λ x. ended x >>= whole) (sym (append-nil (datagram_in version e)))
+    ∙ ap (λ r. r >>= λ x. ended x >>= whole) (datagram_field.again (version, e) [] (of_format, is))
 
 pub read_was : (bytes : List ℕ) (e : Envelope) → IsBytes bytes → read bytes ≡ Ok e → Spells bytes e
 unfolding read
 read_was bytes e fits is =
-    let b = bind_ok (datagram_at bytes) ended e is in
-    let w = datagram_field.was bytes e [] fits (b.1 ∙ ap Ok (ended_ok b.0 e b.2)) in
-    record { is = w.0 ∙ append-nil (datagram e); valid = w.1 }
+    let b = bind_ok (datagram_at bytes) (λ x. ended x >>= whole) e is in
+    let c = bind_ok (ended b.0) whole e b.2 in
+    let w = datagram_field.was bytes c.0 [] fits (b.1 ∙ ap Ok (ended_ok b.0 c.0 c.1)) in
+    let same : c.0.1 ≡ e = ok_is c.0.1 e c.2 in
+    (c.0.0, subst (SpellsIn c.0.0 bytes) same (record { of_format = w.1.0; is = w.0 ∙ append-nil (datagram_in c.0.0 c.0.1); valid = w.1.1 }))
 
 pub spelled_again : (bytes : List ℕ) (e : Envelope) → Spells bytes e → read bytes ≡ Ok e
-spelled_again bytes e spells = ap read spells.is ∙ read_again e spells.valid
+spelled_again bytes e spells = ap read spells.1.is ∙ read_again spells.0 e spells.1.of_format spells.1.valid
 
-pub datagrams_free : IsPrefixFree datagram IsValid
-datagrams_free = prefix_free datagram_at datagram IsValid datagram_field
+-- in one version or in two
+pub datagrams_free : IsPrefixFree spelled IsSpelled
+datagrams_free = prefix_free datagram_at spelled IsSpelled datagram_field
+
+-- what has a spelling in a version has one in the version that is written
+longer : (version : ℕ) (name : List ℕ) → IsEntityIn version name → IsEntity name
+longer version name is = record { not_empty = is.not_empty; short = by (version == 1) is.short; printable = is.printable }
+  where
+    by : (b : Bool) → length name ≤ (if b then 64 else 97) → length name ≤ 97
+    by true le = omega (arith, le)
+    by false le = le
+
+body_still : (version : ℕ) (m : Message) → IsBodyIn version m → IsBody m
+body_still version (Forward name bits) is = (longer version name is.0, is.1)
+body_still version (Offer name bits) is = (longer version name is.0, is.1)
+body_still version Join is = is
+body_still version (Welcome g) is = is
+body_still version (Gossip g) is = is
+body_still version Heartbeat is = is
+body_still version HeartbeatReply is = is
+body_still version ExitingConfirmed is = is
+body_still version (Ask b) is = is
+body_still version (Granted b v rs) is = is
+body_still version (Busy b c) is = is
+body_still version (Old b c) is = is
+body_still version (HandOverToMe b) is = is
+body_still version (HandOverDone b v) is = is
+body_still version (Release b v) is = is
+body_still version (GetHome b s) is = is
+body_still version (Home b s u) is = is
+body_still version (HostShard b s n) is = is
+body_still version (ShardStarted b s n) is = is
+body_still version (BeginHandOff b s n) is = is
+body_still version (BeginHandOffAck b s n) is = is
+body_still version (HandOff b s n) is = is
+body_still version (ShardStopped b s n) is = is
+body_still version (Leave u) is = is
+body_still version (Down u) is = is
+
+pub valid_still : (version : ℕ) (e : Envelope) → IsValidIn version e → IsValid e
+valid_still version e is = record { from = is.from; to = is.to; uid = is.uid; body = body_still version e.message is.body }
+
+pub spelled_valid : (bytes : List ℕ) (e : Envelope) → Spells bytes e → IsValid e
+spelled_valid bytes e spells = valid_still spells.0 e spells.1.valid
+
+-- the version that is written is read
+pub written : IsVersionOfFormat format
+written = record { first = omega arith; last = omega arith }
+
+pub written_again : (e : Envelope) → IsValid e → read (datagram e) ≡ Ok e
+written_again e is = read_again format e written is
+
+pub spells_written : (bytes : List ℕ) (e : Envelope) → bytes ≡ datagram e → IsValid e → SpellsIn format bytes e
+spells_written bytes e is valid = record { of_format = written; is = is; valid = valid }
 
 -- ---- what a call answers that gives what reading gives
 pub spelled_of : (result : Result Envelope WireFault) (bytes : List ℕ) → IsBytes bytes → GivesWhole result (read bytes) → IfOk result (λ e. Spells bytes e)

@@ -8,7 +8,7 @@ use Rattle.ak_field.specs.Fields.{header_at}
 use Rattle.ak_field.specs.Laws.{IsBytes}
 use Rattle.ak_field.proofs.Combined.{ok_is}
 use Rattle.ak_wire.specs.declared.envelope.Envelope.{Envelope}
-use Rattle.ak_wire.specs.Datagram.{Spells}
+use Rattle.ak_wire.specs.Datagram.{SpellsIn, Spells}
 use Rattle.ak_wire.specs.ReadingDatagram.{datagram_at, read}
 use Rattle.ak_wire.specs.Laws.{FirstFault, IsDecided}
 use Rattle.ak_wire.proofs.DatagramFields.{read_was, spelled_again}
@@ -49,7 +49,7 @@ decided bytes fits = record {
   of_eight = λ n fault. numbered (read bytes) n fault;
 }
 
-header_fault : (bytes : List ℕ) (r : Result (ℕ × List ℕ) WireFault) → header_at bytes ≡ r → (n : ℕ) → first_fault r ≡ Some n → FirstFault bytes n
+header_fault : (bytes : List ℕ) (r : Result ((ℕ × ℕ) × List ℕ) WireFault) → header_at bytes ≡ r → (n : ℕ) → first_fault r ≡ Some n → FirstFault bytes n
 unfolding read datagram_at
 header_fault bytes (Ok x) same n e = absurd (not_None n (sym e))
 header_fault bytes (Err fault) same n e = rw same e
@@ -58,5 +58,5 @@ header_fault bytes (Err fault) same n e = rw same e
 pub header_first : (bytes : List ℕ) (n : ℕ) → first_fault (header_at bytes) ≡ Some n → FirstFault bytes n
 header_first bytes n e = header_fault bytes (header_at bytes) refl n e
 
-pub one_spelling : (e : Envelope) (bytes other : List ℕ) → Spells bytes e → Spells other e → bytes ≡ other
-one_spelling e bytes other spells too = spells.is ∙ sym too.is
+pub one_spelling : (version : ℕ) (e : Envelope) (bytes other : List ℕ) → SpellsIn version bytes e → SpellsIn version other e → bytes ≡ other
+one_spelling version e bytes other spells too = spells.is ∙ sym too.is

@@ -33,18 +33,18 @@ early_body kind bytes =
     (choose _ _ _ (made _ _ (pair _ _ a_ballot a_ballot bytes))
     (choose _ _ _ (made _ _ (pair _ _ a_ballot a_version bytes)) (fine _)))))
 
-late_body : (kind : ℕ) (bytes : List ℕ) → IsNumbered (late_body_at kind bytes)
+late_body : (version kind : ℕ) (bytes : List ℕ) → IsNumbered (late_body_at version kind bytes)
 unfolding late_body_at
-late_body kind bytes =
+late_body version kind bytes =
     choose _ _ _ (made _ _ (pair _ _ a_ballot a_shard bytes))
     (choose _ _ _ (made _ _ (pair _ _ a_ballot (pair _ _ a_shard (a_process _ _)) bytes))
-    (choose _ _ _ (made _ _ (pair _ _ an_entity (wide _) bytes))
+    (choose _ _ _ (made _ _ (pair _ _ (an_entity version) (wide _) bytes))
     (choose _ _ _ (made _ _ (a_process _ _ bytes))
     (made _ _ (pair _ _ a_ballot (pair _ _ a_shard (a_number 1 BOUND)) bytes)))))
 
-a_body : (kind : ℕ) (bytes : List ℕ) → IsNumbered (body_at kind bytes)
+a_body : (version kind : ℕ) (bytes : List ℕ) → IsNumbered (body_at version kind bytes)
 unfolding body_at
-a_body kind bytes = choose (nat_le kind 13) _ _ (early_body kind bytes) (late_body kind bytes)
+a_body version kind bytes = choose (nat_le kind 13) _ _ (early_body kind bytes) (late_body version kind bytes)
 
 a_datagram : (bytes : List ℕ) → IsNumbered (datagram_at bytes)
 unfolding datagram_at
@@ -52,21 +52,21 @@ a_datagram bytes =
     bind (header_at bytes) _ (a_header bytes) (λ kind.
     bind (process_at _ _ kind.1) _ (a_process _ _ kind.1) (λ from.
     bind (receiver_at _ from.1) _ (a_receiver _ from.1) (λ to.
-    bind (body_at kind.0 to.1) _ (a_body kind.0 to.1) (λ message. fine _))))
+    bind (body_at kind.0.0 kind.0.1 to.1) _ (a_body kind.0.0 kind.0.1 to.1) (λ message. fine _))))
 
-nothing_left : (x : Envelope × List ℕ) → IsNumbered (ended x)
+nothing_left : (x : (ℕ × Envelope) × List ℕ) → IsNumbered (ended x)
 nothing_left (e, []) = fine _
 nothing_left (e, byte ∷ rest) = wrong _ Trailing refl
 
 read_ends : (bytes : List ℕ) → IsNumbered (read bytes)
 unfolding read
-read_ends bytes = bind (datagram_at bytes) ended (a_datagram bytes) nothing_left
+read_ends bytes = bind (datagram_at bytes) _ (a_datagram bytes) (λ x. bind (ended x) _ (nothing_left x) (λ whole. fine _))
 
 pub read_numbered : (bytes : List ℕ) (fault : WireFault) → read bytes ≡ Err fault → is_some (fault_number fault) ≡ true
 read_numbered bytes fault same = has_number (read bytes) (read_ends bytes) fault same
 
 -- a header is read without memory
-pub header_begins : (bytes : List ℕ) (fault : WireFault) → header_at bytes ≡ Err fault → IsBegun (Err fault) bytes
+pub header_begins : (bytes : List ℕ) (fault : WireFault) → header_at bytes ≡ Err fault → IsBegun {X = ℕ × Envelope} (Err fault) bytes
 header_begins bytes (NoMemory error) same = absurd (true≢false (sym (has_number (header_at bytes) (a_header bytes) (NoMemory error) same)))
 header_begins bytes Short same = tt
 header_begins bytes Magic same = tt

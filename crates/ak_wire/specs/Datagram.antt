@@ -6,8 +6,8 @@ use Rattle.ak_member.specs.declared.standing.Standing.{Standing}
 use Rattle.ak_gossip.specs.declared.part.Part.{Part}
 use Rattle.ak_gossip.specs.Gossip.{GossipState, IsGossip, is_known}
 use Rattle.ak_gossip.specs.Parts.{parts_of}
-use Rattle.ak_field.specs.Ranges.{IsEntity, IsNumber, IsShard}
-use Rattle.ak_field.specs.Spelling.{eight_bytes, header, process, ballot, shard, entity, version, reports}
+use Rattle.ak_field.specs.Ranges.{IsEntityIn, IsNumber, IsShard, IsVersionOfFormat}
+use Rattle.ak_field.specs.Spelling.{eight_bytes, format, header, process, ballot, shard, entity, version, reports}
 use Rattle.ak_field.specs.Lists.{IsShort, AreReports}
 use Rattle.ak_field.specs.Parts.{parts}
 use Rattle.ak_wire.specs.declared.envelope.Envelope.{Envelope}
@@ -96,8 +96,13 @@ body (Offer name bits) = payload name bits
 abbrev pub receiver : Envelope → UniqueModel
 receiver e = record { address = e.to; uid = e.uid }
 
+-- in a version of the format
+abbrev pub datagram_in : ℕ → Envelope → List ℕ
+datagram_in version e = header (version, kind_number e.message) ++ (process e.from ++ (process (receiver e) ++ body e.message))
+
+-- and in the version that is written
 abbrev pub datagram : Envelope → List ℕ
-datagram e = header (kind_number e.message) ++ (process e.from ++ (process (receiver e) ++ body e.message))
+datagram e = datagram_in format e
 
 -- a process, and what is known of it
 abbrev pub Process : Type 0
@@ -108,47 +113,70 @@ pub record IsSendable (g : GossipState) : Type 0 where
   pub gossip : IsGossip g
   pub uniques : (who : UniqueModel) → IsTrue (is_known g.view.standings who) → IsUnique who
 
--- each field of a body is in its range; a payload may be any number of 64 bits
-abbrev pub IsBody : Message → Type 0
-IsBody Join = ⊤
-IsBody (Welcome g) = IsSendable g
-IsBody (Gossip g) = IsSendable g
-IsBody Heartbeat = ⊤
-IsBody HeartbeatReply = ⊤
-IsBody ExitingConfirmed = ⊤
-IsBody (Ask b) = IsBallot b
-IsBody (Granted b v rs) = IsBallot b × (IsShort v × AreReports rs)
-IsBody (Busy b c) = IsBallot b × IsBallot c
-IsBody (Old b c) = IsBallot b × IsBallot c
-IsBody (HandOverToMe b) = IsBallot b
-IsBody (HandOverDone b v) = IsBallot b × IsShort v
-IsBody (Release b v) = IsBallot b × IsShort v
-IsBody (GetHome b s) = IsBallot b × IsShard s
-IsBody (Home b s u) = IsBallot b × (IsShard s × IsUnique u)
-IsBody (HostShard b s n) = IsBallot b × (IsShard s × IsNumber n)
-IsBody (ShardStarted b s n) = IsBallot b × (IsShard s × IsNumber n)
-IsBody (BeginHandOff b s n) = IsBallot b × (IsShard s × IsNumber n)
-IsBody (BeginHandOffAck b s n) = IsBallot b × (IsShard s × IsNumber n)
-IsBody (HandOff b s n) = IsBallot b × (IsShard s × IsNumber n)
-IsBody (ShardStopped b s n) = IsBallot b × (IsShard s × IsNumber n)
-IsBody (Forward name bits) = IsEntity name × (bits < 2 ^ 64)
-IsBody (Leave u) = IsUnique u
-IsBody (Down u) = IsUnique u
-IsBody (Offer name bits) = IsEntity name × (bits < 2 ^ 64)
+-- each field of a body is in its range, in a version of the format; a payload may be any number of 64 bits
+abbrev pub IsBodyIn : ℕ → Message → Type 0
+IsBodyIn version Join = ⊤
+IsBodyIn version (Welcome g) = IsSendable g
+IsBodyIn version (Gossip g) = IsSendable g
+IsBodyIn version Heartbeat = ⊤
+IsBodyIn version HeartbeatReply = ⊤
+IsBodyIn version ExitingConfirmed = ⊤
+IsBodyIn version (Ask b) = IsBallot b
+IsBodyIn version (Granted b v rs) = IsBallot b × (IsShort v × AreReports rs)
+IsBodyIn version (Busy b c) = IsBallot b × IsBallot c
+IsBodyIn version (Old b c) = IsBallot b × IsBallot c
+IsBodyIn version (HandOverToMe b) = IsBallot b
+IsBodyIn version (HandOverDone b v) = IsBallot b × IsShort v
+IsBodyIn version (Release b v) = IsBallot b × IsShort v
+IsBodyIn version (GetHome b s) = IsBallot b × IsShard s
+IsBodyIn version (Home b s u) = IsBallot b × (IsShard s × IsUnique u)
+IsBodyIn version (HostShard b s n) = IsBallot b × (IsShard s × IsNumber n)
+IsBodyIn version (ShardStarted b s n) = IsBallot b × (IsShard s × IsNumber n)
+IsBodyIn version (BeginHandOff b s n) = IsBallot b × (IsShard s × IsNumber n)
+IsBodyIn version (BeginHandOffAck b s n) = IsBallot b × (IsShard s × IsNumber n)
+IsBodyIn version (HandOff b s n) = IsBallot b × (IsShard s × IsNumber n)
+IsBodyIn version (ShardStopped b s n) = IsBallot b × (IsShard s × IsNumber n)
+IsBodyIn version (Forward name bits) = IsEntityIn version name × (bits < 2 ^ 64)
+IsBodyIn version (Leave u) = IsUnique u
+IsBodyIn version (Down u) = IsUnique u
+IsBodyIn version (Offer name bits) = IsEntityIn version name × (bits < 2 ^ 64)
 
 -- the uid of a receiver is 0 exactly where the message is for any process at its address
 abbrev pub IsReceiverUid : Bool → ℕ → Type 0
 IsReceiverUid true uid = uid ≡ 0
 IsReceiverUid false uid = (1 ≤ uid) × (uid < 2 ^ 63)
 
--- an envelope that has a spelling
-pub record IsValid (e : Envelope) : Type 0 where
+-- and in the version that is written
+abbrev pub IsBody : Message → Type 0
+IsBody m = IsBodyIn format m
+
+-- an envelope that has a spelling in a version of the format
+pub record IsValidIn (version : ℕ) (e : Envelope) : Type 0 where
   pub from : IsUnique e.from
   pub to : IsAddress e.to
   pub uid : IsReceiverUid (is_for_anybody e.message) e.uid
-  pub body : IsBody e.message
+  pub body : IsBodyIn version e.message
 
--- the bytes spell the envelope
-pub record Spells (bytes : List ℕ) (e : Envelope) : Type 0 where
-  pub is : bytes ≡ datagram e
-  pub valid : IsValid e
+-- and in the version that is written
+abbrev pub IsValid : Envelope → Type 0
+IsValid e = IsValidIn format e
+
+-- a version of the format, and an envelope that has a spelling in it
+abbrev pub Versioned : Type 0
+Versioned = ℕ × Envelope
+
+abbrev pub IsSpelled : Versioned → Type 0
+IsSpelled x = IsVersionOfFormat x.0 × IsValidIn x.0 x.1
+
+abbrev pub spelled : Versioned → List ℕ
+spelled x = datagram_in x.0 x.1
+
+-- the bytes spell the envelope in this version of the format
+pub record SpellsIn (version : ℕ) (bytes : List ℕ) (e : Envelope) : Type 0 where
+  pub of_format : IsVersionOfFormat version
+  pub is : bytes ≡ datagram_in version e
+  pub valid : IsValidIn version e
+
+-- the bytes spell the envelope, in one of the versions
+abbrev pub Spells : List ℕ → Envelope → Type 0
+Spells bytes e = (version : ℕ) × SpellsIn version bytes e

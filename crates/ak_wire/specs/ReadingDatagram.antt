@@ -65,8 +65,8 @@ home_at bytes = pair_at ballot_at (pair_at shard_at unique_at) bytes
 abbrev pub placed_at : List ℕ → Result ((BallotModel × (ℕ × ℕ)) × List ℕ) WireFault
 placed_at bytes = pair_at ballot_at (pair_at shard_at (number_at 1 BOUND)) bytes
 
-abbrev pub payload_at : List ℕ → Result ((List ℕ × ℕ) × List ℕ) WireFault
-payload_at bytes = pair_at entity_at (wide_at w64) bytes
+abbrev pub payload_at : ℕ → List ℕ → Result ((List ℕ × ℕ) × List ℕ) WireFault
+payload_at version bytes = pair_at (entity_at version) (wide_at w64) bytes
 
 -- the message of a kind, out of its fields
 abbrev pub bare : ℕ → Message
@@ -118,30 +118,30 @@ early_body_at kind bytes =
     else (if kind == 12 || kind == 13 then made_at (ending kind) (done_at bytes)
     else Ok (bare kind, bytes)))))
 
--- and of what is said of shards, of entities and from outside, of kinds 14 to 25
-unfoldable pub late_body_at : ℕ → List ℕ → Result (Message × List ℕ) WireFault
-late_body_at kind bytes =
+-- and of what is said of shards, of entities and from outside, of kinds 14 to 25, in a version of the format
+unfoldable pub late_body_at : ℕ → ℕ → List ℕ → Result (Message × List ℕ) WireFault
+late_body_at version kind bytes =
     if kind == 14 then made_at seeking (get_home_at bytes)
     else (if kind == 15 then made_at homing (home_at bytes)
-    else (if kind == 22 || kind == 25 then made_at (carrying kind) (payload_at bytes)
+    else (if kind == 22 || kind == 25 then made_at (carrying kind) (payload_at version bytes)
     else (if kind == 23 || kind == 24 then made_at (naming kind) (unique_at bytes)
     else made_at (placing kind) (placed_at bytes))))
 
-unfoldable pub body_at : ℕ → List ℕ → Result (Message × List ℕ) WireFault
-body_at kind bytes = if nat_le kind 13 then early_body_at kind bytes else late_body_at kind bytes
+unfoldable pub body_at : ℕ → ℕ → List ℕ → Result (Message × List ℕ) WireFault
+body_at version kind bytes = if nat_le kind 13 then early_body_at kind bytes else late_body_at version kind bytes
 
 -- kinds of messages that are for any process at an address
 abbrev pub is_kind_for_anybody : ℕ → Bool
 is_kind_for_anybody kind = kind == 1 || (kind == 23 || (kind == 24 || kind == 25))
 
--- a datagram, and the bytes after it
-unfoldable pub datagram_at : List ℕ → Result (Envelope × List ℕ) WireFault
+-- a datagram, with the version of its format, and the bytes after it
+unfoldable pub datagram_at : List ℕ → Result ((ℕ × Envelope) × List ℕ) WireFault
 datagram_at bytes = do
-  kind ← header_at bytes
-  from ← unique_at kind.1
-  to ← receiver_at (is_kind_for_anybody kind.0) from.1
-  message ← body_at kind.0 to.1
-  Ok (record { from = from.0; to = to.0.address; uid = to.0.uid; message = message.0 }, message.1)
+  header ← header_at bytes
+  from ← unique_at header.1
+  to ← receiver_at (is_kind_for_anybody header.0.1) from.1
+  message ← body_at header.0.0 header.0.1 to.1
+  Ok ((header.0.0, record { from = from.0; to = to.0.address; uid = to.0.uid; message = message.0 }), message.1)
 
 -- nothing is left
 abbrev pub ended : {X : Type 0} → X × List ℕ → Result X WireFault
@@ -150,8 +150,9 @@ ended (value, byte ∷ rest) = Err Trailing
 
 unfoldable pub read : List ℕ → Result Envelope WireFault
 read bytes = do
-  envelope ← datagram_at bytes
-  ended envelope
+  read ← datagram_at bytes
+  whole ← ended read
+  Ok whole.1
 
 -- what a call answers is what reading gives, unless memory ran out
 abbrev pub GivesWhole : {X : Type 0} → Result X WireFault → Result X WireFault → Type 0
@@ -160,6 +161,6 @@ GivesWhole (Err fault) read = Fails fault read
 
 -- Where memory ran out, a datagram is begun: its header stands there, and then its sender, both without a fault. Whatever has
 -- a fault there is refused without memory.
-abbrev pub IsBegun : Result Envelope WireFault → List ℕ → Type 0
-IsBegun (Err (NoMemory _)) bytes = (kind : ℕ × List ℕ) × (from : UniqueModel × List ℕ) × (header_at bytes ≡ Ok kind) × (unique_at kind.1 ≡ Ok from)
+abbrev pub IsBegun : {X : Type 0} → Result X WireFault → List ℕ → Type 0
+IsBegun (Err (NoMemory _)) bytes = (header : (ℕ × ℕ) × List ℕ) × (from : UniqueModel × List ℕ) × (header_at bytes ≡ Ok header) × (unique_at header.1 ≡ Ok from)
 IsBegun _ bytes = Unit {0}

@@ -11,15 +11,20 @@ use ak_gossip::Gossip;
 use ak_promise::Ballot;
 use std::alloc::Global;
 
-/// The body of a message of this kind, from 1 to 25.
+/// The body of a message of this kind, from 1 to 25, in a version of the format.
 #[tactic(auto, unfolding(crate::specs::ReadingDatagram::body_at))]
-pub(crate) fn body(alloc: Global, kind: u8, fields: &mut Fields<'_>) -> Result<Message, WireFault>
-    ensures { Gives result fields.new (body_at kind fields.old) }
+pub(crate) fn body(
+    alloc: Global,
+    version: u8,
+    kind: u8,
+    fields: &mut Fields<'_>,
+) -> Result<Message, WireFault>
+    ensures { Gives result fields.new (body_at version kind fields.old) }
 {
     if kind <= 13 {
         return early_body(alloc, kind, fields);
     }
-    late_body(alloc, kind, fields)
+    late_body(alloc, version, kind, fields)
 }
 
 #[tactic(auto, unfolding(crate::specs::ReadingDatagram::early_body_at))]
@@ -45,8 +50,13 @@ fn early_body(alloc: Global, kind: u8, fields: &mut Fields<'_>) -> Result<Messag
 }
 
 #[tactic(auto, unfolding(crate::specs::ReadingDatagram::late_body_at))]
-fn late_body(alloc: Global, kind: u8, fields: &mut Fields<'_>) -> Result<Message, WireFault>
-    ensures { Gives result fields.new (late_body_at kind fields.old) }
+fn late_body(
+    alloc: Global,
+    version: u8,
+    kind: u8,
+    fields: &mut Fields<'_>,
+) -> Result<Message, WireFault>
+    ensures { Gives result fields.new (late_body_at version kind fields.old) }
 {
     if kind == 14 {
         return seeking(alloc, fields);
@@ -55,7 +65,7 @@ fn late_body(alloc: Global, kind: u8, fields: &mut Fields<'_>) -> Result<Message
         return homing(alloc, fields);
     }
     if kind == 22 || kind == 25 {
-        return carrying(alloc, kind, fields);
+        return carrying(alloc, version, kind, fields);
     }
     if kind == 23 || kind == 24 {
         return naming(alloc, kind, fields);
@@ -192,10 +202,15 @@ fn placed_message(kind: u8, ballot: Ballot, shard: u32, number: u64) -> Message
 }
 
 #[tactic(auto, using(crate::proofs::Steps::fails_first, crate::proofs::Steps::fails_exactly), unfolding(crate::specs::ReadingDatagram::pair_at, crate::specs::ReadingDatagram::made_at))]
-fn carrying(alloc: Global, kind: u8, fields: &mut Fields<'_>) -> Result<Message, WireFault>
-    ensures { Gives result fields.new (made_at (carrying kind) (payload_at fields.old)) }
+fn carrying(
+    alloc: Global,
+    version: u8,
+    kind: u8,
+    fields: &mut Fields<'_>,
+) -> Result<Message, WireFault>
+    ensures { Gives result fields.new (made_at (carrying kind) (payload_at version fields.old)) }
 {
-    let entity = fields.entity(alloc)?;
+    let entity = fields.entity(alloc, version)?;
     let payload = fields.eight_bytes()?;
     match kind {
         22 => Ok(Message::Forward(entity, payload)),

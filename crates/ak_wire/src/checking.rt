@@ -22,7 +22,7 @@ const MOST_SHARD: u32 = 999;
 /// Whether an envelope can be spelled as bytes (this project's format): its uid is 0 exactly where its message is for any
 /// process at an address, that is of a join, a leave, a down and an offer, and else at most 9223372036854775807; its versions
 /// have at most 128 processes, its reports are at most 1000 and ascend, its shards are at most 999, its numbers from 1 to
-/// 4611686018427387904, and its entities are called by 1 to 64 bytes from `!` to `~`. Takes no memory.
+/// 4611686018427387904, and its entities are called by 1 to 97 bytes from `!` to `~`. Takes no memory.
 pub fn valid(envelope: &Envelope) -> bool
     ensures { IsTrue result ↔ IsValid envelope.now }
 {

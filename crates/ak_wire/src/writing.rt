@@ -19,8 +19,8 @@ use ak_gossip::{Gossip, Part, Parts};
 use ak_promise::Ballot;
 use std::alloc::{AllocError, Global};
 
-/// The bytes that spell a valid envelope (this project's format): all that `decode` reads again. They are measured first, so
-/// that memory for them is asked for once. Only memory can fail.
+/// The bytes that spell a valid envelope, in the newest version of the format (this project's format): all that `decode` reads
+/// again. They are measured first, so that memory for them is asked for once. Only memory can fail.
 pub fn encode(alloc: Global, envelope: &Envelope) -> Result<Vec<u8>, AllocError>
     requires { IsValid envelope.now }
     ensures { IfOk result (λ bytes. bytes.items ≡ datagram envelope.now) }
