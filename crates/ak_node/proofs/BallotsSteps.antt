@@ -38,7 +38,7 @@ use Rattle.ak_node.specs.declared.node.State.{State}
 use Rattle.ak_node.specs.declared.node.NodeEvent.{NodeEvent}
 use Rattle.ak_node.specs.declared.node.NodeEvent.TheVariants as event
 use Rattle.ak_node.specs.Node as node
-use Rattle.ak_node.specs.Node.{Outcome, known, me_of, settled_of, margin_of, is_member, is_gone, nothing, and_then, started, does, does_for, unless_refused, leave, down, asks_at, exits, gossips_to, status_of, asks_as, ends_phase, around, shards_do, offer, on_shards, takes, rest, may_leave, leaves, forgets, rule_on, is_over_here, is_asked, takes_grant, has_handed_over, goes_on, on_message, rule, closes, concludes, is_dead, running_step, step}
+use Rattle.ak_node.specs.Node.{Outcome, known, me_of, settled_of, margin_of, is_member, is_gone, nothing, and_then, started, does, does_for, unless_refused, leave, down, asks_at, exits, gossips_to, status_of, asks_as, ends_phase, around, shards_do, offer, on_shards, takes, rest, may_leave, leaves, forgets, rule_on, is_over_here, is_asked, takes_grant, has_handed_over, goes_on, on_message, rule, closes, concludes, is_dead, running_step, step, is_entity_at}
 use Rattle.ak_node.specs.Sends.{KnowsProcesses, IsProcess, IsCounted, KeepsBallots, KeepsSettled, KeepsShards, IsSaid}
 use Rattle.ak_node.proofs.NamesKept.{step_names}
 use Rattle.ak_node.proofs.BallotsKept.{counted_empty, short_counted, known_fits, released_kept, asked_kept, granted_kept, rule_kept, old_kept, ended_kept, active_kept, settled_alike}
@@ -108,8 +108,8 @@ module _ (n : State) (me : IsUnique (me_of n)) (k : Keeps n) where
     told_kept from (message.BeginHandOffAck b shard number) from_is said = packet_kept from (message.BeginHandOffAck b shard number) from_is said
     told_kept from (message.HandOff b shard number) from_is said = packet_kept from (message.HandOff b shard number) from_is said
     told_kept from (message.ShardStopped b shard number) from_is said = packet_kept from (message.ShardStopped b shard number) from_is said
-    told_kept from (message.Forward entity payload) from_is said = packet_kept from (message.Forward entity payload) from_is said
-    told_kept from (message.Offer entity payload) from_is said = offer_kept entity payload said.0 said.1
+    told_kept from (message.Forward entity payload) from_is said = kept_if (is_entity_at entity n) _ (nothing n) (λ is. packet_kept from (message.Forward entity payload) from_is said) k
+    told_kept from (message.Offer entity payload) from_is said = kept_if (is_entity_at entity n) _ (nothing n) (λ is. offer_kept entity payload said.0 said.1) k
 
 gossiping_kept : (x : State) (to : Option UniqueModel) → Keeps x → Kept (gossips_to to x)
 gossiping_kept x None kept = kept

@@ -32,7 +32,7 @@ use Rattle.ak_region.specs.Region.{after_forget, new_region}
 use Rattle.ak_region.specs.RegionModel.{RegionModel}
 use Rattle.ak_region.proofs.Forgetting.{forgets_once}
 use Rattle.ak_region.proofs.StoredLemmas.{none_strange}
-use Rattle.ak_settings.specs.Settings.{SettingsModel, IsStrategy, settling_size}
+use Rattle.ak_settings.specs.Settings.{SettingsModel, IsStrategy, settling_size, division_of, number_of_shards}
 use Rattle.ak_settings.specs.declared.settings.Strategy.{Strategy}
 use Rattle.ak_settings.specs.declared.settings.Strategy.TheVariants.{StaticQuorum, KeepMajority, KeepOldest, DownAll}
 use Rattle.ak_settled.specs.SettledView.{SettledView}
@@ -206,4 +206,4 @@ starts_concluded me settings m s h some is_m is_s is_h = subst IsConcluded (λ i
   where
     concluded : IsConcluded (node.started me settings)
     concluded runs = concludes_nothing (node.started me settings) refl (nobody_closes me settings some)
-        (ap (λ slots. record (new_sharding settings) { region = record (new_region settings.shards settings.buffer) { slots = slots } }) (none_strange finmap.empty settings.shards)) refl
+        (ap (λ slots. record (new_sharding settings) { region = record (new_region (division_of settings) settings.buffer) { slots = slots } }) (none_strange finmap.empty (number_of_shards settings))) refl

@@ -37,7 +37,7 @@ use Rattle.ak_wire.specs.Wire.{updates_of}
 use Rattle.ak_node.specs.declared.node.State.{State}
 use Rattle.ak_node.specs.declared.node.NodeEvent.{NodeEvent}
 use Rattle.ak_node.specs.declared.node.NodeEvent.TheVariants as event
-use Rattle.ak_node.specs.Node.{Outcome, known, me_of, is_member, is_gone, nothing, and_then, does, does_for, unless_refused, leave, down, asks_at, exits, gossips_to, goes_on, ticked, on_message, rule, asks_as, status_of, ends_phase, is_asked, takes_grant, has_handed_over, answers_ask, shards_do, rest, may_leave, leaves, closes, concludes, is_dead, running_step, step}
+use Rattle.ak_node.specs.Node.{Outcome, known, me_of, is_member, is_gone, nothing, and_then, does, does_for, unless_refused, leave, down, asks_at, exits, gossips_to, goes_on, ticked, on_message, rule, asks_as, status_of, ends_phase, is_asked, takes_grant, has_handed_over, answers_ask, shards_do, rest, may_leave, leaves, closes, concludes, is_dead, running_step, step, is_entity_at, on_shards, offer}
 use Rattle.ak_node.specs.NodeContracts.{IsNode, Serves, ServesWhileItRuns}
 use Rattle.ak_node.specs.Change.{given_by, NotesNow, Notes}
 use Rattle.ak_node.proofs.StepChanges.{rule_changes, running_changes, step_is, step_changes, ran_before}
@@ -161,8 +161,8 @@ module _ (n : State) where
   told_settled from (message.BeginHandOffAck b shard number) = same_if (is_member n) _ (nothing n) (inl refl) (inl refl)
   told_settled from (message.HandOff b shard number) = same_if (is_member n) _ (nothing n) (inl refl) (inl refl)
   told_settled from (message.ShardStopped b shard number) = same_if (is_member n) _ (nothing n) (inl refl) (inl refl)
-  told_settled from (message.Forward entity payload) = same_if (is_member n) _ (nothing n) (inl refl) (inl refl)
-  told_settled from (message.Offer entity payload) = inl refl
+  told_settled from (message.Forward entity payload) = same_if (is_entity_at entity n) (on_shards from (message.Forward entity payload) n) (nothing n) (same_if (is_member n) _ (nothing n) (inl refl) (inl refl)) (inl refl)
+  told_settled from (message.Offer entity payload) = same_if (is_entity_at entity n) (offer entity payload n) (nothing n) (inl refl) (inl refl)
 
   pub rule_settled : (e : NodeEvent) → SameSettled n (rule e n).0
   rule_settled event.Found = (found_learns (given_by event.Found) n.membership refl).waits_on

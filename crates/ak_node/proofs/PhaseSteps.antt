@@ -43,7 +43,7 @@ use Rattle.ak_node.specs.declared.node.State.{State}
 use Rattle.ak_node.specs.declared.node.NodeEvent.{NodeEvent}
 use Rattle.ak_node.specs.declared.node.NodeEvent.TheVariants as event
 use Rattle.ak_node.specs.Node as node
-use Rattle.ak_node.specs.Node.{around, sharing, shards_do, offer, on_shards, takes, rest, may_leave, leaves, forgets, Outcome, known, me_of, settled_of, margin_of, is_member, is_gone, number_of, and_then, to_process, to_each, to_address, answer, update_by, does, does_for, unless_refused, join, leave, down, stop, asks_at, counted_members, exits, gossips_to, gossips, keeping, promising, told_of, told_its_own, told_to_each, releases, needed_others, rule_on, does_rule, status_of, asks_as, told_end, let_go, ends_phase, told_active, becomes_active, answered, is_asked, answers_ask, takes_grant, has_handed_over, goes_on, ends, beats, tick, on_message, rule, if_so, closes, concludes, is_dead, step}
+use Rattle.ak_node.specs.Node.{around, sharing, shards_do, offer, on_shards, takes, rest, may_leave, leaves, forgets, Outcome, known, me_of, settled_of, margin_of, is_member, is_gone, number_of, and_then, to_process, to_each, to_address, answer, update_by, does, does_for, unless_refused, join, leave, down, stop, asks_at, counted_members, exits, gossips_to, gossips, keeping, promising, told_of, told_its_own, told_to_each, releases, needed_others, rule_on, does_rule, status_of, asks_as, told_end, let_go, ends_phase, told_active, becomes_active, answered, is_asked, answers_ask, takes_grant, has_handed_over, goes_on, ends, beats, tick, on_message, rule, if_so, closes, concludes, is_dead, step, is_entity_at, nothing}
 use Rattle.ak_node.proofs.StepChanges.{step_is}
 
 -- ---- actions that tell nothing of the singleton, nor that the node stops
@@ -347,8 +347,8 @@ told_phases n fits from (message.BeginHandOff b shard number) = on_shards_phases
 told_phases n fits from (message.BeginHandOffAck b shard number) = on_shards_phases n fits from (message.BeginHandOffAck b shard number)
 told_phases n fits from (message.HandOff b shard number) = on_shards_phases n fits from (message.HandOff b shard number)
 told_phases n fits from (message.ShardStopped b shard number) = on_shards_phases n fits from (message.ShardStopped b shard number)
-told_phases n fits from (message.Forward entity payload) = on_shards_phases n fits from (message.Forward entity payload)
-told_phases n fits from (message.Offer entity payload) = offer_phases n fits entity payload
+told_phases n fits from (message.Forward entity payload) = phases_if n fits (is_entity_at entity n) (on_shards_phases n fits from (message.Forward entity payload)) (same n fits [] plain_none)
+told_phases n fits from (message.Offer entity payload) = phases_if n fits (is_entity_at entity n) (offer_phases n fits entity payload) (same n fits [] plain_none)
 
 rule_phases : (e : NodeEvent) (n : State) → Fits n.singleton → Phases n (rule e n)
 rule_phases event.Found n fits = done_phases n fits (membership.found n.membership)

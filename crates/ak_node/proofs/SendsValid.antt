@@ -60,7 +60,7 @@ use Rattle.ak_node.specs.declared.node.State.{State}
 use Rattle.ak_node.specs.declared.node.NodeEvent.{NodeEvent}
 use Rattle.ak_node.specs.declared.node.NodeEvent.TheVariants as event
 use Rattle.ak_node.specs.Node as node
-use Rattle.ak_node.specs.Node.{Outcome, known, me_of, settled_of, margin_of, reports_of, status_of, floor_of, most_in_version, fits_packet, is_grantable, promising, told_of, told_its_own, told_to_each, releases, needed_others, rule_on, does_rule, asks_as, told_end, let_go, ends_phase, told_active, becomes_active, activates, is_asked, answers_ask, takes_grant, has_handed_over, gossips, concludes, is_member, is_gone, nothing, and_then, to_process, to_each, update_by, answer, does, does_for, unless_refused, number_of, asks_at, counted_members, exits, gossips_to, around, shards_do, offer, on_shards, takes, rest, may_leave, leaves, forgets, goes_on, ends, beats, ticked, tick, on_message, rule, closes, is_dead, running_step, step}
+use Rattle.ak_node.specs.Node.{Outcome, known, me_of, settled_of, margin_of, reports_of, status_of, floor_of, most_in_version, fits_packet, is_grantable, promising, told_of, told_its_own, told_to_each, releases, needed_others, rule_on, does_rule, asks_as, told_end, let_go, ends_phase, told_active, becomes_active, activates, is_asked, answers_ask, takes_grant, has_handed_over, gossips, concludes, is_member, is_gone, nothing, and_then, to_process, to_each, update_by, answer, does, does_for, unless_refused, number_of, asks_at, counted_members, exits, gossips_to, around, shards_do, offer, on_shards, takes, rest, may_leave, leaves, forgets, goes_on, ends, beats, ticked, tick, on_message, rule, closes, is_dead, running_step, step, is_entity_at}
 use Rattle.ak_node.specs.NodeContracts.{IsNode}
 use Rattle.ak_node.specs.Sends.{AreValid, KnowsProcesses, IsTarget, IsProcess, KeepsBallots, KeepsSettled, KeepsShards, IsSaid}
 use Rattle.ak_field.specs.Ranges.{IsEntity}
@@ -450,8 +450,8 @@ told_goes n me kb ks kh from (message.BeginHandOff b shard number) who said = pa
 told_goes n me kb ks kh from (message.BeginHandOffAck b shard number) who said = packet_goes n me kb kh from (message.BeginHandOffAck b shard number) who said
 told_goes n me kb ks kh from (message.HandOff b shard number) who said = packet_goes n me kb kh from (message.HandOff b shard number) who said
 told_goes n me kb ks kh from (message.ShardStopped b shard number) who said = packet_goes n me kb kh from (message.ShardStopped b shard number) who said
-told_goes n me kb ks kh from (message.Forward entity payload) who said = packet_goes n me kb kh from (message.Forward entity payload) who said
-told_goes n me kb ks kh from (message.Offer entity payload) who said = offer_goes n me kb kh entity payload said.0 said.1
+told_goes n me kb ks kh from (message.Forward entity payload) who said = go_if (is_entity_at entity n) (on_shards from (message.Forward entity payload) n) (nothing n) (λ is. packet_goes n me kb kh from (message.Forward entity payload) who said) (λ is. none_go [] refl)
+told_goes n me kb ks kh from (message.Offer entity payload) who said = go_if (is_entity_at entity n) (offer entity payload n) (nothing n) (λ is. offer_goes n me kb kh entity payload said.0 said.1) (λ is. none_go [] refl)
 
 rule_goes : (e : NodeEvent) (n : State) → IsSaid e → KnowsProcesses n → IsProcess n → IsNode n → KeepsBallots n.singleton → KeepsSettled n → KeepsShards n → KnowsProcesses (rule e n).0 → AllGo (rule e n).1
 rule_goes event.Found n said names is node kb ks kh later = update_goes n (membership.found n.membership)

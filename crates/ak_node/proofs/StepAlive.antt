@@ -15,7 +15,7 @@ use Rattle.ak_sharding.specs.Packets as packets
 use Rattle.ak_sharding.specs.Alive.{IsActive, AreHosted}
 use Rattle.ak_sharding.proofs.EntityHosts.{Adds, asks_homes_adds, forgets_adds, on_offer_adds}
 use Rattle.ak_sharding.proofs.EntityPackets.{coordinates_adds, on_shard_message_keeps, on_shard_message_stays}
-use Rattle.ak_shard_id.specs.Shard.{shard_of}
+use Rattle.ak_shard_id.specs.Division.{shard_in}
 use Rattle.ak_address.proofs.Elements.{contains_left}
 use Rattle.ak_wire.specs.declared.action.Action.{Action}
 use Rattle.ak_singleton.specs.declared.phase.Phase.{Phase}
@@ -30,7 +30,7 @@ use Rattle.ak_node.specs.declared.node.State.{State}
 use Rattle.ak_node.specs.declared.node.NodeEvent.{NodeEvent}
 use Rattle.ak_node.specs.declared.node.NodeEvent.TheVariants as event
 use Rattle.ak_node.specs.Node as node
-use Rattle.ak_node.specs.Node.{Outcome, around, shards_do, known, me_of, status_of, is_member, is_gone, nothing, and_then, does, does_for, unless_refused, asks_at, exits, gossips_to, rule_on, does_rule, asks_as, ends_phase, rest, may_leave, goes_on, ticked, is_asked, answers_ask, takes_grant, takes, has_handed_over, forgets, closes, concludes, on_message, rule, is_dead, running_step, step}
+use Rattle.ak_node.specs.Node.{Outcome, around, shards_do, known, me_of, status_of, is_member, is_gone, nothing, and_then, does, does_for, unless_refused, asks_at, exits, gossips_to, rule_on, does_rule, asks_as, ends_phase, rest, may_leave, goes_on, ticked, is_asked, answers_ask, takes_grant, takes, has_handed_over, forgets, closes, concludes, on_message, rule, is_dead, running_step, step, is_entity_at}
 use Rattle.ak_node.proofs.StepChanges.{step_is}
 
 -- it keeps entities of hosted shards alone, and this one active
@@ -63,7 +63,7 @@ module _ (entity : List ℕ) where
 
   -- the step does not tell that the entity's shard is gone
   abbrev NoneGone : State → List Action → Type 0
-  NoneGone n actions = Contains actions (action.Gone (shard_of entity (length n.sharding.region.slots))) → ⊥
+  NoneGone n actions = Contains actions (action.Gone (shard_in n.sharding.region.division entity)) → ⊥
 
   unless_well : (n : State) (next : membership.Outcome → Outcome) (r : Result membership.Outcome MemberFault) → ((o : membership.Outcome) → (next o).0 ≡ (does n o).0) → Well n → Well (unless_refused next n r).0
   unless_well n next (Ok o) is w = subst Well (sym (is o)) w
@@ -142,10 +142,14 @@ module _ (entity : List ℕ) where
   told_well from (message.BeginHandOffAck b shard number) n none w = shard_packet_well from (message.BeginHandOffAck b shard number) n none w
   told_well from (message.HandOff b shard number) n none w = shard_packet_well from (message.HandOff b shard number) n none w
   told_well from (message.ShardStopped b shard number) n none w = shard_packet_well from (message.ShardStopped b shard number) n none w
-  told_well from (message.Forward entity payload) n none w = shard_packet_well from (message.Forward entity payload) n none w
+  told_well from (message.Forward id payload) n none w = by_entity (is_entity_at id n) none
+    where
+      by_entity : (b : Bool) → NoneGone n (if b then node.on_shards from (message.Forward id payload) n else nothing n).1 → Well (if b then node.on_shards from (message.Forward id payload) n else nothing n).0
+      by_entity true none = shard_packet_well from (message.Forward id payload) n none w
+      by_entity false none = w
   told_well from (message.Leave who) n none w = unless_well n (does n) (membership.leave who n.membership) (λ o. refl) w
   told_well from (message.Down who) n none w = unless_well n (does n) (membership.down who n.membership) (λ o. refl) w
-  told_well from (message.Offer id payload) n none w = offer_well id payload n w
+  told_well from (message.Offer id payload) n none w = well_if (is_entity_at id n) (node.offer id payload n) (nothing n) (offer_well id payload n w) w
 
   ruled_well : (e : NodeEvent) (n : State) → NoneGone n (rule e n).1 → Well n → Well (rule e n).0
   ruled_well event.Found n none w = w
@@ -172,7 +176,7 @@ module _ (entity : List ℕ) where
     where
       by_dead : (b : Bool) → NoneGone n (if b then (n, action.Dead ∷ []) else and_then concludes (rule e n)).1 → Well (if b then (n, action.Dead ∷ []) else and_then concludes (rule e n)).0
       by_dead true none = w
-      by_dead false none = concluded_well (rule e n).0 (ruled_well e n (λ there. none (contains_left (rule e n).1 (concludes (rule e n).0).1 (action.Gone (shard_of entity (length n.sharding.region.slots))) there)) w)
+      by_dead false none = concluded_well (rule e n).0 (ruled_well e n (λ there. none (contains_left (rule e n).1 (concludes (rule e n).0).1 (action.Gone (shard_in n.sharding.region.division entity)) there)) w)
 
   pub step_alive : (e : NodeEvent) (n : State) → IsTrue n.runs → NoneGone n (step e n).1 → Alive n.sharding → Alive (step e n).0.sharding
   step_alive e n runs none w =

@@ -42,7 +42,7 @@ use Rattle.ak_wire.proofs.Sending.{sent-append, updates-append}
 use Rattle.ak_node.specs.declared.node.State.{State}
 use Rattle.ak_node.specs.declared.node.NodeEvent.{NodeEvent}
 use Rattle.ak_node.specs.declared.node.NodeEvent.TheVariants as event
-use Rattle.ak_node.specs.Node.{Outcome, known, me_of, status_of, is_member, is_gone, nothing, and_then, to_address, does, does_for, join, leave, down, stop, asks_at, counted_members, exits, gossips_to, gossips, keeping, told_of, told_its_own, told_to_each, releases, needed_others, rule_on, does_rule, asks_as, told_end, let_go, ends_phase, told_active, becomes_active, activates, floor_of, reports_of, answered, is_asked, answers_ask, on_ask, takes_grant, on_granted, on_busy, on_old, has_handed_over, on_hand_over, on_release, on_done, goes_on, around, sharing, shards_do, offer, on_shards, takes, rest, may_leave, leaves, forgets, ends, beats, ticked, update_by, tick, on_gossip, on_confirmed, on_message, rule, if_so, closes, concludes, is_dead, running_step, step}
+use Rattle.ak_node.specs.Node.{Outcome, known, me_of, status_of, is_member, is_gone, nothing, and_then, to_address, does, does_for, join, leave, down, stop, asks_at, counted_members, exits, gossips_to, gossips, keeping, told_of, told_its_own, told_to_each, releases, needed_others, rule_on, does_rule, asks_as, told_end, let_go, ends_phase, told_active, becomes_active, activates, floor_of, reports_of, answered, is_asked, answers_ask, on_ask, takes_grant, on_granted, on_busy, on_old, has_handed_over, on_hand_over, on_release, on_done, goes_on, around, sharing, shards_do, offer, on_shards, takes, rest, may_leave, leaves, forgets, ends, beats, ticked, update_by, tick, on_gossip, on_confirmed, on_message, rule, if_so, closes, concludes, is_dead, running_step, step, is_entity_at}
 use Rattle.ak_membership.specs.Tick as ticks
 use Rattle.ak_membership.specs.Tick.{gossip_peer}
 use Rattle.ak_node.specs.Change.{Changes, Quiet, IsConfirmed, given_by, asker_in}
@@ -320,8 +320,8 @@ module _ (e : NodeEvent) (n : State) where
   being_told p is (message.BeginHandOffAck b shard number) what = quietly e n _ (on_shards_quiet p.from (message.BeginHandOffAck b shard number) n)
   being_told p is (message.HandOff b shard number) what = quietly e n _ (on_shards_quiet p.from (message.HandOff b shard number) n)
   being_told p is (message.ShardStopped b shard number) what = quietly e n _ (on_shards_quiet p.from (message.ShardStopped b shard number) n)
-  being_told p is (message.Forward entity payload) what = quietly e n _ (on_shards_quiet p.from (message.Forward entity payload) n)
-  being_told p is (message.Offer entity payload) what = quietly e n _ (offer_quiet entity payload n)
+  being_told p is (message.Forward entity payload) what = changes_if e n (is_entity_at entity n) (λ _. quietly e n _ (on_shards_quiet p.from (message.Forward entity payload) n)) (λ _. quietly e n (nothing n) (still n))
+  being_told p is (message.Offer entity payload) what = changes_if e n (is_entity_at entity n) (λ _. quietly e n _ (offer_quiet entity payload n)) (λ _. quietly e n (nothing n) (still n))
 
 pub rule_changes : (e : NodeEvent) (n : State) → Changes e n (rule e n)
 rule_changes event.Found n = does_changes event.Found n (membership.found n.membership) (found_learns (given_by event.Found) n.membership refl)

@@ -64,7 +64,7 @@ use Rattle.ak_node.specs.declared.node.State.{State}
 use Rattle.ak_node.specs.declared.node.NodeEvent.{NodeEvent}
 use Rattle.ak_node.specs.declared.node.NodeEvent.TheVariants as event
 use Rattle.ak_node.specs.Node as node
-use Rattle.ak_node.specs.Node.{around, sharing, shards_do, takes, rest, may_leave, forgets, Outcome, known, me_of, settled_of, margin_of, is_member, is_gone, nothing, number_of, and_then, to_process, to_each, to_address, update_by, does, does_for, unless_refused, join, leave, down, stop, asks_at, counted_members, exits, gossips_to, gossips, status_of, asks_as, ends_phase, becomes_active, activates, told_active, keeping, promising, told_its_own, needed_others, is_asked, answers_ask, takes_grant, has_handed_over, goes_on, ends, beats, tick, on_message, rule, due, closes, concludes, is_dead, running_step}
+use Rattle.ak_node.specs.Node.{around, sharing, shards_do, takes, rest, may_leave, forgets, Outcome, known, me_of, settled_of, margin_of, is_member, is_gone, nothing, number_of, and_then, to_process, to_each, to_address, update_by, does, does_for, unless_refused, join, leave, down, stop, asks_at, counted_members, exits, gossips_to, gossips, status_of, asks_as, ends_phase, becomes_active, activates, told_active, keeping, promising, told_its_own, needed_others, is_asked, answers_ask, takes_grant, has_handed_over, goes_on, ends, beats, tick, on_message, rule, due, closes, concludes, is_dead, running_step, is_entity_at, on_shards, offer}
 use Rattle.ak_node.specs.Said.{said_to, said_in}
 use Rattle.ak_node.proofs.StepChanges.{ended_sent, due_sent}
 use Rattle.ak_node.proofs.MarginEnds.{Leaves, leaves_if, update_leaves, update_any_leaves, updates_leave}
@@ -198,8 +198,8 @@ stays_told n from (message.BeginHandOff b shard number) = stays_if n (is_member 
 stays_told n from (message.BeginHandOffAck b shard number) = stays_if n (is_member n) (shards_do (λ a t. packets.on_shard_message a from (message.BeginHandOffAck b shard number) t) n) (nothing n) refl refl
 stays_told n from (message.HandOff b shard number) = stays_if n (is_member n) (shards_do (λ a t. packets.on_shard_message a from (message.HandOff b shard number) t) n) (nothing n) refl refl
 stays_told n from (message.ShardStopped b shard number) = stays_if n (is_member n) (shards_do (λ a t. packets.on_shard_message a from (message.ShardStopped b shard number) t) n) (nothing n) refl refl
-stays_told n from (message.Forward entity payload) = stays_if n (is_member n) (shards_do (λ a t. packets.on_shard_message a from (message.Forward entity payload) t) n) (nothing n) refl refl
-stays_told n from (message.Offer entity payload) = refl
+stays_told n from (message.Forward entity payload) = stays_if n (is_entity_at entity n) (on_shards from (message.Forward entity payload) n) (nothing n) (stays_if n (is_member n) (shards_do (λ a t. packets.on_shard_message a from (message.Forward entity payload) t) n) (nothing n) refl refl) refl
+stays_told n from (message.Offer entity payload) = stays_if n (is_entity_at entity n) (offer entity payload n) (nothing n) (refl) refl
 
 rest_stays : (word : ℕ) (n : State) → Stays n (rest word n).0
 rest_stays word n =
@@ -501,8 +501,8 @@ module _ (on : Counts → Type 0) (aged removed : Counts → UniqueModel → Typ
       told_does p was_heard (message.BeginHandOffAck b shard number) is = on_shards_does on aged removed heard stopped n a part shown own p.from (message.BeginHandOffAck b shard number) (said (me_of n) p was_heard.0 (message.BeginHandOffAck b shard number) is)
       told_does p was_heard (message.HandOff b shard number) is = on_shards_does on aged removed heard stopped n a part shown own p.from (message.HandOff b shard number) (said (me_of n) p was_heard.0 (message.HandOff b shard number) is)
       told_does p was_heard (message.ShardStopped b shard number) is = on_shards_does on aged removed heard stopped n a part shown own p.from (message.ShardStopped b shard number) (said (me_of n) p was_heard.0 (message.ShardStopped b shard number) is)
-      told_does p was_heard (message.Forward entity payload) is = on_shards_does on aged removed heard stopped n a part shown own p.from (message.Forward entity payload) (said (me_of n) p was_heard.0 (message.Forward entity payload) is)
-      told_does p was_heard (message.Offer entity payload) is = offer_does on aged removed heard stopped n a part shown entity payload
+      told_does p was_heard (message.Forward entity payload) is = does_if on aged removed heard stopped n a (is_entity_at entity n) (λ _. on_shards_does on aged removed heard stopped n a part shown own p.from (message.Forward entity payload) (said (me_of n) p was_heard.0 (message.Forward entity payload) is)) (λ _. still n a part [] (unsaid_none [] refl))
+      told_does p was_heard (message.Offer entity payload) is = does_if on aged removed heard stopped n a (is_entity_at entity n) (λ _. offer_does on aged removed heard stopped n a part shown entity payload) (λ _. still n a part [] (unsaid_none [] refl))
 
       -- what is known of the settled view after a tick's wait, at a tick of a member
       abbrev pub WaitsSurely : NodeEvent → Type 0

@@ -41,7 +41,7 @@ use Rattle.ak_wire.specs.declared.envelope.Message.TheVariants as message
 use Rattle.ak_node.specs.declared.node.State.{State}
 use Rattle.ak_node.specs.declared.node.NodeEvent.{NodeEvent}
 use Rattle.ak_node.specs.declared.node.NodeEvent.TheVariants as event
-use Rattle.ak_node.specs.Node.{offer, on_shards, around, shards_do, rest, may_leave, leaves, forgets, Outcome, known, me_of, is_member, is_gone, nothing, and_then, to_each, update_by, does, does_for, answer, unless_refused, leave, down, asks_at, counted_members, exits, gossips_to, gossips, told_of, told_its_own, told_to_each, releases, needed_others, rule_on, does_rule, asks_as, status_of, told_end, let_go, ends_phase, told_active, becomes_active, answered, is_asked, answers_ask, takes_grant, has_handed_over, goes_on, ends, beats, on_message, rule, if_so, due, closes, concludes, is_dead, running_step, step}
+use Rattle.ak_node.specs.Node.{offer, on_shards, around, shards_do, rest, may_leave, leaves, forgets, Outcome, known, me_of, is_member, is_gone, nothing, and_then, to_each, update_by, does, does_for, answer, unless_refused, leave, down, asks_at, counted_members, exits, gossips_to, gossips, told_of, told_its_own, told_to_each, releases, needed_others, rule_on, does_rule, asks_as, status_of, told_end, let_go, ends_phase, told_active, becomes_active, answered, is_asked, answers_ask, takes_grant, has_handed_over, goes_on, ends, beats, on_message, rule, if_so, due, closes, concludes, is_dead, running_step, step, is_entity_at}
 use Rattle.ak_node.proofs.StepChanges.{step_is}
 
 -- ---- a message that is no grant, or one with reports of each shard once at most
@@ -216,8 +216,8 @@ none_heard from (message.BeginHandOff b shard number) n = none_shards from (mess
 none_heard from (message.BeginHandOffAck b shard number) n = none_shards from (message.BeginHandOffAck b shard number) n
 none_heard from (message.HandOff b shard number) n = none_shards from (message.HandOff b shard number) n
 none_heard from (message.ShardStopped b shard number) n = none_shards from (message.ShardStopped b shard number) n
-none_heard from (message.Forward entity payload) n = none_shards from (message.Forward entity payload) n
-none_heard from (message.Offer entity payload) n = none_offered entity payload n
+none_heard from (message.Forward entity payload) n = none_if (is_entity_at entity n) (on_shards from (message.Forward entity payload) n) (nothing n) (none_shards from (message.Forward entity payload) n) none_of
+none_heard from (message.Offer entity payload) n = none_if (is_entity_at entity n) (offer entity payload n) (nothing n) (none_offered entity payload n) none_of
 
 none_so : (b : Bool) (a : Action) → IsOnce a → AreOnce (if_so b a)
 none_so true a is = none_first a [] is none_of

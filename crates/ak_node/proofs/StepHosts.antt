@@ -1,4 +1,4 @@
--- A node keeps entities of hosted shards alone, whatever a step does, and as many shards as before.
+-- A node keeps entities of hosted shards alone, whatever a step does, and divides them as before.
 use Rattle.std.proofs.Common.{◌≡◌, ℕ, ◌+◌, Bool, true, false, ◌&&◌, if◌then◌else◌, List, [], ◌∷◌, length, Option, Some, None, Result, Ok, Err, refl, sym, ◌∙◌, subst}
 use Rattle.ak_address.specs.Unique.{AddressModel, UniqueModel}
 use Rattle.ak_member.specs.declared.status.Status.{Status}
@@ -7,6 +7,7 @@ use Rattle.ak_membership.specs.declared.change.MemberFault.{MemberFault}
 use Rattle.ak_membership.specs.Membership as membership
 use Rattle.ak_membership.specs.Tick as ticks
 use Rattle.ak_promise.specs.Promise.{is_some_ballot}
+use Rattle.ak_shard_id.specs.Division.{DivisionModel}
 use Rattle.ak_sharding.specs.Sharding.{ShardingModel, Around}
 use Rattle.ak_sharding.specs.Sharding as sharding
 use Rattle.ak_sharding.specs.Hosts as hosts
@@ -27,47 +28,47 @@ use Rattle.ak_node.specs.declared.node.State.{State}
 use Rattle.ak_node.specs.declared.node.NodeEvent.{NodeEvent}
 use Rattle.ak_node.specs.declared.node.NodeEvent.TheVariants as event
 use Rattle.ak_node.specs.Node as node
-use Rattle.ak_node.specs.Node.{Outcome, around, shards_do, known, me_of, status_of, is_member, is_gone, nothing, and_then, does, does_for, unless_refused, asks_at, exits, gossips_to, rule_on, does_rule, asks_as, ends_phase, rest, may_leave, goes_on, ticked, is_asked, answers_ask, takes_grant, takes, has_handed_over, forgets, closes, concludes, on_message, rule, is_dead, running_step, step}
+use Rattle.ak_node.specs.Node.{Outcome, around, shards_do, known, me_of, status_of, is_member, is_gone, nothing, and_then, does, does_for, unless_refused, asks_at, exits, gossips_to, rule_on, does_rule, asks_as, ends_phase, rest, may_leave, goes_on, ticked, is_asked, answers_ask, takes_grant, takes, has_handed_over, forgets, closes, concludes, on_message, rule, is_dead, running_step, step, is_entity_at}
 
--- entities are of hosted shards after it where they were before, and there are as many shards
+-- entities are of hosted shards after it where they were before, and are divided as before
 pub record Keeps (s t : ShardingModel) : Type 0 where
   pub hosted : AreHosted s → AreHosted t
-  pub many : length t.region.slots ≡ length s.region.slots
+  pub divided : t.region.division ≡ s.region.division
 
 itself : (s : ShardingModel) → Keeps s s
-itself s = record { hosted = λ h. h; many = refl }
+itself s = record { hosted = λ h. h; divided = refl }
 
 -- ---- the table changes alone
 by_rule : (r : TickRule) (me : UniqueModel) (s : ShardingModel) → Keeps s (coordinates.tabled_by r me s)
 by_rule tick_rules.Rests me s = itself s
-by_rule tick_rules.Opens me s = record { hosted = λ h. h; many = refl }
+by_rule tick_rules.Opens me s = record { hosted = λ h. h; divided = refl }
 by_rule tick_rules.HandsOver me s = itself s
-by_rule tick_rules.Closes me s = record { hosted = λ h. h; many = refl }
+by_rule tick_rules.Closes me s = record { hosted = λ h. h; divided = refl }
 by_rule tick_rules.Asks me s = itself s
 
 by_end : (ph : Phase) (s : ShardingModel) → Keeps s (coordinates.ended_table ph s)
 by_end phase.Younger s = itself s
-by_end phase.Asking s = record { hosted = λ h. h; many = refl }
-by_end phase.Active s = record { hosted = λ h. h; many = refl }
+by_end phase.Asking s = record { hosted = λ h. h; divided = refl }
+by_end phase.Active s = record { hosted = λ h. h; divided = refl }
 by_end phase.Ended s = itself s
 
 -- ---- a node with entities of hosted shards alone
-abbrev pub IsWell : ℕ → State → Type 0
-IsWell shards n = AreHosted n.sharding × (length n.sharding.region.slots ≡ shards)
+abbrev pub IsWell : DivisionModel → State → Type 0
+IsWell division n = AreHosted n.sharding × (n.sharding.region.division ≡ division)
 
-well_then : (shards : ℕ) (n : State) (m : State) → Keeps n.sharding m.sharding → IsWell shards n → IsWell shards m
-well_then shards n m k w = (k.hosted w.0, k.many ∙ w.1)
+well_then : (division : DivisionModel) (n : State) (m : State) → Keeps n.sharding m.sharding → IsWell division n → IsWell division m
+well_then division n m k w = (k.hosted w.0, k.divided ∙ w.1)
 
-module _ (shards : ℕ) where
+module _ (division : DivisionModel) where
   abbrev Well : State → Type 0
-  Well n = IsWell shards n
+  Well n = IsWell division n
 
   well_if : (b : Bool) (o p : Outcome) → Well o.0 → Well p.0 → Well (if b then o else p).0
   well_if true o p x y = x
   well_if false o p x y = y
 
   shards_well : (work : Around → ShardingModel → sharding.Outcome) (n : State) → ((a : Around) (s : ShardingModel) → AreHosted s → KeepsEntities s (work a s)) → Well n → Well (shards_do work n).0
-  shards_well work n keeps w = let k = keeps (around n) n.sharding w.0 in (k.hosted, k.many ∙ w.1)
+  shards_well work n keeps w = let k = keeps (around n) n.sharding w.0 in (k.hosted, k.divided ∙ w.1)
 
   unless_well : (n : State) (next : membership.Outcome → Outcome) (r : Result membership.Outcome MemberFault) → ((o : membership.Outcome) → (next o).0 ≡ (does n o).0) → Well n → Well (unless_refused next n r).0
   unless_well n next (Ok o) is w = subst Well (sym (is o)) w
@@ -82,7 +83,7 @@ module _ (shards : ℕ) where
   gossips_well (Some to) n w = w
 
   rule_well : (r : TickRule) (n : State) → Well n → Well (does_rule r n).0
-  rule_well r n w = well_then shards n (does_rule r n).0 (by_rule r (me_of n) n.sharding) w
+  rule_well r n w = well_then division n (does_rule r n).0 (by_rule r (me_of n) n.sharding) w
 
   asked_well : (status : Option Status) (n : State) → Well n → Well (asks_as status n).0
   asked_well None n w = w
@@ -100,7 +101,7 @@ module _ (shards : ℕ) where
   goes_well : (word : ℕ) (n : State) → Well n → Well (goes_on word n).0
   goes_well word n w =
       let x = (ends_phase n).0 in
-      let ended = well_then shards n x (by_end n.singleton.phase n.sharding) w in
+      let ended = well_then division n x (by_end n.singleton.phase n.sharding) w in
       well_if (is_gone n) (nothing n) _ w
       (well_if (is_member_with is_exiting (known n).view.standings (me_of n)) (and_then (node.leaves word) (ends_phase n)) (rest word n)
       (well_if (may_leave x) (exits x) (rest word x) ended (rest_well word x ended))
@@ -122,13 +123,13 @@ module _ (shards : ℕ) where
   told_well from (message.Ask b) n w = well_if (is_asked from b n) (answers_ask from b n) (nothing n) w w
   told_well from (message.Granted b floor told) n w = well_if (takes_grant from told n) (nothing (takes from b floor told n)) (nothing n) (by_first (is_first_grant from b n.singleton)) w
     where
-      by_first : (first : Bool) → AreHosted (coordinates.learns_if first (around n) from told n.sharding) × (length (coordinates.learns_if first (around n) from told n.sharding).region.slots ≡ shards)
+      by_first : (first : Bool) → AreHosted (coordinates.learns_if first (around n) from told n.sharding) × ((coordinates.learns_if first (around n) from told n.sharding).region.division ≡ division)
       by_first true = w
       by_first false = w
   told_well from (message.Busy b held) n w = well_if (is_member n && is_some_ballot n.singleton.live b) _ (nothing n) w w
   told_well from (message.Old b last) n w = well_if (is_member n) _ (nothing n) (by_outdone (is_outdone b last n.singleton)) w
     where
-      by_outdone : (outdone : Bool) → AreHosted (coordinates.begins_if outdone (me_of n) n.sharding) × (length (coordinates.begins_if outdone (me_of n) n.sharding).region.slots ≡ shards)
+      by_outdone : (outdone : Bool) → AreHosted (coordinates.begins_if outdone (me_of n) n.sharding) × ((coordinates.begins_if outdone (me_of n) n.sharding).region.division ≡ division)
       by_outdone true = w
       by_outdone false = w
   told_well from (message.HandOverToMe b) n w = well_if (is_member n && has_handed_over b n) _ (nothing n) w w
@@ -142,10 +143,10 @@ module _ (shards : ℕ) where
   told_well from (message.BeginHandOffAck b shard number) n w = shard_packet_well from (message.BeginHandOffAck b shard number) n w
   told_well from (message.HandOff b shard number) n w = shard_packet_well from (message.HandOff b shard number) n w
   told_well from (message.ShardStopped b shard number) n w = shard_packet_well from (message.ShardStopped b shard number) n w
-  told_well from (message.Forward entity payload) n w = shard_packet_well from (message.Forward entity payload) n w
+  told_well from (message.Forward entity payload) n w = well_if (is_entity_at entity n) (node.on_shards from (message.Forward entity payload) n) (nothing n) (shard_packet_well from (message.Forward entity payload) n w) w
   told_well from (message.Leave who) n w = unless_well n (does n) (membership.leave who n.membership) (λ o. refl) w
   told_well from (message.Down who) n w = unless_well n (does n) (membership.down who n.membership) (λ o. refl) w
-  told_well from (message.Offer entity payload) n w = offer_well entity payload n w
+  told_well from (message.Offer entity payload) n w = well_if (is_entity_at entity n) (node.offer entity payload n) (nothing n) (offer_well entity payload n w) w
 
   ruled_well : (e : NodeEvent) (n : State) → Well n → Well (rule e n).0
   ruled_well event.Found n w = w
@@ -161,7 +162,7 @@ module _ (shards : ℕ) where
   forgets_well n w = by_runs n.runs
     where
       by_runs : (b : Bool) → Well (node.sharing (if b then (hosts.forgets (around n) n.sharding).0 else n.sharding) n)
-      by_runs true = let k = forgets_keeps (around n) n.sharding w.0 in (k.hosted, k.many ∙ w.1)
+      by_runs true = let k = forgets_keeps (around n) n.sharding w.0 in (k.hosted, k.divided ∙ w.1)
       by_runs false = w
 
   concluded_well : (n : State) → Well n → Well (concludes n).0

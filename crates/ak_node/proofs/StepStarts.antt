@@ -19,7 +19,7 @@ use Rattle.ak_wire.specs.declared.envelope.Message.TheVariants as message
 use Rattle.ak_node.specs.declared.node.State.{State}
 use Rattle.ak_node.specs.declared.node.NodeEvent.{NodeEvent}
 use Rattle.ak_node.specs.declared.node.NodeEvent.TheVariants as event
-use Rattle.ak_node.specs.Node.{offer, on_shards, around, shards_do, forgets, Outcome, me_of, is_member, is_gone, nothing, and_then, on_message, rule, if_so, due, closes, activates, concludes, is_dead, running_step, step}
+use Rattle.ak_node.specs.Node.{offer, on_shards, around, shards_do, forgets, Outcome, me_of, is_member, is_gone, nothing, and_then, on_message, rule, if_so, due, closes, activates, concludes, is_dead, running_step, step, is_entity_at}
 use Rattle.ak_node.proofs.StepAlive.{Alive, concluded_well}
 use Rattle.ak_node.proofs.StepChanges.{step_is}
 use Rattle.ak_node.proofs.StepQuiet.{Quiet, quiet_found, quiet_join, quiet_ticking, quiet_left, quiet_downed, quiet_stop, quiet_heard, quiet_activated}
@@ -81,6 +81,10 @@ module _ (x : List ℕ) where
   offer_started : (id : List ℕ) (payload : ℕ) (n : State) → AreHosted n.sharding → Started n (offer id payload n)
   offer_started id payload n all there = work_started (λ a s. hosts.on_offer a id payload s) n (on_offer_keeps (around n) id payload n.sharding all) there
 
+  started_if : (b : Bool) (n : State) (o : Outcome) → Started n o → Started n (if b then o else nothing n)
+  started_if true n o started there = started there
+  started_if false n o started there = absurd (contains_nothing _ there)
+
   told_started : (from : UniqueModel) (m : Message) (n : State) → AreHosted n.sharding → Started n (on_message from m n)
   told_started from (message.GetHome b shard) n all = packet_started from (message.GetHome b shard) n all
   told_started from (message.Home b shard owner) n all = packet_started from (message.Home b shard owner) n all
@@ -90,8 +94,8 @@ module _ (x : List ℕ) where
   told_started from (message.BeginHandOffAck b shard number) n all = packet_started from (message.BeginHandOffAck b shard number) n all
   told_started from (message.HandOff b shard number) n all = packet_started from (message.HandOff b shard number) n all
   told_started from (message.ShardStopped b shard number) n all = packet_started from (message.ShardStopped b shard number) n all
-  told_started from (message.Forward entity payload) n all = packet_started from (message.Forward entity payload) n all
-  told_started from (message.Offer id payload) n all = offer_started id payload n all
+  told_started from (message.Forward id payload) n all = started_if (is_entity_at id n) n (on_shards from (message.Forward id payload) n) (packet_started from (message.Forward id payload) n all)
+  told_started from (message.Offer id payload) n all = started_if (is_entity_at id n) n (offer id payload n) (offer_started id payload n all)
   told_started from other n all = started_none n (on_message from other n) (quiet_heard from other n refl)
 
   rule_started : (e : NodeEvent) (n : State) → AreHosted n.sharding → Started n (rule e n)

@@ -30,7 +30,7 @@ use Rattle.ak_node.specs.declared.node.State.{State}
 use Rattle.ak_node.specs.declared.node.NodeEvent.{NodeEvent}
 use Rattle.ak_node.specs.declared.node.NodeEvent.TheVariants as event
 use Rattle.ak_node.specs.Node as node
-use Rattle.ak_node.specs.Node.{Outcome, around, shards_do, known, me_of, status_of, is_member, is_gone, nothing, and_then, does, does_for, unless_refused, asks_at, exits, gossips_to, rule_on, does_rule, asks_as, ends_phase, rest, may_leave, goes_on, ticked, is_asked, answers_ask, takes_grant, takes, has_handed_over, forgets, closes, concludes, on_message, rule, is_dead, running_step, step}
+use Rattle.ak_node.specs.Node.{Outcome, around, shards_do, known, me_of, status_of, is_member, is_gone, nothing, and_then, does, does_for, unless_refused, asks_at, exits, gossips_to, rule_on, does_rule, asks_as, ends_phase, rest, may_leave, goes_on, ticked, is_asked, answers_ask, takes_grant, takes, has_handed_over, forgets, closes, concludes, on_message, rule, is_dead, running_step, step, is_entity_at}
 
 -- where a ballot is live there is a table
 abbrev pub IsTabled : SingletonModel → ShardingModel → Type 0
@@ -146,10 +146,10 @@ told_well from (message.BeginHandOff b shard number) n w = shard_packet_well fro
 told_well from (message.BeginHandOffAck b shard number) n w = shard_packet_well from (message.BeginHandOffAck b shard number) n w
 told_well from (message.HandOff b shard number) n w = shard_packet_well from (message.HandOff b shard number) n w
 told_well from (message.ShardStopped b shard number) n w = shard_packet_well from (message.ShardStopped b shard number) n w
-told_well from (message.Forward entity payload) n w = shard_packet_well from (message.Forward entity payload) n w
+told_well from (message.Forward entity payload) n w = well_if (is_entity_at entity n) (node.on_shards from (message.Forward entity payload) n) (nothing n) (shard_packet_well from (message.Forward entity payload) n w) w
 told_well from (message.Leave who) n w = unless_well n (does n) (membership.leave who n.membership) (λ o. refl) w
 told_well from (message.Down who) n w = unless_well n (does n) (membership.down who n.membership) (λ o. refl) w
-told_well from (message.Offer entity payload) n w = offer_well entity payload n w
+told_well from (message.Offer entity payload) n w = well_if (is_entity_at entity n) (node.offer entity payload n) (nothing n) (offer_well entity payload n w) w
 
 ruled_well : (e : NodeEvent) (n : State) → Well n → Well (rule e n).0
 ruled_well event.Found n w = w

@@ -13,7 +13,7 @@ use Rattle.ak_member.specs.declared.status.Status.{Status}
 use Rattle.ak_member.specs.Standing.{member_of, members_of, tombstone_of, is_exiting, is_member_with}
 use Rattle.ak_member.specs.Age.{counted_pairs}
 use Rattle.ak_gossip.specs.Gossip.{GossipState}
-use Rattle.ak_settings.specs.Settings.{SettingsModel}
+use Rattle.ak_settings.specs.Settings.{SettingsModel, is_entity_in}
 use Rattle.ak_membership.specs.declared.change.Closing.{Closing}
 use Rattle.ak_membership.specs.declared.change.MemberFault.{MemberFault}
 use Rattle.ak_membership.specs.declared.change.MemberFault.TheVariants as fault
@@ -427,6 +427,13 @@ on_heard from n = if is_member n then nothing (record n { membership = membershi
 abbrev pub on_confirmed : UniqueModel → State → Outcome
 on_confirmed from n = if is_member n then nothing (record n { membership = membership.on_confirmed from n.membership }) else nothing n
 
+-- what is for a text that is no entity in the settings is passed over
+abbrev pub is_entity_at : List ℕ → State → Bool
+is_entity_at entity n = is_entity_in n.membership.settings entity
+
+abbrev pub of_entity : List ℕ → (State → Outcome) → State → Outcome
+of_entity entity rule n = if is_entity_at entity n then rule n else nothing n
+
 -- a leave, a down and an offer by message are those of the local events, from whomever they come
 abbrev pub on_message : UniqueModel → Message → State → Outcome
 on_message from message.TheVariants.Join n = on_join from n
@@ -450,10 +457,10 @@ on_message from (message.TheVariants.BeginHandOff b shard number) n = on_shards 
 on_message from (message.TheVariants.BeginHandOffAck b shard number) n = on_shards from (message.TheVariants.BeginHandOffAck b shard number) n
 on_message from (message.TheVariants.HandOff b shard number) n = on_shards from (message.TheVariants.HandOff b shard number) n
 on_message from (message.TheVariants.ShardStopped b shard number) n = on_shards from (message.TheVariants.ShardStopped b shard number) n
-on_message from (message.TheVariants.Forward entity payload) n = on_shards from (message.TheVariants.Forward entity payload) n
+on_message from (message.TheVariants.Forward entity payload) n = of_entity entity (on_shards from (message.TheVariants.Forward entity payload)) n
 on_message from (message.TheVariants.Leave who) n = leave who n
 on_message from (message.TheVariants.Down who) n = down who n
-on_message from (message.TheVariants.Offer entity payload) n = offer entity payload n
+on_message from (message.TheVariants.Offer entity payload) n = of_entity entity (offer entity payload) n
 
 abbrev pub rule : NodeEvent → State → Outcome
 rule event.TheVariants.Found n = found n

@@ -6,6 +6,7 @@ use Rattle.ak_clock.specs.Version.{Counts, count, IsVersion}
 use Rattle.ak_field.specs.Ranges.{IsEntity}
 use Rattle.ak_gossip.specs.Gossip.{is_known}
 use Rattle.ak_promise.specs.Ballot.{BallotModel, IsBallot}
+use Rattle.ak_settings.specs.Settings.{SettingsModel, is_entity_in}
 use Rattle.ak_settled.specs.Settled.{version_of, standings_of}
 use Rattle.ak_singleton.specs.Singleton.{SingletonModel}
 use Rattle.ak_wire.specs.declared.envelope.Envelope.{Envelope}
@@ -61,6 +62,11 @@ KeepsShards n = InRange n.sharding
 abbrev pub ComesValid : NodeEvent → Type 0
 ComesValid (event.TheVariants.Packet p) = IsValid p
 ComesValid other = ⊤
+
+-- a text that is offered at a node is an entity in its settings
+abbrev pub IsOffered : SettingsModel → NodeEvent → Type 0
+IsOffered settings (event.TheVariants.Offer entity payload) = IsTrue (is_entity_in settings entity)
+IsOffered settings other = ⊤
 
 -- an event names an address to join through, brings a packet that has a spelling, or a payload for an entity
 abbrev pub IsSaid : NodeEvent → Type 0

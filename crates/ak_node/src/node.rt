@@ -3,7 +3,7 @@ ghost use Rattle.ak_membership.specs.MembershipContracts.{IsWatching};
 ghost use Rattle.std.specs.FinMap as finmap;
 ghost use Rattle.ak_region.specs.Region as regions;
 ghost use Rattle.ak_node.specs.Node as rules;
-ghost use Rattle.ak_node.specs.Sends.{AreValid, ComesValid, IsProcess};
+ghost use Rattle.ak_node.specs.Sends.{AreValid, ComesValid, IsOffered, IsProcess};
 ghost use Rattle.ak_node.specs.NodeContracts.{Does, IsSameProcess, IsLeftOver, IsSilent, IsConcluded, ServesWhileItRuns, is_idle, is_asking, may_ask};
 
 use crate::actions::{push_due, refuse, told};
@@ -290,8 +290,11 @@ impl State {
             Message::HandOverToMe(ballot) => self.on_hand_over(alloc, &envelope.from, ballot),
             Message::HandOverDone(ballot, floor) => self.on_done(alloc, ballot, floor),
             Message::Release(ballot, floor) => self.on_release(alloc, ballot, floor),
-            Message::Offer(_, _) => {
-                self.on_shard_message(alloc, &envelope.from, &envelope.message, reused)
+            Message::Forward(entity, _) => {
+                self.on_forward(alloc, &envelope.from, &envelope.message, entity, reused)
+            }
+            Message::Offer(entity, _) => {
+                self.on_offer(alloc, &envelope.from, &envelope.message, entity, reused)
             }
             _ => self.on_shards(alloc, &envelope.from, &envelope.message, reused),
         }
@@ -433,12 +436,14 @@ impl Node {
 
     /// Gives the node one event, and answers its actions; a node that has stopped answers none, and knows what it knew. A packet
     /// that comes has to be valid, as `decode` answers it; then each packet that the node sends is valid too: it has a spelling
-    /// as bytes. While it runs and knows anybody, it is a member of its own view, and not Down. Memory is asked for while it runs
-    /// alone, and not where a member is to join. Once out of memory the node is spent: it still shows its process and its settings,
-    /// whether it runs and how many steps it made before, and has forgotten what it knew.
+    /// as bytes. A text that is offered has to be an entity in its settings; a packet for a text that is none is passed over.
+    /// While it runs and knows anybody, it is a member of its own view, and not Down. Memory is asked for while it runs alone, and
+    /// not where a member is to join. Once out of memory the node is spent: it still shows its process and its settings, whether
+    /// it runs and how many steps it made before, and has forgotten what it knew.
     pub fn step(&mut self, alloc: Global, event: NodeEvent) -> Result<Actions, AllocError>
         requires steps { self.old.state.steps < 2 ^ 62 }
         requires comes { ComesValid event }
+        requires offered { IsOffered self.old.state.membership.settings event }
         ensures ok { IfOk result (λ actions. Does (rules.step event self.old.state) self.new.state actions) }
         ensures valid { IfOk result (λ actions. AreValid actions) }
         ensures silent { IfOk result (λ actions. IsSilent self.old.state self.new.state actions) }
@@ -456,6 +461,7 @@ impl Node {
     pub fn step_on(&mut self, alloc: Global, event: &NodeEvent) -> Result<Actions, AllocError>
         requires steps { self.old.state.steps < 2 ^ 62 }
         requires comes { ComesValid event.now }
+        requires offered { IsOffered self.old.state.membership.settings event.now }
         ensures ok { IfOk result (λ actions. Does (rules.step event.now self.old.state) self.new.state actions) }
         ensures valid { IfOk result (λ actions. AreValid actions) }
         ensures silent { IfOk result (λ actions. IsSilent self.old.state self.new.state actions) }
@@ -588,6 +594,13 @@ impl Node {
         ensures { result ≡ self.now.state.steps }
     {
         self.state.steps
+    }
+
+    /// Whether the text is an entity in its settings, so that a payload for it may be offered. Takes no memory.
+    pub fn entity_ok(&self, entity: &[u8]) -> bool
+        ensures { result ≡ rules.is_entity_at entity.now self.now.state }
+    {
+        self.state.membership.settings().entity_ok(entity)
     }
 
     /// What it knows.

@@ -6,7 +6,7 @@ ghost use Rattle.ak_node.specs.Node as rules;
 ghost use Rattle.ak_node.specs.NodeContracts.{Does, IsSameProcess};
 
 use crate::node::State;
-use ak_address::Unique;
+use ak_address::{Text, Unique};
 use ak_field::EntityId;
 use ak_membership::Membership;
 use ak_reused::Reused;
@@ -62,6 +62,49 @@ impl State {
             return self.on_shard_message(alloc, from, message, reused);
         }
         Ok(Actions::empty(alloc))
+    }
+
+    // Whether a text is an entity in the node's settings.
+    fn is_entity(&self, entity: &Text) -> bool
+        ensures { result ≡ rules.is_entity_at entity.now self.now }
+    {
+        self.membership.settings().entity_ok(entity.bytes())
+    }
+
+    // A message that was forwarded for this text; one for what is no entity is passed over.
+    pub(crate) fn on_forward(
+        &mut self,
+        alloc: Global,
+        from: &Unique,
+        message: &Message,
+        entity: &Text,
+        reused: &mut Reused,
+    ) -> Result<Actions, AllocError>
+        ensures does { IfOk result (λ actions. Does (rules.of_entity entity.now (rules.on_shards from.now message.now) self.old) self.new actions) }
+        ensures same { IsSameProcess self.old self.new }
+    {
+        if !self.is_entity(entity) {
+            return Ok(Actions::empty(alloc));
+        }
+        self.on_shards(alloc, from, message, reused)
+    }
+
+    // A message that offers a payload for this text; one for what is no entity is passed over.
+    pub(crate) fn on_offer(
+        &mut self,
+        alloc: Global,
+        from: &Unique,
+        message: &Message,
+        entity: &Text,
+        reused: &mut Reused,
+    ) -> Result<Actions, AllocError>
+        ensures does { IfOk result (λ actions. Does (rules.of_entity entity.now (rules.shards_do (λ a s. packets.on_shard_message a from.now message.now s)) self.old) self.new actions) }
+        ensures same { IsSameProcess self.old self.new }
+    {
+        if !self.is_entity(entity) {
+            return Ok(Actions::empty(alloc));
+        }
+        self.on_shard_message(alloc, from, message, reused)
     }
 
     // A payload is offered for an entity.

@@ -7,6 +7,7 @@ use Rattle.ak_shard_id.specs.declared.report.Report.{Report}
 use Rattle.ak_shard_id.proofs.Walks.{filter_append}
 use Rattle.ak_region.specs.Shards.{ShardSlot}
 use Rattle.ak_region.specs.Slot.{untold, is_some_unique, is_known_at, at_home}
+use Rattle.ak_shard_id.specs.Division.{DivisionModel}
 use Rattle.ak_region.specs.RegionModel.{RegionModel, Message}
 use Rattle.ak_region.specs.Region.{slot_of, with_slot, is_for, those_for, others_than_for, report_of, reports_from}
 use Rattle.ak_region.specs.Turns.{turn_gone}
@@ -28,14 +29,14 @@ empty_end [] ys none = none
 empty_end (x ∷ xs) ys none = absurd (cons_is x (xs ++ ys) none)
 
 -- a message that goes is one of those that are for the shard
-pub those_gone : (shards shard i : ℕ) (xs now : List Message) (d : Message) → i < length xs → now ≡ drop i xs ++ others_than_for shards shard (take i xs)
-    → turn_gone shards shard now ≢ [] → those_for shards shard xs ≢ []
-those_gone shards shard i xs now d lt is goes none =
-    goes (empty_end (those_for shards shard (take i xs)) (turn_gone shards shard now) (
-    next_gone shards shard i xs now d lt is
-    ∙ empty_front (those_for shards shard (take (i + 1) xs)) (those_for shards shard (drop (i + 1) xs)) (
-    sym (filter_append (is_for shards shard) (take (i + 1) xs) (drop (i + 1) xs))
-    ∙ ap (those_for shards shard) (take-append-drop (i + 1) xs)
+pub those_gone : (division : DivisionModel) (shard i : ℕ) (xs now : List Message) (d : Message) → i < length xs → now ≡ drop i xs ++ others_than_for division shard (take i xs)
+    → turn_gone division shard now ≢ [] → those_for division shard xs ≢ []
+those_gone division shard i xs now d lt is goes none =
+    goes (empty_end (those_for division shard (take i xs)) (turn_gone division shard now) (
+    next_gone division shard i xs now d lt is
+    ∙ empty_front (those_for division shard (take (i + 1) xs)) (those_for division shard (drop (i + 1) xs)) (
+    sym (filter_append (is_for division shard) (take (i + 1) xs) (drop (i + 1) xs))
+    ∙ ap (those_for division shard) (take-append-drop (i + 1) xs)
     ∙ none
     )
     ))

@@ -9,6 +9,7 @@ use Rattle.ak_address.proofs.TableLaws.{key_itself, same_key}
 use Rattle.ak_member.specs.Standing.{Standings, is_member}
 use Rattle.ak_region.specs.declared.slot.Hosting.{Hosting}
 use Rattle.ak_region.specs.declared.slot.Hosting.TheVariants.{New, Again, Ignored}
+use Rattle.ak_shard_id.specs.Division.{DivisionModel}
 use Rattle.ak_region.specs.Shards.{ShardSlot}
 use Rattle.ak_region.specs.Slot.{untold, after_host, member_home, without_stranger}
 use Rattle.ak_region.specs.Housed.{is_among, with_home, is_one, is_housed, are_housed}
@@ -131,24 +132,28 @@ strangers_left s homes (slot ∷ slots) all = let parts = and_parts (is_housed h
 
 -- ---- of what is stored
 -- a slot that the node was told of changes, and its home is one of the homes where it was so before
-pub stored_change : (region : RegionModel) (shards capacity before most shard : ℕ) (homes : List UniqueModel) (told now : List ShardSlot) (messages : List Message) (s : ShardSlot) (f : ShardSlot → ShardSlot) → kept_as shards told messages most ≡ region
-    → IsStored shards before most homes told messages → capacity ≡ before → shard < length region.slots → now ≡ told ++ replicate (shard + 1 - length told) untold → s ≡ f (get_or now shard untold)
-    → ((slot : ShardSlot) → is_housed homes slot ≡ true → is_housed homes (f slot) ≡ true) → IsStored shards capacity most homes (set now shard s) messages
-stored_change region shards capacity before most shard homes told now messages s f same stored room inside reaches is keeps =
+pub stored_change : (region : RegionModel) (division : DivisionModel) (shards capacity before most shard : ℕ) (homes : List UniqueModel) (told now : List ShardSlot) (messages : List Message) (s : ShardSlot) (f : ShardSlot → ShardSlot) → kept_as division shards told messages most ≡ region
+    → IsStored division shards before most homes told messages → capacity ≡ before → shard < length region.slots → now ≡ told ++ replicate (shard + 1 - length told) untold → s ≡ f (get_or now shard untold)
+    → ((slot : ShardSlot) → is_housed homes slot ≡ true → is_housed homes (f slot) ≡ true) → IsStored division shards capacity most homes (set now shard s) messages
+stored_change region division shards capacity before most shard homes told now messages s f same stored room inside reaches is keeps =
     record {
+      each = stored.each;
+      all = stored.all;
       some = stored.some;
       few = stored.few;
-      fits = changed_fits region shards told now messages most shard s same stored.fits inside reaches;
+      fits = changed_fits region division shards told now messages most shard s same stored.fits inside reaches;
       room = subst (λ k. shards ≤ k) (sym room) stored.room;
       within = stored.within;
       housed = changed homes told now shard (shard + 1 - length told) s f reaches is keeps stored.housed;
     }
 
 -- there is one home more
-pub stored_with : (shards capacity most : ℕ) (homes more : List UniqueModel) (new : UniqueModel) (told : List ShardSlot) (messages : List Message) → IsStored shards capacity most homes told messages → more ≡ with_home homes new
-    → IsStored shards capacity most more told messages
-stored_with shards capacity most homes more new told messages stored is =
+pub stored_with : (division : DivisionModel) (shards capacity most : ℕ) (homes more : List UniqueModel) (new : UniqueModel) (told : List ShardSlot) (messages : List Message) → IsStored division shards capacity most homes told messages → more ≡ with_home homes new
+    → IsStored division shards capacity most more told messages
+stored_with division shards capacity most homes more new told messages stored is =
     record {
+      each = stored.each;
+      all = stored.all;
       some = stored.some;
       few = stored.few;
       fits = stored.fits;
@@ -158,11 +163,13 @@ stored_with shards capacity most homes more new told messages stored is =
     }
 
 -- strangers are forgotten, and leave the homes
-pub stored_forgotten : (s : Standings) (shards capacity most len : ℕ) (homes left : List UniqueModel) (told now : List ShardSlot) (messages : List Message) → IsStored shards capacity most homes told messages
-    → len ≡ length told → now ≡ map (without_stranger s) told → left ≡ filter (is_member s) homes → IsStored shards capacity most left (take len (now ++ drop (length now) told)) messages
-stored_forgotten s shards capacity most len homes left told now messages stored long is leave =
+pub stored_forgotten : (s : Standings) (division : DivisionModel) (shards capacity most len : ℕ) (homes left : List UniqueModel) (told now : List ShardSlot) (messages : List Message) → IsStored division shards capacity most homes told messages
+    → len ≡ length told → now ≡ map (without_stranger s) told → left ≡ filter (is_member s) homes → IsStored division shards capacity most left (take len (now ++ drop (length now) told)) messages
+stored_forgotten s division shards capacity most len homes left told now messages stored long is leave =
     let whole = whole_written len told now long (ap length is ∙ map_length s told) ∙ is in
     record {
+      each = stored.each;
+      all = stored.all;
       some = stored.some;
       few = stored.few;
       fits = subst (λ k. k ≤ shards) (sym (ap length whole ∙ map_length s told)) stored.fits;
@@ -172,10 +179,10 @@ stored_forgotten s shards capacity most len homes left told now messages stored 
     }
 
 -- all homes are members, and nothing is forgotten
-pub nothing_forgotten : (s : Standings) (region : RegionModel) (shards capacity most : ℕ) (homes : List UniqueModel) (told : List ShardSlot) (messages : List Message) → kept_as shards told messages most ≡ region
-    → IsStored shards capacity most homes told messages → list_all (is_member s) homes ≡ true → region ≡ after_forget s region
-nothing_forgotten s region shards capacity most homes told messages same stored members =
+pub nothing_forgotten : (s : Standings) (region : RegionModel) (division : DivisionModel) (shards capacity most : ℕ) (homes : List UniqueModel) (told : List ShardSlot) (messages : List Message) → kept_as division shards told messages most ≡ region
+    → IsStored division shards capacity most homes told messages → list_all (is_member s) homes ≡ true → region ≡ after_forget s region
+nothing_forgotten s region division shards capacity most homes told messages same stored members =
     sym same
-    ∙ ap (λ l. record { slots = l; messages = messages; most = most })
+    ∙ ap (λ l. record { division = division; slots = l; messages = messages; most = most })
     (sym (nothing_strange s homes (all_slots shards told) members (padded homes told (shards - length told) stored.housed)))
     ∙ ap (after_forget s) same

@@ -3,6 +3,7 @@ use Rattle.std.proofs.Common.{◌≡◌, ℕ, zero, suc, ◌+◌, ◌-◌, ◌<�
 use Rattle.std.proofs.lemmas.List.{length-replicate, take_all, drop_all}
 use Rattle.std.specs.List.{list_any}
 use Rattle.ak_member.specs.Standing.{Standings}
+use Rattle.ak_shard_id.specs.Division.{DivisionModel}
 use Rattle.ak_region.specs.Shards.{ShardSlot}
 use Rattle.ak_region.specs.Slot.{untold, receives, without_stranger}
 use Rattle.ak_region.specs.RegionModel.{RegionModel, Message}
@@ -116,27 +117,27 @@ pub all_passed : (shards k : ℕ) (told : List ShardSlot) → k ≡ shards → m
 all_passed shards k told same = ap (λ j. map receives told ++ replicate (j - length told) false) same ∙ sym (receives_padded told (shards - length told))
 
 -- ---- a region whose slots are kept so
-abbrev pub kept_as : ℕ → List ShardSlot → List Message → ℕ → RegionModel
-kept_as shards told messages most = record { slots = all_slots shards told; messages = messages; most = most }
+abbrev pub kept_as : DivisionModel → ℕ → List ShardSlot → List Message → ℕ → RegionModel
+kept_as division shards told messages most = record { division = division; slots = all_slots shards told; messages = messages; most = most }
 
 -- the slots reach to a shard, and its slot becomes another
-pub slot_changed : (region : RegionModel) (shards : ℕ) (told now : List ShardSlot) (messages : List Message) (most shard : ℕ) (s : ShardSlot) (f : ShardSlot → ShardSlot) → kept_as shards told messages most ≡ region
+pub slot_changed : (region : RegionModel) (division : DivisionModel) (shards : ℕ) (told now : List ShardSlot) (messages : List Message) (most shard : ℕ) (s : ShardSlot) (f : ShardSlot → ShardSlot) → kept_as division shards told messages most ≡ region
     → length told ≤ shards → shard < length region.slots → now ≡ told ++ replicate (shard + 1 - length told) untold → s ≡ f (get_or now shard untold)
-    → kept_as shards (set now shard s) messages most ≡ with_slot region shard (f (slot_of region shard))
-slot_changed region shards told now messages most shard s f same fits inside reaches is =
+    → kept_as division shards (set now shard s) messages most ≡ with_slot region shard (f (slot_of region shard))
+slot_changed region division shards told now messages most shard s f same fits inside reaches is =
     let n = shard + 1 - length told in
     let all = all_length shards told fits in
     let below : shard < shards = subst (λ k. shard < k) (ap (λ (r : RegionModel). length r.slots) (sym same) ∙ all) inside in
     let many : length now ≡ length told + n = ap length reaches ∙ length-append told (replicate n untold) ∙ ap (λ k. length told + k) (length-replicate n untold) in
-    ap (λ l. record { slots = l; messages = messages; most = most })
+    ap (λ l. record { division = division; slots = l; messages = messages; most = most })
     (reached_set shards told now shard n s reaches (omega (arith, many, below, fits)) (omega (arith, many, below, fits))
     ∙ ap (set (all_slots shards told) shard) (is ∙ ap f (reached_at told now shard n reaches ∙ sym (at_all shards told shard))))
     ∙ ap (λ r. with_slot r shard (f (slot_of r shard))) same
 
 -- and there are not too many
-pub changed_fits : (region : RegionModel) (shards : ℕ) (told now : List ShardSlot) (messages : List Message) (most shard : ℕ) (s : ShardSlot) → kept_as shards told messages most ≡ region → length told ≤ shards
+pub changed_fits : (region : RegionModel) (division : DivisionModel) (shards : ℕ) (told now : List ShardSlot) (messages : List Message) (most shard : ℕ) (s : ShardSlot) → kept_as division shards told messages most ≡ region → length told ≤ shards
     → shard < length region.slots → now ≡ told ++ replicate (shard + 1 - length told) untold → length (set now shard s) ≤ shards
-changed_fits region shards told now messages most shard s same fits inside reaches =
+changed_fits region division shards told now messages most shard s same fits inside reaches =
     let n = shard + 1 - length told in
     let below : shard < shards = subst (λ k. shard < k) (ap (λ (r : RegionModel). length r.slots) (sym same) ∙ all_length shards told fits) inside in
     let many : length now ≡ length told + n = ap length reaches ∙ length-append told (replicate n untold) ∙ ap (λ k. length told + k) (length-replicate n untold) in
@@ -150,7 +151,7 @@ whole_written len before now long many =
     ∙ ap (take len) (append-nil now)
     ∙ take_all len now (omega (arith, many, long))
 
-pub strangers_gone : (s : Standings) (region : RegionModel) (shards len : ℕ) (told now : List ShardSlot) (messages : List Message) (most : ℕ) → kept_as shards told messages most ≡ region
-    → len ≡ length told → now ≡ map (without_stranger s) told → kept_as shards (take len (now ++ drop (length now) told)) messages most ≡ after_forget s region
-strangers_gone s region shards len told now messages most same long is =
-    ap (λ l. kept_as shards l messages most) (whole_written len told now long (ap length is ∙ map_length s told) ∙ is) ∙ ap (λ l. record { slots = l; messages = messages; most = most }) (all_forgotten s shards told) ∙ ap (after_forget s) same
+pub strangers_gone : (s : Standings) (region : RegionModel) (division : DivisionModel) (shards len : ℕ) (told now : List ShardSlot) (messages : List Message) (most : ℕ) → kept_as division shards told messages most ≡ region
+    → len ≡ length told → now ≡ map (without_stranger s) told → kept_as division shards (take len (now ++ drop (length now) told)) messages most ≡ after_forget s region
+strangers_gone s region division shards len told now messages most same long is =
+    ap (λ l. kept_as division shards l messages most) (whole_written len told now long (ap length is ∙ map_length s told) ∙ is) ∙ ap (λ l. record { division = division; slots = l; messages = messages; most = most }) (all_forgotten s shards told) ∙ ap (after_forget s) same

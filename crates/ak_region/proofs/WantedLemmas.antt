@@ -5,7 +5,7 @@ use Rattle.std.proofs.lemmas.Bool.{eqb-true, eq-eqb}
 use Rattle.std.proofs.lemmas.List.{map-append}
 use Rattle.std.proofs.lemmas.List.Folds.{list_any-append}
 use Rattle.ak_address.proofs.BoolLemmas.{or_false, or_true}
-use Rattle.ak_shard_id.specs.Shard.{shard_of}
+use Rattle.ak_shard_id.specs.Division.{DivisionModel, shard_in}
 use Rattle.ak_region.specs.Shards.{ShardSlot}
 use Rattle.ak_region.specs.Slot.{untold, receives}
 use Rattle.ak_region.specs.RegionModel.{Message}
@@ -53,62 +53,62 @@ noted_passed slots passed found shard many lt is n within = go (shard == n) refl
         ∙ ap (λ b. receives_at slots n || b) (sym (has_more found shard n ∙ ap (λ b. has_number found n || b) other ∙ or_false (has_number found n)))
 
 -- the shards of the messages that do not receive
-abbrev unserved : List ShardSlot → List Message → List ℕ
-unserved slots messages = filter (λ shard. not (receives_at slots shard)) (map (λ (message : Message). shard_of message.entity (length slots)) messages)
+abbrev unserved : DivisionModel → List ShardSlot → List Message → List ℕ
+unserved division slots messages = filter (λ shard. not (receives_at slots shard)) (map (λ (message : Message). shard_in division message.entity) messages)
 
-unserved_more : (slots : List ShardSlot) (messages : List Message) (i : ℕ) (d : Message) → i < length messages
-    → unserved slots (take (i + 1) messages)
-    ≡ unserved slots (take i messages) ++ cond (not (receives_at slots (shard_of (get_or messages i d).entity (length slots)))) (shard_of (get_or messages i d).entity (length slots) ∷ []) []
-unserved_more slots messages i d lt =
-    ap (unserved slots) (take_more messages i d lt)
-    ∙ ap (filter (λ shard. not (receives_at slots shard))) (map-append (λ (message : Message). shard_of message.entity (length slots)) (take i messages) (get_or messages i d ∷ []))
-    ∙ filter_append (λ shard. not (receives_at slots shard)) (map (λ (message : Message). shard_of message.entity (length slots)) (take i messages)) _
+unserved_more : (division : DivisionModel) (slots : List ShardSlot) (messages : List Message) (i : ℕ) (d : Message) → i < length messages
+    → unserved division slots (take (i + 1) messages)
+    ≡ unserved division slots (take i messages) ++ cond (not (receives_at slots (shard_in division (get_or messages i d).entity))) (shard_in division (get_or messages i d).entity ∷ []) []
+unserved_more division slots messages i d lt =
+    ap (unserved division slots) (take_more messages i d lt)
+    ∙ ap (filter (λ shard. not (receives_at slots shard))) (map-append (λ (message : Message). shard_in division message.entity) (take i messages) (get_or messages i d ∷ []))
+    ∙ filter_append (λ shard. not (receives_at slots shard)) (map (λ (message : Message). shard_in division message.entity) (take i messages)) _
 
-pub noted_found : (slots : List ShardSlot) (messages : List Message) (i : ℕ) (d : Message) (passed : List Bool) (found : List ℕ) (shard : ℕ) → i < length messages
-    → shard ≡ shard_of (get_or messages i d).entity (length slots) → shard < length slots → IsPassed slots passed found → found ≡ wanted_among slots (take i messages)
-    → found_more passed found shard ≡ wanted_among slots (take (i + 1) messages)
-noted_found slots messages i d passed found shard lt at within is so_far =
+pub noted_found : (division : DivisionModel) (slots : List ShardSlot) (messages : List Message) (i : ℕ) (d : Message) (passed : List Bool) (found : List ℕ) (shard : ℕ) → i < length messages
+    → shard ≡ shard_in division (get_or messages i d).entity → shard < length slots → IsPassed slots passed found → found ≡ wanted_among division slots (take i messages)
+    → found_more passed found shard ≡ wanted_among division slots (take (i + 1) messages)
+noted_found division slots messages i d passed found shard lt at within is so_far =
     go (receives_at slots shard) refl (has_number found shard) refl
     ∙ ap firsts (
-    ap (λ s. unserved slots (take i messages) ++ cond (not (receives_at slots s)) (s ∷ []) []) at
-    ∙ sym (unserved_more slots messages i d lt)
+    ap (λ s. unserved division slots (take i messages) ++ cond (not (receives_at slots s)) (s ∷ []) []) at
+    ∙ sym (unserved_more division slots messages i d lt)
     )
   where
-    there : has_number found shard ≡ has_number (unserved slots (take i messages)) shard
-    there = ap (λ xs. has_number xs shard) so_far ∙ firsts_have (unserved slots (take i messages)) shard
+    there : has_number found shard ≡ has_number (unserved division slots (take i messages)) shard
+    there = ap (λ xs. has_number xs shard) so_far ∙ firsts_have (unserved division slots (take i messages)) shard
 
     go : (r : Bool) → receives_at slots shard ≡ r → (h : Bool) → has_number found shard ≡ h
-        → found_more passed found shard ≡ firsts (unserved slots (take i messages) ++ cond (not (receives_at slots shard)) (shard ∷ []) [])
+        → found_more passed found shard ≡ firsts (unserved division slots (take i messages) ++ cond (not (receives_at slots shard)) (shard ∷ []) [])
     go true served h has =
         ap (λ b. if b then found else found ++ shard ∷ []) (is shard within ∙ ap (λ b. b || has_number found shard) served)
         ∙ so_far
-        ∙ ap firsts (sym (append-nil (unserved slots (take i messages))) ∙ ap (λ b. unserved slots (take i messages) ++ cond (not b) (shard ∷ []) []) (sym served))
+        ∙ ap firsts (sym (append-nil (unserved division slots (take i messages))) ∙ ap (λ b. unserved division slots (take i messages) ++ cond (not b) (shard ∷ []) []) (sym served))
     go false unserved_here h has =
         ap (λ b. if b then found else found ++ shard ∷ []) (is shard within ∙ ap (λ b. b || has_number found shard) unserved_here ∙ there)
-        ∙ ap (λ xs. cond (has_number (unserved slots (take i messages)) shard) xs (xs ++ shard ∷ [])) so_far
-        ∙ sym (firsts_more (unserved slots (take i messages)) shard)
-        ∙ ap (λ b. firsts (unserved slots (take i messages) ++ cond (not b) (shard ∷ []) [])) (sym unserved_here)
+        ∙ ap (λ xs. cond (has_number (unserved division slots (take i messages)) shard) xs (xs ++ shard ∷ [])) so_far
+        ∙ sym (firsts_more (unserved division slots (take i messages)) shard)
+        ∙ ap (λ b. firsts (unserved division slots (take i messages) ++ cond (not b) (shard ∷ []) [])) (sym unserved_here)
 
 -- ---- a walk that looks for the first message that wants its shard
 -- a message for a shard that receives wants nothing
-pub served_wants_nothing : (slots : List ShardSlot) (messages : List Message) (i : ℕ) (d : Message) → i < length messages → receives_at slots (shard_of (get_or messages i d).entity (length slots)) ≡ true
-    → wanted_among slots (drop (i + 1) messages) ≡ wanted_among slots (drop i messages)
-served_wants_nothing slots messages i d lt is =
-    let rest = unserved slots (drop (i + 1) messages) in
-    let shard = shard_of (get_or messages i d).entity (length slots) in
+pub served_wants_nothing : (division : DivisionModel) (slots : List ShardSlot) (messages : List Message) (i : ℕ) (d : Message) → i < length messages → receives_at slots (shard_in division (get_or messages i d).entity) ≡ true
+    → wanted_among division slots (drop (i + 1) messages) ≡ wanted_among division slots (drop i messages)
+served_wants_nothing division slots messages i d lt is =
+    let rest = unserved division slots (drop (i + 1) messages) in
+    let shard = shard_in division (get_or messages i d).entity in
     ap (λ b. firsts (cond (not b) (shard ∷ rest) rest)) (sym is)
-    ∙ ap (λ l. wanted_among slots (get_or messages i d ∷ l)) (ap (λ n. drop n messages) (add-one i))
-    ∙ ap (wanted_among slots) (sym (drop-cons messages i d lt))
+    ∙ ap (λ l. wanted_among division slots (get_or messages i d ∷ l)) (ap (λ n. drop n messages) (add-one i))
+    ∙ ap (wanted_among division slots) (sym (drop-cons messages i d lt))
 
 -- any other wants its shard
-pub unserved_wants : (slots : List ShardSlot) (messages : List Message) (i : ℕ) (d : Message) → i < length messages → receives_at slots (shard_of (get_or messages i d).entity (length slots)) ≡ false
-    → wanted_among slots (drop i messages) ≢ []
-unserved_wants slots messages i d lt is none =
-    let rest = unserved slots (drop (i + 1) messages) in
-    let shard = shard_of (get_or messages i d).entity (length slots) in
+pub unserved_wants : (division : DivisionModel) (slots : List ShardSlot) (messages : List Message) (i : ℕ) (d : Message) → i < length messages → receives_at slots (shard_in division (get_or messages i d).entity) ≡ false
+    → wanted_among division slots (drop i messages) ≢ []
+unserved_wants division slots messages i d lt is none =
+    let rest = unserved division slots (drop (i + 1) messages) in
+    let shard = shard_in division (get_or messages i d).entity in
     cons_is shard (filter (λ m. not (m == shard)) (firsts rest)) (
     ap (λ b. firsts (cond (not b) (shard ∷ rest) rest)) (sym is)
-    ∙ ap (λ l. wanted_among slots (get_or messages i d ∷ l)) (ap (λ n. drop n messages) (add-one i))
-    ∙ ap (wanted_among slots) (sym (drop-cons messages i d lt))
+    ∙ ap (λ l. wanted_among division slots (get_or messages i d ∷ l)) (ap (λ n. drop n messages) (add-one i))
+    ∙ ap (wanted_among division slots) (sym (drop-cons messages i d lt))
     ∙ none
     )

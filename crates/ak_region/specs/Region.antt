@@ -3,7 +3,7 @@ use Rattle.std.specs.Prelude.{ℕ, ◌+◌, ◌==◌, nat_le, ⊤, Bool, not, Li
 use Rattle.std.specs.List.{filter, list_any}
 use Rattle.ak_address.specs.Unique.{UniqueModel}
 use Rattle.ak_member.specs.Standing.{Standings}
-use Rattle.ak_shard_id.specs.Shard.{shard_of}
+use Rattle.ak_shard_id.specs.Division.{DivisionModel, many_shards, shard_in}
 use Rattle.ak_shard_id.specs.declared.report.Report.{Report}
 use Rattle.ak_region.specs.declared.region.Offered.{Offered}
 use Rattle.ak_region.specs.declared.region.Offered.TheVariants.{Delivered, Forwarded, Buffered, Dropped}
@@ -12,8 +12,8 @@ use Rattle.ak_region.specs.Slot.{untold, receives, other_home, can_flush, withou
 use Rattle.ak_region.specs.RegionModel.{RegionModel, Message}
 
 -- nothing was told yet, and nothing waits
-abbrev pub new_region : ℕ → ℕ → RegionModel
-new_region shards most = record { slots = replicate shards untold; messages = []; most = most }
+abbrev pub new_region : DivisionModel → ℕ → RegionModel
+new_region division most = record { division = division; slots = replicate (many_shards division) untold; messages = []; most = most }
 
 -- what is known of a shard
 abbrev pub slot_of : RegionModel → ℕ → ShardSlot
@@ -24,7 +24,7 @@ with_slot region shard slot = record region { slots = slice_set region.slots sha
 
 -- the shard of an entity, and of a message that waits
 abbrev pub entity_shard : RegionModel → List ℕ → ℕ
-entity_shard region entity = shard_of entity (length region.slots)
+entity_shard region entity = shard_in region.division entity
 
 abbrev pub is_full : RegionModel → Bool
 is_full region = nat_le region.most (length region.messages)
@@ -55,23 +55,23 @@ after_offer (Forwarded home entity) message region = region
 after_offer Buffered message region = record region { messages = region.messages ++ message ∷ [] }
 after_offer (Dropped entity) message region = region
 
--- a message waits for the shard, of so many
-abbrev pub is_for : ℕ → ℕ → Message → Bool
-is_for shards shard message = shard_of message.entity shards == shard
+-- a message waits for the shard
+abbrev pub is_for : DivisionModel → ℕ → Message → Bool
+is_for division shard message = shard_in division message.entity == shard
 
-abbrev pub those_for : ℕ → ℕ → List Message → List Message
-those_for shards shard messages = filter (is_for shards shard) messages
+abbrev pub those_for : DivisionModel → ℕ → List Message → List Message
+those_for division shard messages = filter (is_for division shard) messages
 
-abbrev pub others_than_for : ℕ → ℕ → List Message → List Message
-others_than_for shards shard messages = filter (λ message. not (is_for shards shard message)) messages
+abbrev pub others_than_for : DivisionModel → ℕ → List Message → List Message
+others_than_for division shard messages = filter (λ message. not (is_for division shard message)) messages
 
 -- what leaves the buffer for a shard, where it is hosted or has its home at another node, and is not held
 abbrev pub flushed : UniqueModel → ℕ → RegionModel → List Message
-flushed me shard region = if can_flush me (slot_of region shard) then those_for (length region.slots) shard region.messages else []
+flushed me shard region = if can_flush me (slot_of region shard) then those_for region.division shard region.messages else []
 
 abbrev pub after_flush : UniqueModel → ℕ → RegionModel → RegionModel
 after_flush me shard region =
-    record region { messages = if can_flush me (slot_of region shard) then others_than_for (length region.slots) shard region.messages else region.messages }
+    record region { messages = if can_flush me (slot_of region shard) then others_than_for region.division shard region.messages else region.messages }
 
 -- each number once, in the order of the first places
 abbrev pub firsts : List ℕ → List ℕ

@@ -1,7 +1,7 @@
 -- How the messages that wait are walked.
 use Rattle.std.specs.Prelude.{ℕ, not, List, [], ◌∷◌, ◌++◌, length, map, slice_index_or, if◌then◌else◌}
 use Rattle.std.specs.List.{filter}
-use Rattle.ak_shard_id.specs.Shard.{shard_of}
+use Rattle.ak_shard_id.specs.Division.{DivisionModel, shard_in}
 use Rattle.ak_region.specs.declared.region.Offered.{Offered}
 use Rattle.ak_region.specs.declared.region.Offered.TheVariants.{Delivered, Forwarded, Buffered, Dropped}
 use Rattle.ak_region.specs.Shards.{ShardSlot}
@@ -17,15 +17,15 @@ after_wait Buffered message messages = messages ++ message ∷ []
 after_wait (Dropped entity) message messages = messages
 
 -- the first message had its turn: what is left, and what goes
-abbrev pub turn_left : ℕ → ℕ → List Message → List Message
-turn_left shards shard [] = []
-turn_left shards shard (message ∷ messages) = if is_for shards shard message then messages else messages ++ message ∷ []
+abbrev pub turn_left : DivisionModel → ℕ → List Message → List Message
+turn_left division shard [] = []
+turn_left division shard (message ∷ messages) = if is_for division shard message then messages else messages ++ message ∷ []
 
-abbrev pub turn_gone : ℕ → ℕ → List Message → List Message
-turn_gone shards shard [] = []
-turn_gone shards shard (message ∷ messages) = if is_for shards shard message then message ∷ [] else []
+abbrev pub turn_gone : DivisionModel → ℕ → List Message → List Message
+turn_gone division shard [] = []
+turn_gone division shard (message ∷ messages) = if is_for division shard message then message ∷ [] else []
 
 -- the shards of these messages that do not receive, each once
-abbrev pub wanted_among : List ShardSlot → List Message → List ℕ
-wanted_among slots messages =
-    firsts (filter (λ shard. not (receives (slice_index_or slots shard untold))) (map (λ (message : Message). shard_of message.entity (length slots)) messages))
+abbrev pub wanted_among : DivisionModel → List ShardSlot → List Message → List ℕ
+wanted_among division slots messages =
+    firsts (filter (λ shard. not (receives (slice_index_or slots shard untold))) (map (λ (message : Message). shard_in division message.entity) messages))

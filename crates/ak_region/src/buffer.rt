@@ -1,5 +1,5 @@
 ghost use Rattle.std.specs.Prelude.{◌≡◌, ◌≢◌, ◌≤◌, ◌<◌, ◌++◌, ◌∷◌, [], nat_le, true, false, if◌then◌else◌, slice_index_or, slice_set, length, map, IfOk, OnOk, OnErr};
-ghost use Rattle.ak_shard_id.specs.Shard.{shard_of};
+ghost use Rattle.ak_shard_id.specs.Division.{many_shards};
 ghost use Rattle.ak_region.specs.Slot.{receives};
 ghost use Rattle.ak_region.specs.Stored.{all_slots};
 ghost use Rattle.ak_region.specs.Region.{kept, those_for, others_than_for};
@@ -9,7 +9,7 @@ use crate::region::{Offered, Waiting};
 use crate::slot::Slot;
 use crate::told::receives_at;
 use ak_address::Text;
-use ak_shard_id::shard_of;
+use ak_shard_id::Division;
 use circular_buffer::HeapCircularBuffer;
 use std::alloc::{AllocError, Global};
 
@@ -54,20 +54,18 @@ pub(crate) fn wait(
 fn turn(
     buffer: &mut HeapCircularBuffer<Waiting>,
     gone: &mut Vec<Waiting>,
-    shards: u32,
+    division: &Division,
     shard: u32,
 ) -> Result<(), AllocError>
-    requires some { 1 ≤ shards }
-    requires few { shards ≤ 1000 }
     requires within { length buffer.old.items ≤ buffer.old.capacity }
-    ensures left { OnOk result (buffer.new.items ≡ turn_left shards shard buffer.old.items) }
-    ensures gone { OnOk result (gone.new.items ≡ gone.old.items ++ turn_gone shards shard buffer.old.items) }
-    ensures memory { OnErr result (turn_gone shards shard buffer.old.items ≢ []) }
+    ensures left { OnOk result (buffer.new.items ≡ turn_left division.now shard buffer.old.items) }
+    ensures gone { OnOk result (gone.new.items ≡ gone.old.items ++ turn_gone division.now shard buffer.old.items) }
+    ensures memory { OnErr result (turn_gone division.now shard buffer.old.items ≢ []) }
     ensures shorter { length buffer.new.items ≤ length buffer.old.items }
     ensures capacity { buffer.new.capacity ≡ buffer.old.capacity }
 {
     if let Some(waiting) = buffer.pop_front() {
-        if shard_of(waiting.entity.bytes(), shards) == shard {
+        if division.shard_in(waiting.entity.bytes()) == shard {
             gone.push(waiting)?;
         } else {
             let _ = buffer.try_push_back(waiting);
@@ -80,19 +78,17 @@ fn turn(
 pub(crate) fn take_those_for(
     alloc: Global,
     buffer: &mut HeapCircularBuffer<Waiting>,
-    shards: u32,
+    division: &Division,
     shard: u32,
 ) -> Result<Vec<Waiting>, AllocError>
-    requires some { 1 ≤ shards }
-    requires few { shards ≤ 1000 }
-    ensures gone { IfOk result (λ gone. gone.items ≡ those_for shards shard buffer.old.items) }
-    ensures left { OnOk result (buffer.new.items ≡ others_than_for shards shard buffer.old.items) }
-    ensures memory { OnErr result (those_for shards shard buffer.old.items ≢ []) }
+    ensures gone { IfOk result (λ gone. gone.items ≡ those_for division.now shard buffer.old.items) }
+    ensures left { OnOk result (buffer.new.items ≡ others_than_for division.now shard buffer.old.items) }
+    ensures memory { OnErr result (those_for division.now shard buffer.old.items ≢ []) }
     ensures shorter { length buffer.new.items ≤ length buffer.old.items }
 {
     let mut gone = Vec::new(alloc);
     'turns: for _turn in 0..buffer.len() {
-        turn(buffer, &mut gone, shards, shard)?;
+        turn(buffer, &mut gone, division, shard)?;
     }
     Ok(gone)
 }
@@ -128,16 +124,20 @@ fn receiving(alloc: Global, told: &[Slot], shards: u32) -> Result<Vec<bool>, All
 }
 
 // Whether a message waits for a shard that does not receive. Mostly the first one does.
-fn any_wanted(told: &[Slot], shards: u32, buffer: &HeapCircularBuffer<Waiting>) -> bool
-    requires some { 1 ≤ shards }
-    requires few { shards ≤ 1000 }
+fn any_wanted(
+    told: &[Slot],
+    division: &Division,
+    shards: u32,
+    buffer: &HeapCircularBuffer<Waiting>,
+) -> bool
+    requires all { shards ≡ many_shards division.now }
     requires told { length told.now ≤ shards }
-    ensures none { result ≡ false → wanted_among (all_slots shards told.now) buffer.now.items ≡ [] }
-    ensures some { result ≡ true → wanted_among (all_slots shards told.now) buffer.now.items ≢ [] }
+    ensures none { result ≡ false → wanted_among division.now (all_slots shards told.now) buffer.now.items ≡ [] }
+    ensures some { result ≡ true → wanted_among division.now (all_slots shards told.now) buffer.now.items ≢ [] }
 {
     'messages: for index in 0..buffer.len() {
         if let Some(waiting) = buffer.get(index) {
-            let shard = shard_of(waiting.entity.bytes(), shards);
+            let shard = division.shard_in(waiting.entity.bytes());
             if !receives_at(told, shard) {
                 return true;
             }
@@ -150,23 +150,23 @@ fn any_wanted(told: &[Slot], shards: u32, buffer: &HeapCircularBuffer<Waiting>) 
 pub(crate) fn wanted_in(
     alloc: Global,
     told: &[Slot],
+    division: &Division,
     shards: u32,
     buffer: &HeapCircularBuffer<Waiting>,
 ) -> Result<Vec<u32>, AllocError>
-    requires some { 1 ≤ shards }
-    requires few { shards ≤ 1000 }
+    requires all { shards ≡ many_shards division.now }
     requires told { length told.now ≤ shards }
-    ensures found { IfOk result (λ wanted. wanted.items ≡ wanted_among (all_slots shards told.now) buffer.now.items) }
-    ensures memory { OnErr result (wanted_among (all_slots shards told.now) buffer.now.items ≢ []) }
+    ensures found { IfOk result (λ wanted. wanted.items ≡ wanted_among division.now (all_slots shards told.now) buffer.now.items) }
+    ensures memory { OnErr result (wanted_among division.now (all_slots shards told.now) buffer.now.items ≢ []) }
 {
-    if !any_wanted(told, shards, buffer) {
+    if !any_wanted(told, division, shards, buffer) {
         return Ok(Vec::new(alloc));
     }
     let mut passed = receiving(alloc, told, shards)?;
     let mut wanted = Vec::new(alloc);
     'messages: for index in 0..buffer.len() {
         if let Some(waiting) = buffer.get(index) {
-            let shard = shard_of(waiting.entity.bytes(), shards);
+            let shard = division.shard_in(waiting.entity.bytes());
             note(&mut passed, &mut wanted, shard)?;
         }
     }

@@ -1,4 +1,5 @@
 ghost use Rattle.std.specs.Prelude.{◌≡◌, ◌≢◌, ◌≤◌, ◌<◌, [], false, length, IfOk, OnOk, OnErr, IfSome, IsTrue};
+ghost use Rattle.ak_settings.specs.Settings.{division_of};
 ghost use Rattle.ak_region.specs.RegionModel.{RegionModel, Message, IsRegion};
 ghost use Rattle.ak_region.specs.Slot.{is_known_at, at_home, host_answer, after_host, begun, gives_up, handed_off, can_flush};
 ghost use Rattle.ak_region.specs.Region.{new_region, slot_of, with_slot, entity_shard, route, TakesRoom, after_offer, flushed, after_flush, wanted, after_forget, hosts_any, reports};
@@ -10,7 +11,8 @@ use crate::told::{can_flush_at, home_at, hosted_at, hosting_at, is_known_at, rea
 use crate::walks::{any_hosted, forget_strangers, reports_of};
 use ak_address::{Text, Unique};
 use ak_member::Members;
-use ak_shard_id::{Report, shard_of};
+use ak_settings::{Settings, copy_texts};
+use ak_shard_id::{Division, Report};
 use circular_buffer::HeapCircularBuffer;
 use std::alloc::{AllocError, Global};
 use std::marker::Model;
@@ -54,6 +56,8 @@ pub struct Region {
     told: Vec<Slot>,
     // Each home that one of these slots has, once, and maybe more: whether there is a home to forget is read off these few.
     homes: Vec<Home>,
+    // How entities are divided, into so many shards.
+    division: Division,
     shards: u32,
     buffer: HeapCircularBuffer<Waiting>,
     most: u32,
@@ -68,23 +72,26 @@ impl Model for Region {
 
     ghost coded = { coded_region };
 
-    ghost view = { λ r. record { slots = all_slots r.shards r.told.items; messages = r.buffer.items; most = r.most } };
+    ghost view = { λ r. record { division = r.division; slots = all_slots r.shards r.told.items; messages = r.buffer.items; most = r.most } };
 
     // There is room for the slots of all shards, so that what is told of a shard takes none; and each home of a slot is listed, so
     // that a stranger among them is not overlooked.
-    ghost invariant = { λ r. IsStored r.shards (vec_capacity r.told) r.most r.homes.items r.told.items r.buffer.items };
+    ghost invariant = { λ r. IsStored r.division r.shards (vec_capacity r.told) r.most r.homes.items r.told.items r.buffer.items };
 }
 
 impl Region {
     /// Nothing was told of any shard, and nothing waits. There are 1 to 1000 shards, whose room is set aside and used as they are
-    /// told of, and 1 to 100000 messages may wait; the memory for them is taken as they come. Only memory can fail.
-    pub fn new(alloc: Global, shards: u32, buffer: u32) -> Result<Region, AllocError>
-        requires some { 1 ≤ shards }
-        requires few { shards ≤ 1000 }
-        requires room { 1 ≤ buffer }
-        requires bounded { buffer ≤ 100000 }
-        ensures { IfOk result (λ region. region ≡ new_region shards buffer) }
+    /// told of, and 1 to 100000 messages may wait, as the settings say; the memory for them is taken as they come. Only memory can
+    /// fail.
+    pub fn new(alloc: Global, settings: &Settings) -> Result<Region, AllocError>
+        ensures { IfOk result (λ region. region ≡ new_region (division_of settings.now) settings.now.buffer) }
     {
+        settings.invariant();
+        let types = copy_texts(alloc, &settings.types)?;
+        let division = Division::of(types, settings.shards);
+        division.invariant();
+        let shards = division.shards();
+        let buffer = settings.buffer;
         let told = Vec::with_capacity(alloc, shards as usize)?;
         let homes = Vec::new(alloc);
         let most = buffer;
@@ -92,6 +99,7 @@ impl Region {
         Ok(Region {
             told,
             homes,
+            division,
             shards,
             buffer,
             most,
@@ -109,14 +117,15 @@ impl Region {
     /// Forgets everything: nothing was told of any shard, and nothing waits. Takes no memory.
     #[tactic(auto, using(crate::proofs::StoredLemmas::all_length))]
     pub fn restart(&mut self)
-        ensures { self.new ≡ new_region (length self.old.slots) self.old.most }
+        ensures { self.new ≡ new_region self.old.division self.old.most }
     {
         self.told.clear();
         self.homes.clear();
         self.buffer.clear();
     }
 
-    /// Tells a proof that there are 1 to 1000 shards, and that no more messages wait than may. It does nothing.
+    /// Tells a proof that there are 1 to 1000 shards, those of its division, and that no more messages wait than may. It does
+    /// nothing.
     #[tactic(auto, using(crate::proofs::StoredLemmas::all_length))]
     pub fn invariant(&self)
         ensures { IsRegion self.now }
@@ -130,7 +139,7 @@ impl Region {
         ensures is { result ≡ entity_shard self.now entity.now }
         ensures below { result < length self.now.slots }
     {
-        shard_of(entity.bytes(), self.shards)
+        self.division.shard_in(entity.bytes())
     }
 
     /// What comes of a message to an entity: it is delivered where the entity's shard is hosted here and not held; it is
@@ -250,7 +259,7 @@ impl Region {
         if !can_flush_at(&self.told, me, shard) {
             return Ok(Vec::new(alloc));
         }
-        let taken = take_those_for(alloc, &mut self.buffer, self.shards, shard);
+        let taken = take_those_for(alloc, &mut self.buffer, &self.division, shard);
         if taken.is_err() {
             self.buffer.clear();
         }
@@ -263,7 +272,7 @@ impl Region {
         ensures found { IfOk result (λ shards. shards.items ≡ wanted self.now) }
         ensures memory { OnErr result (wanted self.now ≢ []) }
     {
-        wanted_in(alloc, &self.told, self.shards, &self.buffer)
+        wanted_in(alloc, &self.told, &self.division, self.shards, &self.buffer)
     }
 
     /// Homes that are no members are forgotten. Takes no memory.

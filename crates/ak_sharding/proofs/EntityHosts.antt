@@ -14,7 +14,7 @@ use Rattle.ak_address.specs.Unique.{UniqueModel}
 use Rattle.ak_entity.specs.Active.{ActiveEntity, entity_cmp}
 use Rattle.ak_entity.specs.Entities.{delivered, without_shard}
 use Rattle.ak_entity.proofs.EntityLaws.{own_delivery, other_delivery, stopped_shard}
-use Rattle.ak_shard_id.specs.Shard.{shard_of}
+use Rattle.ak_shard_id.specs.Division.{DivisionModel, shard_in}
 use Rattle.std.proofs.lemmas.Cmp.{nat_list_cmp_total, tied_itself}
 use Rattle.ak_promise.specs.Ballot.{BallotModel}
 use Rattle.ak_region.specs.declared.region.Offered.TheVariants as offered
@@ -33,23 +33,23 @@ use Rattle.ak_sharding.specs.Hosts.{has_shard, is_bound, learns_home, on_home, h
 use Rattle.ak_sharding.specs.Alive.{IsActive, Hosts, AreHosted, starts_of, alive_then, alive_after, KeepsEntities}
 
 -- ---- what actions tell, one list after another
-alive_more : (shards : ℕ) (a b : List ℕ → Type 0) → ((e : List ℕ) → a e → b e) → (x : Action) (e : List ℕ) → alive_then shards a x e → alive_then shards b x e
-alive_more shards a b more (action.TheVariants.Entity entity) e h = elim h [ inl was ↦ inl (more e was) | inr now ↦ inr now ]
-alive_more shards a b more (action.TheVariants.Gone shard) e h = (more e h.0, h.1)
-alive_more shards a b more action.TheVariants.Stopped e h = h
-alive_more shards a b more other e h = more e h
+alive_more : (division : DivisionModel) (a b : List ℕ → Type 0) → ((e : List ℕ) → a e → b e) → (x : Action) (e : List ℕ) → alive_then division a x e → alive_then division b x e
+alive_more division a b more (action.TheVariants.Entity entity) e h = elim h [ inl was ↦ inl (more e was) | inr now ↦ inr now ]
+alive_more division a b more (action.TheVariants.Gone shard) e h = (more e h.0, h.1)
+alive_more division a b more action.TheVariants.Stopped e h = h
+alive_more division a b more other e h = more e h
 
-pub after_more : (shards : ℕ) (a b : List ℕ → Type 0) → ((e : List ℕ) → a e → b e) → (xs : List Action) (e : List ℕ) → alive_after shards a xs e → alive_after shards b xs e
-after_more shards a b more [] e h = more e h
-after_more shards a b more (x ∷ xs) e h = after_more shards (alive_then shards a x) (alive_then shards b x) (alive_more shards a b more x) xs e h
+pub after_more : (division : DivisionModel) (a b : List ℕ → Type 0) → ((e : List ℕ) → a e → b e) → (xs : List Action) (e : List ℕ) → alive_after division a xs e → alive_after division b xs e
+after_more division a b more [] e h = more e h
+after_more division a b more (x ∷ xs) e h = after_more division (alive_then division a x) (alive_then division b x) (alive_more division a b more x) xs e h
 
-after_both : (shards : ℕ) (a : List ℕ → Type 0) (xs ys : List Action) (e : List ℕ) → alive_after shards a (xs ++ ys) e → alive_after shards (alive_after shards a xs) ys e
-after_both shards a [] ys e h = h
-after_both shards a (x ∷ xs) ys e h = after_both shards (alive_then shards a x) xs ys e h
+after_both : (division : DivisionModel) (a : List ℕ → Type 0) (xs ys : List Action) (e : List ℕ) → alive_after division a (xs ++ ys) e → alive_after division (alive_after division a xs) ys e
+after_both division a [] ys e h = h
+after_both division a (x ∷ xs) ys e h = after_both division (alive_then division a x) xs ys e h
 
-pub both_after : (shards : ℕ) (a : List ℕ → Type 0) (xs ys : List Action) (e : List ℕ) → alive_after shards (alive_after shards a xs) ys e → alive_after shards a (xs ++ ys) e
-both_after shards a [] ys e h = h
-both_after shards a (x ∷ xs) ys e h = both_after shards (alive_then shards a x) xs ys e h
+pub both_after : (division : DivisionModel) (a : List ℕ → Type 0) (xs ys : List Action) (e : List ℕ) → alive_after division (alive_after division a xs) ys e → alive_after division a (xs ++ ys) e
+both_after division a [] ys e h = h
+both_after division a (x ∷ xs) ys e h = both_after division (alive_then division a x) xs ys e h
 
 -- actions that start nothing and end nothing
 abbrev pub is_else : Action → Bool
@@ -58,17 +58,17 @@ is_else (action.TheVariants.Gone shard) = false
 is_else action.TheVariants.Stopped = false
 is_else other = true
 
-else_alive : (x : Action) → is_else x ≡ true → (shards : ℕ) (a : List ℕ → Type 0) (e : List ℕ) → alive_then shards a x e → a e
-else_alive (action.TheVariants.Entity entity) t shards a e h = absurd (true≢false (sym t))
-else_alive (action.TheVariants.Gone shard) t shards a e h = absurd (true≢false (sym t))
-else_alive action.TheVariants.Stopped t shards a e h = absurd (true≢false (sym t))
-else_alive other t shards a e h = h
+else_alive : (x : Action) → is_else x ≡ true → (division : DivisionModel) (a : List ℕ → Type 0) (e : List ℕ) → alive_then division a x e → a e
+else_alive (action.TheVariants.Entity entity) t division a e h = absurd (true≢false (sym t))
+else_alive (action.TheVariants.Gone shard) t division a e h = absurd (true≢false (sym t))
+else_alive action.TheVariants.Stopped t division a e h = absurd (true≢false (sym t))
+else_alive other t division a e h = h
 
-alive_else : (x : Action) → is_else x ≡ true → (shards : ℕ) (a : List ℕ → Type 0) (e : List ℕ) → a e → alive_then shards a x e
-alive_else (action.TheVariants.Entity entity) t shards a e h = absurd (true≢false (sym t))
-alive_else (action.TheVariants.Gone shard) t shards a e h = absurd (true≢false (sym t))
-alive_else action.TheVariants.Stopped t shards a e h = absurd (true≢false (sym t))
-alive_else other t shards a e h = h
+alive_else : (x : Action) → is_else x ≡ true → (division : DivisionModel) (a : List ℕ → Type 0) (e : List ℕ) → a e → alive_then division a x e
+alive_else (action.TheVariants.Entity entity) t division a e h = absurd (true≢false (sym t))
+alive_else (action.TheVariants.Gone shard) t division a e h = absurd (true≢false (sym t))
+alive_else action.TheVariants.Stopped t division a e h = absurd (true≢false (sym t))
+alive_else other t division a e h = h
 
 else_starts : (x : Action) → is_else x ≡ true → starts_of x ≡ None
 else_starts (action.TheVariants.Entity entity) t = absurd (true≢false (sym t))
@@ -80,13 +80,13 @@ abbrev pub Tells : List Action → Type 0
 Tells [] = Unit {0}
 Tells (x ∷ xs) = (is_else x ≡ true) × Tells xs
 
-tells_alive : (shards : ℕ) (a : List ℕ → Type 0) (xs : List Action) → Tells xs → (e : List ℕ) → alive_after shards a xs e → a e
-tells_alive shards a [] t e h = h
-tells_alive shards a (x ∷ xs) t e h = else_alive x t.0 shards a e (tells_alive shards (alive_then shards a x) xs t.1 e h)
+tells_alive : (division : DivisionModel) (a : List ℕ → Type 0) (xs : List Action) → Tells xs → (e : List ℕ) → alive_after division a xs e → a e
+tells_alive division a [] t e h = h
+tells_alive division a (x ∷ xs) t e h = else_alive x t.0 division a e (tells_alive division (alive_then division a x) xs t.1 e h)
 
-pub alive_tells : (shards : ℕ) (a : List ℕ → Type 0) (xs : List Action) → Tells xs → (e : List ℕ) → a e → alive_after shards a xs e
-alive_tells shards a [] t e h = h
-alive_tells shards a (x ∷ xs) t e h = alive_tells shards (alive_then shards a x) xs t.1 e (alive_else x t.0 shards a e h)
+pub alive_tells : (division : DivisionModel) (a : List ℕ → Type 0) (xs : List Action) → Tells xs → (e : List ℕ) → a e → alive_after division a xs e
+alive_tells division a [] t e h = h
+alive_tells division a (x ∷ xs) t e h = alive_tells division (alive_then division a x) xs t.1 e (alive_else x t.0 division a e h)
 
 pub tells_both : (xs ys : List Action) → Tells xs → Tells ys → Tells (xs ++ ys)
 tells_both [] ys t u = u
@@ -109,19 +109,19 @@ pub record Adds (s : ShardingModel) (o : Outcome) : Type 0 where
   pub keeps : KeepsEntities s o
   pub stays : (e : List ℕ) → IsActive s e → IsActive o.0 e
 
-same_hosts : (s t : ShardingModel) → AreHosted s → length t.region.slots ≡ length s.region.slots → t.entities ≡ s.entities → ((shard : ℕ) → Hosts s shard → Hosts t shard) → AreHosted t
+same_hosts : (s t : ShardingModel) → AreHosted s → t.region.division ≡ s.region.division → t.entities ≡ s.entities → ((shard : ℕ) → Hosts s shard → Hosts t shard) → AreHosted t
 same_hosts s t all many same hosts entity active at =
     let h = all entity active (ap (λ m. finmap.get m entity) (sym same) ∙ at) in
-    (h.0 ∙ ap (shard_of entity) (sym many), hosts active.shard h.1)
+    (h.0 ∙ ap (λ d. shard_in d entity) (sym many), hosts active.shard h.1)
 
 -- entities and hosted shards stay, or more shards are hosted, and nothing is told of entities
-pub quiet : (s t : ShardingModel) (actions : List Action) → AreHosted s → length t.region.slots ≡ length s.region.slots → t.entities ≡ s.entities → ((shard : ℕ) → Hosts s shard → Hosts t shard) → Tells actions → Adds s (t, actions)
+pub quiet : (s t : ShardingModel) (actions : List Action) → AreHosted s → t.region.division ≡ s.region.division → t.entities ≡ s.entities → ((shard : ℕ) → Hosts s shard → Hosts t shard) → Tells actions → Adds s (t, actions)
 quiet s t actions all many same hosts tells = record {
   keeps = record {
     hosted = same_hosts s t all many same hosts;
-    many = many;
-    alive = λ e h. subst (λ m. is_some (finmap.get m e) ≡ true) (sym same) (tells_alive (length s.region.slots) (IsActive s) actions tells e h);
-    told = λ e h. alive_tells (length s.region.slots) (IsActive s) actions tells e (subst (λ m. is_some (finmap.get m e) ≡ true) same h);
+    divided = many;
+    alive = λ e h. subst (λ m. is_some (finmap.get m e) ≡ true) (sym same) (tells_alive s.region.division (IsActive s) actions tells e h);
+    told = λ e h. alive_tells s.region.division (IsActive s) actions tells e (subst (λ m. is_some (finmap.get m e) ≡ true) same h);
     started = λ e there. absurd (tells_starts actions tells e there);
   };
   stays = λ e h. subst (λ m. is_some (finmap.get m e) ≡ true) (sym same) h;
@@ -133,15 +133,15 @@ then_adds next s o a rest =
     record {
       keeps = record {
         hosted = b.keeps.hosted;
-        many = b.keeps.many ∙ a.keeps.many;
+        divided = b.keeps.divided ∙ a.keeps.divided;
         alive = λ e h.
-            let first = after_both (length s.region.slots) (IsActive s) o.1 (next o.0).1 e h in
-            let then_is = after_more (length s.region.slots) (alive_after (length s.region.slots) (IsActive s) o.1) (IsActive o.0) a.keeps.alive (next o.0).1 e first in
-            b.keeps.alive e (subst (λ k. alive_after k (IsActive o.0) (next o.0).1 e) (sym a.keeps.many) then_is);
+            let first = after_both s.region.division (IsActive s) o.1 (next o.0).1 e h in
+            let then_is = after_more s.region.division (alive_after s.region.division (IsActive s) o.1) (IsActive o.0) a.keeps.alive (next o.0).1 e first in
+            b.keeps.alive e (subst (λ k. alive_after k (IsActive o.0) (next o.0).1 e) (sym a.keeps.divided) then_is);
         told = λ e h.
-            let last = subst (λ k. alive_after k (IsActive o.0) (next o.0).1 e) a.keeps.many (b.keeps.told e h) in
-            let then_is = after_more (length s.region.slots) (IsActive o.0) (alive_after (length s.region.slots) (IsActive s) o.1) a.keeps.told (next o.0).1 e last in
-            both_after (length s.region.slots) (IsActive s) o.1 (next o.0).1 e then_is;
+            let last = subst (λ k. alive_after k (IsActive o.0) (next o.0).1 e) a.keeps.divided (b.keeps.told e h) in
+            let then_is = after_more s.region.division (IsActive o.0) (alive_after s.region.division (IsActive s) o.1) a.keeps.told (next o.0).1 e last in
+            both_after s.region.division (IsActive s) o.1 (next o.0).1 e then_is;
         started = λ e there. elim (contains_either o.1 (next o.0).1 _ there) [ inl one ↦ b.stays e (a.keeps.started e one) | inr two ↦ b.keeps.started e two ];
       };
       stays = λ e h. b.stays e (a.stays e h);
@@ -152,15 +152,15 @@ tell_around : (s : ShardingModel) (o : Outcome) (before after : List Action) →
 tell_around s o before after tb ta a = record {
   keeps = record {
     hosted = a.keeps.hosted;
-    many = a.keeps.many;
+    divided = a.keeps.divided;
     alive = λ e h.
-        let k = length s.region.slots in
+        let k = s.region.division in
         let x = after_both k (IsActive s) before (o.1 ++ after) e h in
         let y = after_more k (alive_after k (IsActive s) before) (IsActive s) (tells_alive k (IsActive s) before tb) (o.1 ++ after) e x in
         let z = after_both k (IsActive s) o.1 after e y in
         a.keeps.alive e (tells_alive k (alive_after k (IsActive s) o.1) after ta e z);
     told = λ e h.
-        let k = length s.region.slots in
+        let k = s.region.division in
         let z = alive_tells k (alive_after k (IsActive s) o.1) after ta e (a.keeps.told e h) in
         let y = both_after k (IsActive s) o.1 after e z in
         let x = after_more k (IsActive s) (alive_after k (IsActive s) before) (alive_tells k (IsActive s) before tb) (o.1 ++ after) e y in
@@ -224,13 +224,13 @@ module _ (s : ShardingModel) (all : AreHosted s) (entity : List ℕ) (payload : 
     where
       by_key : (b : Bool) → finmap.contains_key s.entities entity ≡ b → Adds s (t, delivery b entity payload)
       by_key true key = record {
-        keeps = record { hosted = hosted_then; many = refl; alive = stays_then; told = was_active key; started = λ e there. absurd (tells_starts (action.TheVariants.Deliver entity payload ∷ []) (refl, tt) e there) };
+        keeps = record { hosted = hosted_then; divided = refl; alive = stays_then; told = was_active key; started = λ e there. absurd (tells_starts (action.TheVariants.Deliver entity payload ∷ []) (refl, tt) e there) };
         stays = stays_then;
       }
       by_key false key = record {
         keeps = record {
           hosted = hosted_then;
-          many = refl;
+          divided = refl;
           alive = λ e h. elim h [ inl was ↦ stays_then e was | inr same ↦ subst (IsActive t) (sym same) (ap is_some is_own) ];
           told = was_then;
           started = λ e there. elim (first_or_rest (action.TheVariants.Entity entity) (action.TheVariants.Entity e) (action.TheVariants.Deliver entity payload ∷ []) there) [
@@ -266,13 +266,13 @@ each_adds me [] s all = nothing_adds s all
 each_adds me (message ∷ messages) s all = then_adds (routes_each me messages) s (routes me message s) (routes_adds me message s all) (λ then_all. each_adds me messages (routes me message s).0 then_all)
 
 -- from a state with the same entities, of which more shards may be hosted
-from_more : (s t : ShardingModel) (o : Outcome) → t.entities ≡ s.entities → length t.region.slots ≡ length s.region.slots → Adds t o → Adds s o
+from_more : (s t : ShardingModel) (o : Outcome) → t.entities ≡ s.entities → t.region.division ≡ s.region.division → Adds t o → Adds s o
 from_more s t o same many a = record {
   keeps = record {
     hosted = a.keeps.hosted;
-    many = a.keeps.many ∙ many;
-    alive = λ e h. a.keeps.alive e (subst (λ k. alive_after k (IsActive t) o.1 e) (sym many) (after_more (length s.region.slots) (IsActive s) (IsActive t) was o.1 e h));
-    told = λ e h. after_more (length s.region.slots) (IsActive t) (IsActive s) is_then o.1 e (subst (λ k. alive_after k (IsActive t) o.1 e) many (a.keeps.told e h));
+    divided = a.keeps.divided ∙ many;
+    alive = λ e h. a.keeps.alive e (subst (λ k. alive_after k (IsActive t) o.1 e) (sym many) (after_more s.region.division (IsActive s) (IsActive t) was o.1 e h));
+    told = λ e h. after_more s.region.division (IsActive t) (IsActive s) is_then o.1 e (subst (λ k. alive_after k (IsActive t) o.1 e) many (a.keeps.told e h));
     started = a.keeps.started;
   };
   stays = λ e h. a.stays e (was e h);
@@ -314,11 +314,11 @@ abbrev slotted : ShardingModel → ℕ → ShardSlot → ShardingModel
 slotted s shard slot = record s { region = with_slot s.region shard slot }
 
 slotted_all : (s : ShardingModel) (shard : ℕ) (slot : ShardSlot) → (is_some (slot_of s.region shard).hosted ≡ true → is_some slot.hosted ≡ true) → AreHosted s → AreHosted (slotted s shard slot)
-slotted_all s shard slot more all = same_hosts s (slotted s shard slot) all (length-set s.region.slots shard slot) refl (slot_hosts s shard slot more)
+slotted_all s shard slot more all = same_hosts s (slotted s shard slot) all refl refl (slot_hosts s shard slot more)
 
 slotted_flush : (me : UniqueModel) (s : ShardingModel) (shard : ℕ) (slot : ShardSlot) → (is_some (slot_of s.region shard).hosted ≡ true → is_some slot.hosted ≡ true) → AreHosted s → Adds s (flushes me shard (slotted s shard slot))
 slotted_flush me s shard slot more all =
-    from_more s (slotted s shard slot) (flushes me shard (slotted s shard slot)) refl (length-set s.region.slots shard slot) (flushes_adds me shard (slotted s shard slot) (slotted_all s shard slot more all))
+    from_more s (slotted s shard slot) (flushes me shard (slotted s shard slot)) refl refl (flushes_adds me shard (slotted s shard slot) (slotted_all s shard slot more all))
 
 pub on_home_adds : (around : Around) (b : BallotModel) (shard : ℕ) (owner : UniqueModel) (s : ShardingModel) → AreHosted s → Adds s (on_home around b shard owner s)
 on_home_adds around b shard owner s all =
@@ -333,9 +333,9 @@ obeys_adds around from b shard number New s all =
     (refl, tt) (tells_send around.me from (wire.TheVariants.ShardStarted b shard number))
     (slotted_flush around.me s shard (after_host around.me number New (slot_of s.region shard)) (λ h. refl) all)
 obeys_adds around from b shard number Again s all =
-    quiet s (hosted_by around.me shard number Again s) _ all (length-set s.region.slots shard (slot_of s.region shard)) refl (slot_hosts s shard (slot_of s.region shard) (λ h. h)) (tells_send around.me from (wire.TheVariants.ShardStarted b shard number))
+    quiet s (hosted_by around.me shard number Again s) _ all refl refl (slot_hosts s shard (slot_of s.region shard) (λ h. h)) (tells_send around.me from (wire.TheVariants.ShardStarted b shard number))
 obeys_adds around from b shard number Ignored s all =
-    quiet s (hosted_by around.me shard number Ignored s) [] all (length-set s.region.slots shard (slot_of s.region shard)) refl (slot_hosts s shard (slot_of s.region shard) (λ h. h)) tt
+    quiet s (hosted_by around.me shard number Ignored s) [] all refl refl (slot_hosts s shard (slot_of s.region shard) (λ h. h)) tt
 
 pub on_host_shard_adds : (around : Around) (from : UniqueModel) (b : BallotModel) (shard number : ℕ) (s : ShardingModel) → AreHosted s → Adds s (on_host_shard around from b shard number s)
 on_host_shard_adds around from b shard number s all =
@@ -347,7 +347,7 @@ on_host_shard_keeps around from b shard number s all = (on_host_shard_adds aroun
 pub on_begin_hand_off_adds : (around : Around) (from : UniqueModel) (b : BallotModel) (shard number : ℕ) (s : ShardingModel) → AreHosted s → Adds s (on_begin_hand_off around from b shard number s)
 on_begin_hand_off_adds around from b shard number s all =
     (if_both (has_shard shard s) (is_bound around b) s (holds around from b shard number s) all
-    (quiet s (slotted s shard (begun (slot_of s.region shard))) _ all (length-set s.region.slots shard (begun (slot_of s.region shard))) refl (slot_hosts s shard (begun (slot_of s.region shard)) (λ h. h)) (tells_send around.me from (wire.TheVariants.BeginHandOffAck b shard number))))
+    (quiet s (slotted s shard (begun (slot_of s.region shard))) _ all refl refl (slot_hosts s shard (begun (slot_of s.region shard)) (λ h. h)) (tells_send around.me from (wire.TheVariants.BeginHandOffAck b shard number))))
 
 pub on_begin_hand_off_keeps : (around : Around) (from : UniqueModel) (b : BallotModel) (shard number : ℕ) (s : ShardingModel) → AreHosted s → KeepsEntities s (on_begin_hand_off around from b shard number s)
 on_begin_hand_off_keeps around from b shard number s all = (on_begin_hand_off_adds around from b shard number s all).keeps
@@ -372,10 +372,10 @@ hands_off_keeps around from b shard number s all = by_given (gives_up number (sl
       hosted = λ entity active at.
           let k = (stopped_shard s.entities shard entity active).0 at in
           let h = all entity active k.0 in (
-            h.0 ∙ ap (shard_of entity) (sym (length-set s.region.slots shard (handed_off number (slot_of s.region shard)))),
+            h.0,
             ap (λ (x : ShardSlot). is_some x.hosted) (get_or-set_other s.region.slots shard active.shard (handed_off number (slot_of s.region shard)) untold k.1) ∙ h.1,
           );
-      many = length-set s.region.slots shard (handed_off number (slot_of s.region shard));
+      divided = refl;
       alive = λ e h. by_active (finmap.get s.entities e) e refl h.0 h.1;
       told = λ e h. by_rest (finmap.get (without_shard s.entities shard) e) e refl h;
       started = λ e there. absurd (tells_starts (to_process around.me from (wire.TheVariants.ShardStopped b shard number) ∷ []) (tells_send around.me from (wire.TheVariants.ShardStopped b shard number)) e (after_gone e there));
@@ -385,17 +385,17 @@ hands_off_keeps around from b shard number s all = by_given (gives_up number (sl
             → Contains (to_process around.me from (wire.TheVariants.ShardStopped b shard number) ∷ []) (action.TheVariants.Entity e)
         after_gone e there = elim (first_or_rest (action.TheVariants.Gone shard) (action.TheVariants.Entity e) (to_process around.me from (wire.TheVariants.ShardStopped b shard number) ∷ []) there) [ inl same ↦ absurd (true≢false (ap is_some (ap starts_of same))) | inr later ↦ later ]
 
-        by_active : (o : Option ActiveEntity) (e : List ℕ) → finmap.get s.entities e ≡ o → is_some (finmap.get s.entities e) ≡ true → shard_of e (length s.region.slots) ≢ shard → is_some (finmap.get (without_shard s.entities shard) e) ≡ true
+        by_active : (o : Option ActiveEntity) (e : List ℕ) → finmap.get s.entities e ≡ o → is_some (finmap.get s.entities e) ≡ true → shard_in s.region.division e ≢ shard → is_some (finmap.get (without_shard s.entities shard) e) ≡ true
         by_active None e none is apart = absurd (true≢false (sym is ∙ ap is_some none))
         by_active (Some active) e at is apart = ap is_some ((stopped_shard s.entities shard e active).1 (at, λ same. apart (sym (all e active at).0 ∙ same)))
 
-        by_rest : (o : Option ActiveEntity) (e : List ℕ) → finmap.get (without_shard s.entities shard) e ≡ o → is_some o ≡ true → (is_some (finmap.get s.entities e) ≡ true) × (shard_of e (length s.region.slots) ≢ shard)
+        by_rest : (o : Option ActiveEntity) (e : List ℕ) → finmap.get (without_shard s.entities shard) e ≡ o → is_some o ≡ true → (is_some (finmap.get s.entities e) ≡ true) × (shard_in s.region.division e ≢ shard)
         by_rest None e none is = absurd (true≢false (sym is))
         by_rest (Some active) e at is =
             let k = (stopped_shard s.entities shard e active).0 at in
             (ap is_some k.0, λ same. k.1 ((all e active k.0).0 ∙ same))
     by_given false stays =
-        (quiet s (slotted s shard (handed_off number (slot_of s.region shard))) (to_process around.me from (wire.TheVariants.ShardStopped b shard number) ∷ []) all (length-set s.region.slots shard (handed_off number (slot_of s.region shard))) refl
+        (quiet s (slotted s shard (handed_off number (slot_of s.region shard))) (to_process around.me from (wire.TheVariants.ShardStopped b shard number) ∷ []) all refl refl
         (slot_hosts s shard (handed_off number (slot_of s.region shard)) (λ h. ap (λ g. is_some (cond {A = Option ℕ} g None (slot_of s.region shard).hosted)) stays ∙ h))
         (tells_send around.me from (wire.TheVariants.ShardStopped b shard number))).keeps
 
@@ -424,14 +424,14 @@ asks_homes_keeps around s all = (asks_homes_adds around s all).keeps
 
 pub forgets_adds : (around : Around) (s : ShardingModel) → AreHosted s → Adds s (forgets around s)
 forgets_adds around s all =
-    (quiet s (record s { region = after_forget around.members s.region }) [] all (length-map s.region.slots (without_stranger around.members)) refl
+    (quiet s (record s { region = after_forget around.members s.region }) [] all refl refl
     (λ k h. ap (λ (x : ShardSlot). is_some x.hosted) (forgotten_slot around.members s.region.slots k) ∙ h) tt)
 
 pub forgets_keeps : (around : Around) (s : ShardingModel) → AreHosted s → KeepsEntities s (forgets around s)
 forgets_keeps around s all = (forgets_adds around s all).keeps
 
 -- ---- an entity ends only where its shard is told to be gone
-ends_stays : (g : Bool) (shard : ℕ) (s : ShardingModel) → AreHosted s → (k : ℕ) → k ≡ length s.region.slots → (slot : ShardSlot) → (e : List ℕ) → IsActive s e → (Contains ((ends_shard g shard (slotted s shard slot)).1) (action.TheVariants.Gone (shard_of e k)) → ⊥) → IsActive (ends_shard g shard (slotted s shard slot)).0 e
+ends_stays : (g : Bool) (shard : ℕ) (s : ShardingModel) → AreHosted s → (k : DivisionModel) → k ≡ s.region.division → (slot : ShardSlot) → (e : List ℕ) → IsActive s e → (Contains ((ends_shard g shard (slotted s shard slot)).1) (action.TheVariants.Gone (shard_in k e)) → ⊥) → IsActive (ends_shard g shard (slotted s shard slot)).0 e
 ends_stays false shard s all k many slot e active none = active
 ends_stays true shard s all k many slot e active none = by_active (finmap.get s.entities e) refl active
   where
@@ -440,19 +440,19 @@ ends_stays true shard s all k many slot e active none = by_active (finmap.get s.
     by_active (Some found) at is = ap is_some ((stopped_shard s.entities shard e found).1 (
       at,
       λ same.
-          none (subst (λ j. Contains (action.TheVariants.Gone shard ∷ []) (action.TheVariants.Gone j)) (sym same ∙ (all e found at).0 ∙ ap (shard_of e) (sym many)) (contains_first (action.TheVariants.Gone shard) [])),
+          none (subst (λ j. Contains (action.TheVariants.Gone shard ∷ []) (action.TheVariants.Gone j)) (sym same ∙ (all e found at).0 ∙ ap (λ d. shard_in d e) (sym many)) (contains_first (action.TheVariants.Gone shard) [])),
     ))
 
 pub on_hand_off_stays : (around : Around) (from : UniqueModel) (b : BallotModel) (shard number : ℕ) (s : ShardingModel) → AreHosted s → (e : List ℕ) → IsActive s e
-    → (Contains (on_hand_off around from b shard number s).1 (action.TheVariants.Gone (shard_of e (length s.region.slots))) → ⊥) → IsActive (on_hand_off around from b shard number s).0 e
+    → (Contains (on_hand_off around from b shard number s).1 (action.TheVariants.Gone (shard_in s.region.division e)) → ⊥) → IsActive (on_hand_off around from b shard number s).0 e
 on_hand_off_stays around from b shard number s all e active = by_tests (has_shard shard s) (is_bound around b)
   where
     told : List Action
     told = to_process around.me from (wire.TheVariants.ShardStopped b shard number) ∷ []
 
-    by_tests : (x y : Bool) → (Contains (cond (x && y) (hands_off around from b shard number s) (nothing s)).1 (action.TheVariants.Gone (shard_of e (length s.region.slots))) → ⊥) → IsActive (cond (x && y) (hands_off around from b shard number s) (nothing s)).0 e
+    by_tests : (x y : Bool) → (Contains (cond (x && y) (hands_off around from b shard number s) (nothing s)).1 (action.TheVariants.Gone (shard_in s.region.division e)) → ⊥) → IsActive (cond (x && y) (hands_off around from b shard number s) (nothing s)).0 e
     by_tests true true none =
-        ends_stays (gives_up number (slot_of s.region shard)) shard s all (length s.region.slots) refl (handed_off number (slot_of s.region shard)) e active
-        (λ there. none (contains_left (ends_shard (gives_up number (slot_of s.region shard)) shard (slotted s shard (handed_off number (slot_of s.region shard)))).1 (to_process around.me from (wire.TheVariants.ShardStopped b shard number) ∷ []) (action.TheVariants.Gone (shard_of e (length s.region.slots))) there))
+        ends_stays (gives_up number (slot_of s.region shard)) shard s all s.region.division refl (handed_off number (slot_of s.region shard)) e active
+        (λ there. none (contains_left (ends_shard (gives_up number (slot_of s.region shard)) shard (slotted s shard (handed_off number (slot_of s.region shard)))).1 (to_process around.me from (wire.TheVariants.ShardStopped b shard number) ∷ []) (action.TheVariants.Gone (shard_in s.region.division e)) there))
     by_tests true false none = active
     by_tests false y none = active

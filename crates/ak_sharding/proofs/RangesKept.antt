@@ -1,5 +1,5 @@
 -- Each rule of shards keeps the ranges, and what it sends has a spelling, where what it is told has one.
-use Rattle.std.proofs.Common.{◌≡◌, ℕ, zero, suc, ◌^◌, ◌<◌, ◌≤◌, max, Bool, true, false, cond, ◌&&◌, List, [], ◌∷◌, ◌++◌, length, map, slice_index_or, slice_set, Option, None, Some, refl, sym, ap, subst, arith, if◌then◌else◌}
+use Rattle.std.proofs.Common.{◌≡◌, ℕ, zero, suc, ◌^◌, ◌<◌, ◌≤◌, max, Bool, true, false, cond, ◌&&◌, List, [], ◌∷◌, ◌++◌, length, map, slice_index_or, slice_set, Option, None, Some, refl, sym, ap, subst, arith, if◌then◌else◌, ◌∙◌}
 use Rattle.std.proofs.lemmas.Bool.{ltb-true}
 use Rattle.std.specs.List.{filter}
 use Rattle.std.specs.Ordering.{is_eq}
@@ -67,7 +67,7 @@ slot_in : (region : RegionModel) → RegionInRange region → (shard : ℕ) → 
 slot_in region r shard = all_at SlotInRange region.slots shard untold r.slots (record { mark = omega arith; home = tt })
 
 with_in : (region : RegionModel) (shard : ℕ) (slot : ShardSlot) → RegionInRange region → SlotInRange slot → RegionInRange (with_slot region shard slot)
-with_in region shard slot r is = record { some = subst (λ n. 1 ≤ n) (sym (set_many region.slots shard slot)) r.some; few = subst (λ n. n ≤ 1000) (sym (set_many region.slots shard slot)) r.few; slots = all_set SlotInRange region.slots shard slot r.slots is; waiting = r.waiting }
+with_in region shard slot r is = record { each = r.each; all = set_many region.slots shard slot ∙ r.all; some = subst (λ n. 1 ≤ n) (sym (set_many region.slots shard slot)) r.some; few = subst (λ n. n ≤ 1000) (sym (set_many region.slots shard slot)) r.few; slots = all_set SlotInRange region.slots shard slot r.slots is; waiting = r.waiting }
 
 of_region : (s : ShardingModel) (region : RegionModel) → InRange s → RegionInRange region → InRange (record s { region = region })
 of_region s region k r = record { region = r; table = k.table }
@@ -114,7 +114,7 @@ routed_in : (me : UniqueModel) → IsUnique me → (message : Message) → Messa
 routed_in me is message m (offered.Delivered entity) a s k = (record { region = k.region; table = k.table }, delivery_in (finmap.contains_key s.entities message.entity) message.entity message.payload)
 routed_in me is message m (offered.Forwarded home entity) a s k = (k, (tt, (sent_to me home (wire.TheVariants.Forward message.entity message.payload) is a refl (m.entity, m.payload), tt)))
 routed_in me is message m offered.Buffered a s k =
-    (of_region s _ k (record { some = k.region.some; few = k.region.few; slots = k.region.slots; waiting = all_both MessageInRange s.region.messages (message ∷ []) k.region.waiting (m, tt) }), (tt, tt))
+    (of_region s _ k (record { each = k.region.each; all = k.region.all; some = k.region.some; few = k.region.few; slots = k.region.slots; waiting = all_both MessageInRange s.region.messages (message ∷ []) k.region.waiting (m, tt) }), (tt, tt))
 routed_in me is message m (offered.Dropped entity) a s k = (k, (tt, tt))
 
 routes_in : (me : UniqueModel) → IsUnique me → (message : Message) → MessageInRange message → (s : ShardingModel) → InRange s → GoesWell (routes me message s)
@@ -128,13 +128,13 @@ each_in me is (message ∷ messages) m s k =
     (p.0, all_both IsSentWell (routes me message s).1 (routes_each me messages (routes me message s).0).1 o.1 p.1)
 
 flushes_in : (me : UniqueModel) → IsUnique me → (shard : ℕ) (s : ShardingModel) → InRange s → GoesWell (flushes me shard s)
-flushes_in me is shard s k = each_in me is (flushed me shard s.region) (flushed_in (can_flush me (slot_of s.region shard))) (record s { region = after_flush me shard s.region }) (of_region s _ k (record { some = k.region.some; few = k.region.few; slots = k.region.slots; waiting = rest_in (can_flush me (slot_of s.region shard)) }))
+flushes_in me is shard s k = each_in me is (flushed me shard s.region) (flushed_in (can_flush me (slot_of s.region shard))) (record s { region = after_flush me shard s.region }) (of_region s _ k (record { each = k.region.each; all = k.region.all; some = k.region.some; few = k.region.few; slots = k.region.slots; waiting = rest_in (can_flush me (slot_of s.region shard)) }))
   where
-    flushed_in : (b : Bool) → AllOf MessageInRange (if b then those_for (length s.region.slots) shard s.region.messages else [])
+    flushed_in : (b : Bool) → AllOf MessageInRange (if b then those_for s.region.division shard s.region.messages else [])
     flushed_in true = all_filter MessageInRange _ s.region.messages k.region.waiting
     flushed_in false = tt
 
-    rest_in : (b : Bool) → AllOf MessageInRange (if b then others_than_for (length s.region.slots) shard s.region.messages else s.region.messages)
+    rest_in : (b : Bool) → AllOf MessageInRange (if b then others_than_for s.region.division shard s.region.messages else s.region.messages)
     rest_in true = all_filter MessageInRange _ s.region.messages k.region.waiting
     rest_in false = k.region.waiting
 
@@ -190,7 +190,7 @@ module _ (around : Around) (a : AroundInRange around) (s : ShardingModel) (k : I
   offer_in entity payload e_is p_is = routes_in around.me a.me (record { entity = entity; payload = payload }) (record { entity = e_is; payload = p_is }) s k
 
   pub forgets_in : GoesWell (forgets around s)
-  forgets_in = (of_region s _ k (record { some = subst (λ n. 1 ≤ n) (sym (map_many (without_stranger around.members) s.region.slots)) k.region.some; few = subst (λ n. n ≤ 1000) (sym (map_many (without_stranger around.members) s.region.slots)) k.region.few; slots = all_map SlotInRange SlotInRange (without_stranger around.members) each s.region.slots k.region.slots; waiting = k.region.waiting }), tt)
+  forgets_in = (of_region s _ k (record { each = k.region.each; all = map_many (without_stranger around.members) s.region.slots ∙ k.region.all; some = subst (λ n. 1 ≤ n) (sym (map_many (without_stranger around.members) s.region.slots)) k.region.some; few = subst (λ n. n ≤ 1000) (sym (map_many (without_stranger around.members) s.region.slots)) k.region.few; slots = all_map SlotInRange SlotInRange (without_stranger around.members) each s.region.slots k.region.slots; waiting = k.region.waiting }), tt)
     where
       each : (slot : ShardSlot) → SlotInRange slot → SlotInRange (without_stranger around.members slot)
       each slot is = record { mark = is.mark; home = by_home slot.home is.home }

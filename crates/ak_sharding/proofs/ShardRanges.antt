@@ -1,6 +1,5 @@
 -- All messages of shards, the homes that are asked for, and the table while the part in the singleton changes: the ranges are kept.
-use Rattle.std.proofs.Common.{◌≡◌, ℕ, zero, suc, ◌+◌, ◌==◌, ◌<◌, ◌≤◌, Bool, true, false, List, [], ◌∷◌, length, map, replicate, Contains, Option, None, Some, is_some, refl, sym, ap, subst, arith, true≢false, pos, if◌then◌else◌}
-use Rattle.std.proofs.lemmas.Int.{rem_below}
+use Rattle.std.proofs.Common.{◌≡◌, ℕ, zero, suc, ◌+◌, ◌==◌, ◌<◌, ◌≤◌, Bool, true, false, List, [], ◌∷◌, length, map, replicate, Contains, Option, None, Some, is_some, refl, sym, ap, subst, arith, true≢false, if◌then◌else◌}
 use Rattle.ak_address.specs.Unique.{UniqueModel, IsUnique}
 use Rattle.ak_address.proofs.Elements.{contains_first, contains_rest, in_map}
 use Rattle.ak_coordinator.specs.Table.{ShardTable}
@@ -13,8 +12,9 @@ use Rattle.ak_region.specs.Slot.{untold}
 use Rattle.ak_region.specs.RegionModel.{RegionModel, Message}
 use Rattle.ak_region.specs.Region.{entity_shard, wanted, report_of, reports_from, reports}
 use Rattle.ak_region.proofs.WantedLaws.{wanted_is}
-use Rattle.ak_settings.specs.Settings.{SettingsModel}
-use Rattle.ak_shard_id.specs.Shard.{shard_of, text_hash}
+use Rattle.ak_settings.specs.Settings.{SettingsModel, division_of, number_of_shards}
+use Rattle.ak_shard_id.specs.Division.{DivisionModel, many_shards}
+use Rattle.ak_shard_id.proofs.DivisionLaws.{some_shards, shard_within}
 use Rattle.ak_shard_id.specs.declared.report.Report.{Report}
 use Rattle.ak_singleton.specs.declared.phase.Phase.{Phase}
 use Rattle.ak_singleton.specs.declared.phase.Phase.TheVariants.{Younger, Asking, Active, Ended}
@@ -64,15 +64,13 @@ message_in around a s k from is (wire.TheVariants.Offer entity payload) body = o
 message_in around a s k from is other body = (k, tt)
 
 -- ---- the homes that are asked for
-pub shard_below : (entity : List ℕ) (shards : ℕ) → 1 ≤ shards → shard_of entity shards < shards
-shard_below entity shards some = rem_below (text_hash entity) (pos shards) (omega (arith, some))
-
 wanted_in : (region : RegionModel) → RegionInRange region → (shard : ℕ) → Contains (wanted region) shard → IsShard shard
 wanted_in region r shard there =
     let m = in_map (λ (message : Message). entity_shard region message.entity) region.messages shard ((wanted_is region shard).0 there).0 in
-    let below = shard_below m.0.entity (length region.slots) r.some in
+    let below = shard_within region.division m.0.entity r.each in
+    let all = r.all in
     let few = r.few in
-    subst IsShard (sym m.2) (omega (arith, below, few))
+    subst IsShard (sym m.2) (omega (arith, below, all, few))
 
 pub asks_homes_in : (around : Around) → AroundInRange around → (s : ShardingModel) → InRange s → GoesWell (asks_homes around s)
 asks_homes_in around a s k = (k, by_last around.singleton.promise.last a.last)
@@ -128,10 +126,20 @@ many_untold : (n : ℕ) → AllOf SlotInRange (replicate n untold) × (length (r
 many_untold zero = (tt, refl)
 many_untold (suc n) = let m = many_untold n in ((record { mark = omega arith; home = tt }, m.0), ap suc m.1)
 
-pub told_nothing_in : (shards most : ℕ) → 1 ≤ shards → shards ≤ 1000 → InRange (nothing_told shards most)
-told_nothing_in shards most some few =
-    let m = many_untold shards in
-    record { region = record { some = subst (λ n. 1 ≤ n) (sym m.1) some; few = subst (λ n. n ≤ 1000) (sym m.1) few; slots = m.0; waiting = tt }; table = tt }
+pub told_nothing_in : (division : DivisionModel) (most : ℕ) → 1 ≤ division.each → many_shards division ≤ 1000 → InRange (nothing_told division most)
+told_nothing_in division most some few =
+    let m = many_untold (many_shards division) in
+    record {
+      region = record {
+        each = some;
+        all = m.1;
+        some = subst (λ n. 1 ≤ n) (sym m.1) (some_shards division some);
+        few = subst (λ n. n ≤ 1000) (sym m.1) few;
+        slots = m.0;
+        waiting = tt;
+      };
+      table = tt;
+    }
 
-pub new_in : (settings : SettingsModel) → 1 ≤ settings.shards → settings.shards ≤ 1000 → InRange (new_sharding settings)
-new_in settings some few = told_nothing_in settings.shards settings.buffer some few
+pub new_in : (settings : SettingsModel) → 1 ≤ settings.shards → number_of_shards settings ≤ 1000 → InRange (new_sharding settings)
+new_in settings some few = told_nothing_in (division_of settings) settings.buffer some few

@@ -11,7 +11,8 @@ use Rattle.ak_region.specs.declared.region.Offered.{Offered}
 use Rattle.ak_region.specs.declared.region.Offered.TheVariants as offered
 use Rattle.ak_region.specs.RegionModel.{RegionModel, Message}
 use Rattle.ak_region.specs.Region.{new_region, entity_shard, route, after_offer, flushed, after_flush}
-use Rattle.ak_settings.specs.Settings.{SettingsModel}
+use Rattle.ak_settings.specs.Settings.{SettingsModel, division_of}
+use Rattle.ak_shard_id.specs.Division.{DivisionModel}
 use Rattle.ak_settled.specs.SettledView.{SettledView}
 use Rattle.ak_singleton.specs.Singleton.{SingletonModel}
 use Rattle.ak_wire.specs.declared.action.Action.{Action}
@@ -33,17 +34,17 @@ pub record Around : Type 0 where
   pub members : Standings
   pub singleton : SingletonModel
 
--- nothing was told of so many shards, and nothing waits, of so many messages that may
-abbrev pub nothing_told : ℕ → ℕ → ShardingModel
-nothing_told shards most = record { region = new_region shards most; entities = finmap.empty; table = None }
+-- nothing was told of the shards of a division, and nothing waits, of so many messages that may
+abbrev pub nothing_told : DivisionModel → ℕ → ShardingModel
+nothing_told division most = record { region = new_region division most; entities = finmap.empty; table = None }
 
 -- a process starts
 abbrev pub new_sharding : SettingsModel → ShardingModel
-new_sharding settings = nothing_told settings.shards settings.buffer
+new_sharding settings = nothing_told (division_of settings) settings.buffer
 
 -- a node that ran out of memory forgets everything
 abbrev pub forgotten : ShardingModel → ShardingModel
-forgotten s = nothing_told (length s.region.slots) s.region.most
+forgotten s = nothing_told s.region.division s.region.most
 
 -- what a rule makes of it, and what it does
 abbrev pub Outcome : Type 0

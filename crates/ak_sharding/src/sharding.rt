@@ -44,7 +44,7 @@ impl Sharding {
         ensures { IfOk result (λ sharding. sharding ≡ new_sharding settings.now) }
     {
         settings.invariant();
-        let region = Region::new(alloc, settings.shards, settings.buffer)?;
+        let region = Region::new(alloc, settings)?;
         Ok(Sharding {
             region,
             entities: Entities::empty(alloc),

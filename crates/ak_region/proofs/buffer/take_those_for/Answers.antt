@@ -9,7 +9,7 @@ use Rattle.ak_region.proofs.buffer.take_those_for.Goals as goal
 pub turns-preserved : goal.turns-preserved
 turns-preserved c =
     let d : Message = record { entity = []; payload = 0 } in
-    let n = c.args.shards in
+    let n = c.args.division.now in
     let s = c.args.shard in
     let xs = c.args.buffer.now.items in
     let i = c.turns.invariant in
@@ -24,4 +24,4 @@ pub returns-in_err-turn-clause-memory : goal.returns-in_err-turn-clause-memory
 returns-in_err-turn-clause-memory c =
     let d : Message = record { entity = []; payload = 0 } in
     let p = err_from_is_err_and c.from_residual.result c.from_residual.ensures.1 in
-    rw p.1 (those_gone c.args.shards c.args.shard c.turns._turn c.args.buffer.now.items c.turns.buffer.items d (omega arith) c.turns.invariant.left c.in_err-turn.ensures.memory)
+    rw p.1 (those_gone c.args.division.now c.args.shard c.turns._turn c.args.buffer.now.items c.turns.buffer.items d (omega arith) c.turns.invariant.left c.in_err-turn.ensures.memory)

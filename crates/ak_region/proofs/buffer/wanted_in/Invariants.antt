@@ -10,5 +10,5 @@ abbrev pub invariant-messages : goal.invariant-messages
 invariant-messages l = record {
   many : length l.passed.items ≡ length (all_slots l.shards l.told);
   passed : (shard : ℕ) → shard < length (all_slots l.shards l.told) → get_or l.passed.items shard false ≡ (receives (get_or (all_slots l.shards l.told) shard untold) || list_any (λ n. n == shard) l.wanted.items);
-  found : l.wanted.items ≡ wanted_among (all_slots l.shards l.told) (take l.index l.buffer.items);
+  found : l.wanted.items ≡ wanted_among l.division (all_slots l.shards l.told) (take l.index l.buffer.items);
 }
