@@ -20,7 +20,7 @@ use Rattle.ak_node.specs.declared.node.NodeEvent.{NodeEvent}
 use Rattle.ak_node.specs.declared.node.NodeEvent.TheVariants as event
 use Rattle.ak_node.specs.declared.node.State.{State}
 use Rattle.ak_node.specs.Node as node
-use Rattle.ak_node.specs.Node.{known, me_of, is_member, is_gone, nothing, and_then, does, does_for, unless_refused, update_by, leave, down, asks_at, asks_as, status_of, ends_phase, exits, gossips_to, shards_do, rest, may_leave, leaves, goes_on, ends, beats, ticked, on_message, is_asked, answers_ask, takes_grant, has_handed_over, answered, needed_others, answer, rule, if_so, closes, told_active, becomes_active, activates, forgets, concludes, settled_of, margin_of, is_dead, running_step, step}
+use Rattle.ak_node.specs.Node.{is_entity_at, known, me_of, is_member, is_gone, nothing, and_then, does, does_for, unless_refused, update_by, leave, down, asks_at, asks_as, status_of, ends_phase, exits, gossips_to, shards_do, rest, may_leave, leaves, goes_on, ends, beats, ticked, on_message, is_asked, answers_ask, takes_grant, has_handed_over, answered, needed_others, answer, rule, if_so, closes, told_active, becomes_active, activates, forgets, concludes, settled_of, margin_of, is_dead, running_step, step}
 use Rattle.ak_node.proofs.ChangeLemmas.{each_made, no_more}
 use Rattle.ak_node.proofs.StepChanges.{goes_quiet, of_tells, own_tells, step_is}
 use Rattle.ak_promise.specs.declared.promise.Answer.{Answer}
@@ -226,10 +226,10 @@ module _ (n : State) where
   being_told from (message.BeginHandOffAck b shard number) = shards_told from (message.BeginHandOffAck b shard number)
   being_told from (message.HandOff b shard number) = shards_told from (message.HandOff b shard number)
   being_told from (message.ShardStopped b shard number) = shards_told from (message.ShardStopped b shard number)
-  being_told from (message.Forward entity payload) = shards_told from (message.Forward entity payload)
+  being_told from (message.Forward entity payload) = does_if (is_entity_at entity n) (unchanged n.membership) (shards_told from (message.Forward entity payload)) idle
   being_told from (message.Leave who) = unless (does n) (membership.leave who n.membership) done
   being_told from (message.Down who) = unless (does n) (membership.down who n.membership) done
-  being_told from (message.Offer entity payload) = told_none _ refl (work_updates (me_of n) _ (offer_work (node.around n) entity payload n.sharding))
+  being_told from (message.Offer entity payload) = does_if (is_entity_at entity n) (unchanged n.membership) (told_none _ refl (work_updates (me_of n) _ (offer_work (node.around n) entity payload n.sharding))) idle
 
   joining : (target : AddressModel) → Does (node.join target n) (unchanged (membership.join target n.membership))
   joining target = by_member (is_member n)

@@ -7,9 +7,9 @@ use Rattle.ak_entity.specs.Active.{ActiveEntity}
 use Rattle.ak_entity.proofs.EntityLaws.{own_delivery}
 use Rattle.ak_node.specs.declared.node.State.{State}
 use Rattle.ak_node.specs.Node.{me_of}
-use Rattle.ak_settings.specs.Settings.{SettingsModel}
+use Rattle.ak_settings.specs.Settings.{SettingsModel, shard_by}
 use Rattle.ak_schedule.specs.declared.event.Event.{Event}
-use Rattle.ak_shard_id.specs.Shard.{shard_of}
+use Rattle.ak_shard_id.specs.Division.{shard_in}
 use Rattle.ak_sharding.specs.Alive.{IsActive, Hosts}
 use Rattle.ak_world.specs.declared.margin.Margin.TheVariants.{Kept}
 use Rattle.ak_world.specs.Margin.{IsMargin}
@@ -43,7 +43,7 @@ module _ (settings : SettingsModel) (events : List Event) (w : WorldState) (c : 
   then_too = ap (λ l. slice_get (run settings l).nodes index) whole ∙ at_end
 
   -- a running node that hosts the shard, and keeps the entity
-  hosts_there : (who : UniqueModel) (shard : ℕ) (entity : List ℕ) → me_of n ≡ who → IsTrue n.runs → Hosts n.sharding shard → shard_of entity settings.shards ≡ shard → IsActive n.sharding entity → IsHome settings events index who shard entity
+  hosts_there : (who : UniqueModel) (shard : ℕ) (entity : List ℕ) → me_of n ≡ who → IsTrue n.runs → Hosts n.sharding shard → shard_by settings entity ≡ shard → IsActive n.sharding entity → IsHome settings events index who shard entity
   hosts_there who shard entity is runs hosts of_shard active = record {
     node = n;
     at = at_end;
@@ -55,7 +55,7 @@ module _ (settings : SettingsModel) (events : List Event) (w : WorldState) (c : 
   }
 
   -- and one that does not host the shard, and so keeps no entity of it
-  hosts_none : (who : UniqueModel) (shard : ℕ) (entity : List ℕ) → me_of n ≡ who → IsTrue n.runs → ¬ Hosts n.sharding shard → shard_of entity settings.shards ≡ shard → IsNoHome settings events index who shard entity
+  hosts_none : (who : UniqueModel) (shard : ℕ) (entity : List ℕ) → me_of n ≡ who → IsTrue n.runs → ¬ Hosts n.sharding shard → shard_by settings entity ≡ shard → IsNoHome settings events index who shard entity
   hosts_none who shard entity is runs left of_shard = record {
     node = n;
     at = at_end;
@@ -77,7 +77,7 @@ module _ (settings : SettingsModel) (events : List Event) (w : WorldState) (c : 
       by_entity (Some a) is some =
           let well = all_well settings events index n at_end in
           let of_its_shard = well.0 entity a is in
-          subst (Hosts n.sharding) (of_its_shard.0 ∙ ap (shard_of entity) well.1 ∙ of_shard) of_its_shard.1
+          subst (Hosts n.sharding) (of_its_shard.0 ∙ ap (λ d. shard_in d entity) well.1 ∙ of_shard) of_its_shard.1
 
       not_kept : IsKept settings events index entity (run settings (take (length events) events)) → ⊥
       not_kept k =

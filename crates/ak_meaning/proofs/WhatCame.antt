@@ -11,13 +11,13 @@ use Rattle.ak_node.specs.declared.node.NodeEvent.{NodeEvent}
 use Rattle.ak_node.specs.declared.node.NodeEvent.TheVariants as event
 use Rattle.ak_node.specs.declared.node.State.{State}
 use Rattle.ak_node.specs.Node.{me_of, is_for, step}
-use Rattle.ak_settings.specs.Settings.{SettingsModel, is_listed}
+use Rattle.ak_settings.specs.Settings.{SettingsModel, is_listed, is_entity_in}
 use Rattle.ak_schedule.specs.declared.event.Event.{Event}
 use Rattle.ak_schedule.specs.declared.event.Event.TheVariants.{Start, Found, Join, Tick, Deliver, Leave, Down, Offer, Stop}
 use Rattle.ak_wire.specs.declared.envelope.Envelope.{Envelope}
 use Rattle.ak_world.specs.declared.world.Reason.{Reason}
 use Rattle.ak_world.specs.declared.world.Reason.TheVariants as reason
-use Rattle.ak_world.specs.World.{WorldState, Done, empty_world, stepped, gives, acts_at, acts, arrives, delivers, starts, packet_at, is_process, is_in_use, is_full, is_reached, node_of, receiver_of, most_starts, happens, after, run}
+use Rattle.ak_world.specs.World.{WorldState, Done, empty_world, stepped, gives, acts_at, acts, arrives, delivers, starts, packet_at, is_process, is_in_use, is_full, is_reached, node_of, receiver_of, most_starts, happens, after, run, unless_bad}
 use Rattle.ak_meaning.specs.Causes.{Gives}
 use Rattle.ak_world.proofs.WhatHappened.{position_passes}
 use Rattle.ak_world.proofs.WorldLemmas.{run-push}
@@ -64,6 +64,11 @@ module _ (settings : SettingsModel) (w : WorldState) (e : Event) where
   delivered (Some p) is = unless (is_full w) reason.TooManyPackets _ (λ room. arrived p (receiver_of p w) refl (is p refl))
   delivered None is = tt
 
+not_bad : (settings : SettingsModel) (w : WorldState) (e : Event) (b : Bool) (answer : Result Done Reason) → IsAnswer settings w e answer → IsAnswer settings w e (unless_bad b answer)
+not_bad settings w e true answer is = is
+not_bad settings w e false (Ok done) is = tt
+not_bad settings w e false (Err why) is = tt
+
 pub came : (settings : SettingsModel) (w : WorldState) (e : Event) → IsAnswer settings w e (happens settings e w)
 came settings w (Start u) =
     unless settings w (Start u) (not (is_listed settings.listed u.address)) reason.Unlisted _ (λ listed.
@@ -79,7 +84,7 @@ came settings w (Deliver number) = delivered settings w (Deliver number) (packet
 came settings w (Tick u word) = acted settings w (Tick u word) (event.Tick word) u (node_of u w) w.founded refl (λ me is. (is, refl))
 came settings w (Leave u who) = acted settings w (Leave u who) (event.Leave who) u (node_of u w) w.founded refl (λ me is. (is, refl))
 came settings w (Down u who) = acted settings w (Down u who) (event.Down who) u (node_of u w) w.founded refl (λ me is. (is, refl))
-came settings w (Offer u entity payload) = acted settings w (Offer u entity payload) (event.Offer entity payload) u (node_of u w) w.founded refl (λ me is. (is, refl))
+came settings w (Offer u entity payload) = not_bad settings w (Offer u entity payload) (is_entity_in settings entity) _ (acted settings w (Offer u entity payload) (event.Offer entity payload) u (node_of u w) w.founded refl (λ me is. (is, refl)))
 came settings w (Stop u) = acted settings w (Stop u) event.Stop u (node_of u w) w.founded refl (λ me is. (is, refl))
 
 -- ---- the first events of a run, one more

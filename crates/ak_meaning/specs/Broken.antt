@@ -8,7 +8,7 @@ use Rattle.ak_world.specs.Worked.{at_a, at_b, a_1, b_1}
 
 -- two listed addresses, a quorum of one, and a margin and a deadline of one tick
 abbrev pub two : SettingsModel
-two = record { listed = at_a ∷ at_b ∷ []; strategy = StaticQuorum 1; margin = 1; deadline = 1; stable = 9; shards = 10; buffer = 2; threshold = 1; limit = 1; weakly = 0; role = at_a ∷ at_b ∷ [] }
+two = record { listed = at_a ∷ at_b ∷ []; strategy = StaticQuorum 1; margin = 1; deadline = 1; stable = 9; shards = 10; buffer = 2; threshold = 1; limit = 1; weakly = 0; role = at_a ∷ at_b ∷ []; types = [] }
 
 -- a founds the cluster and comes Up; b joins it, and is downed by hand; it hears nothing of all this, and is found silent,
 -- removed, and its margin ends

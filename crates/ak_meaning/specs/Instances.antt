@@ -10,9 +10,8 @@ use Rattle.ak_member.specs.declared.status.Status.{Status}
 use Rattle.ak_member.specs.Standing.{tombstone_of}
 use Rattle.ak_node.specs.declared.node.State.{State}
 use Rattle.ak_node.specs.Node.{known, me_of}
-use Rattle.ak_settings.specs.Settings.{SettingsModel}
+use Rattle.ak_settings.specs.Settings.{SettingsModel, shard_by}
 use Rattle.ak_schedule.specs.declared.event.Event.{Event}
-use Rattle.ak_shard_id.specs.Shard.{shard_of}
 use Rattle.ak_sharding.specs.Alive.{Hosts}
 use Rattle.ak_world.specs.Double.{WasActive}
 use Rattle.ak_world.specs.InRun.{HasNoted}
@@ -58,7 +57,7 @@ pub record IsHome (settings : SettingsModel) (events : List Event) (index : ℕ)
   pub is_who : me_of node ≡ who
   pub runs : IsTrue node.runs
   pub hosts : Hosts node.sharding shard
-  pub is_of : shard_of entity settings.shards ≡ shard
+  pub is_of : shard_by settings entity ≡ shard
   pub active : WasActive settings events (length events) 0 index entity
 
 -- after these events it is a process that runs and does not host the shard, and the entity is not active there

@@ -8,7 +8,7 @@ use Rattle.ak_world.specs.Worked.{at_a, at_b, at_c, a_1, b_1, c_1}
 
 -- three listed addresses, a quorum of two, and three shards, of which one moves at a time
 abbrev pub spread : SettingsModel
-spread = record { listed = at_a ∷ at_b ∷ at_c ∷ []; strategy = StaticQuorum 2; margin = 2; deadline = 9; stable = 9; shards = 3; buffer = 3; threshold = 1; limit = 1; weakly = 0; role = at_a ∷ at_b ∷ at_c ∷ [] }
+spread = record { listed = at_a ∷ at_b ∷ at_c ∷ []; strategy = StaticQuorum 2; margin = 2; deadline = 9; stable = 9; shards = 3; buffer = 3; threshold = 1; limit = 1; weakly = 0; role = at_a ∷ at_b ∷ at_c ∷ []; types = [] }
 
 -- three entities, of shard 0, of shard 1 and of shard 2
 abbrev pub cart : List ℕ

@@ -14,7 +14,7 @@ use Rattle.ak_address.proofs.Elements.{any_there, any_found, map_in, contains_at
 use Rattle.ak_address.proofs.OrderLemmas.{address_total, address_exact}
 use Rattle.ak_address.proofs.TableLaws.{key_itself}
 use Rattle.ak_address.proofs.BoolLemmas.{not_false}
-use Rattle.ak_settings.specs.Settings.{is_listed}
+use Rattle.ak_settings.specs.Settings.{is_entity_in, is_listed}
 use Rattle.ak_schedule.specs.declared.event.Event.{Event}
 use Rattle.ak_schedule.specs.declared.event.Event.TheVariants.{Start, Found, Join, Tick, Deliver, Leave, Down, Offer, Stop}
 use Rattle.ak_wire.specs.declared.envelope.Envelope.{Envelope}
@@ -27,7 +27,7 @@ use Rattle.ak_generate.specs.Census.{MayHappen, MayStart, started_by, founded_by
 use Rattle.ak_world.specs.declared.world.Reason.{Reason}
 use Rattle.ak_world.specs.declared.world.Reason.TheVariants as reason
 use Rattle.ak_world.specs.Margin.{Runs}
-use Rattle.ak_world.specs.World.{WorldState, Done, stepped, gives, acts_at, acts, arrives, delivers, starts, packet_at, is_process, is_in_use, runs_at, is_full, node_of, receiver_of, is_reached, most_starts, happens}
+use Rattle.ak_world.specs.World.{WorldState, Done, stepped, gives, acts_at, acts, arrives, delivers, starts, packet_at, is_process, is_in_use, runs_at, is_full, node_of, receiver_of, is_reached, most_starts, unless_bad, happens}
 use Rattle.ak_world.proofs.WhatHappened.{position_passes}
 use Rattle.ak_world.proofs.WorldLemmas.{is_some-position, position-within}
 use Rattle.ak_sweeps.proofs.Censuses.{census_of, running_there, there_running, is_who_of, step_follows, nothing_follows, start_follows}
@@ -39,6 +39,11 @@ unless_ok false why r done is = (refl, is)
 
 abbrev ok : Done → Result Done Reason
 ok done = Ok done
+
+not_bad_ok : (b : Bool) (r : Result Done Reason) (done : Done) → unless_bad b r ≡ Ok done → r ≡ Ok done
+not_bad_ok true r done is = is
+not_bad_ok false (Ok d) done is = absurd (cc)
+not_bad_ok false (Err why) done is = absurd (cc)
 
 same_done : (one done : Done) (P : Done → Type 0) → ok one ≡ ok done → P one → P done
 same_done one done P is p = subst P (let e : one ≡ done = cc in e) p
@@ -98,7 +103,7 @@ happened_follows w (Tick u word) done is = acts_follows w (Tick u word) (λ us. 
 happened_follows w (Deliver number) done is = delivered_follows w number (packet_at w number) done is
 happened_follows w (Leave u who) done is = acts_follows w (Leave u who) (λ us. refl) (λ one never. never) (event.Leave who) u w.founded done refl refl is
 happened_follows w (Down u who) done is = acts_follows w (Down u who) (λ us. refl) (λ one never. never) (event.Down who) u w.founded done refl refl is
-happened_follows w (Offer u entity payload) done is = acts_follows w (Offer u entity payload) (λ us. refl) (λ one never. never) (event.Offer entity payload) u w.founded done refl refl is
+happened_follows w (Offer u entity payload) done is = acts_follows w (Offer u entity payload) (λ us. refl) (λ one never. never) (event.Offer entity payload) u w.founded done refl refl (not_bad_ok (is_entity_in fixed entity) _ done is)
 happened_follows w (Stop u) done is = acts_follows w (Stop u) (λ us. refl) (λ one never. never) event.Stop u w.founded done refl refl is
 
 -- where a process could start there not_false room for packets
@@ -123,6 +128,7 @@ IsFullAtMost (Err reason.NodeStopped) = ⊥
 IsFullAtMost (Err (reason.NoPacket sent)) = ⊥
 IsFullAtMost (Err reason.TooManyPackets) = Unit {0}
 IsFullAtMost (Err reason.TooManyStarts) = ⊥
+IsFullAtMost (Err reason.BadEntity) = ⊥
 
 pub full_is : (why : Reason) → IsFullAtMost (Err why) → why ≡ reason.TooManyPackets
 full_is reason.Unlisted never = absurd never
@@ -134,6 +140,7 @@ full_is reason.NodeStopped never = absurd never
 full_is (reason.NoPacket sent) never = absurd never
 full_is reason.TooManyPackets h = refl
 full_is reason.TooManyStarts never = absurd never
+full_is reason.BadEntity never = absurd never
 
 unless_not : (b : Bool) (why : Reason) (r : Result Done Reason) → b ≡ false → IsFullAtMost r → IsFullAtMost (if b then Err why else r)
 unless_not true why r never h = absurd (true≢false never)
@@ -241,5 +248,7 @@ module _ (w : WorldState) (apart : AreApart w) where
   event_answer (Deliver number) may = deliver_answer number may.0 may.1
   event_answer (Leave u who) may = acts_answer (event.Leave who) u w.founded (running_there w.nodes u may)
   event_answer (Down u who) may = acts_answer (event.Down who) u w.founded (running_there w.nodes u may)
-  event_answer (Offer u entity payload) may = acts_answer (event.Offer entity payload) u w.founded (running_there w.nodes u may)
+  event_answer (Offer u entity payload) may =
+      let acts_so = acts (event.Offer entity payload) (node_of u w) w in
+      subst (λ (b : Bool). IsFullAtMost (unless_bad b acts_so)) (sym may.1) (acts_answer (event.Offer entity payload) u w.founded (running_there w.nodes u may.0))
   event_answer (Stop u) may = acts_answer event.Stop u w.founded (running_there w.nodes u may)

@@ -3,9 +3,9 @@
 use Rattle.std.proofs.Common.{◌≡◌, ◌≢◌, ◌⊎◌, inl, inr, ℕ, zero, suc, ◌+◌, ◌<◌, ◌≤◌, List, [], ◌∷◌, ◌++◌, take, Some, None, is_some, Result, Ok, Err, slice_get, IsTrue, refl, sym, ap, ◌∙◌, subst, arith, true≢false}
 use Rattle.std.proofs.lemmas.Option.{same_Some}
 use Rattle.ak_address.specs.Unique.{UniqueModel}
-use Rattle.ak_settings.specs.Settings.{SettingsModel}
+use Rattle.ak_settings.specs.Settings.{SettingsModel, division_of, shard_by}
 use Rattle.ak_schedule.specs.declared.event.Event.{Event}
-use Rattle.ak_shard_id.specs.Shard.{shard_of}
+use Rattle.ak_shard_id.specs.Division.{shard_in}
 use Rattle.ak_sharding.specs.Alive.{IsActive}
 use Rattle.ak_sharding.proofs.AliveByActions.{EndsAt, IsAlive, nothing_ends}
 use Rattle.ak_sharding.proofs.NewEntities.{new_inactive}
@@ -41,7 +41,7 @@ module _ (settings : SettingsModel) (events : List Event) (i : ℕ) (x : List �
   Kept w = IsKept settings events i x w
 
   abbrev shard : ℕ
-  shard = shard_of x settings.shards
+  shard = shard_by settings x
 
   -- ---- one step
   -- from this place of a step on the entity does not end at the node
@@ -67,11 +67,11 @@ module _ (settings : SettingsModel) (events : List Event) (i : ℕ) (x : List �
   begun_back w u n at active =
       push_at (λ j (m : State). IsActive m.sharding x → slice_get w.nodes j ≡ Some m) w.nodes (started u settings) (λ j m is here. is) (λ here. absurd (new_inactive settings x here)) i n at active
 
-  alive_back : (w : WorldState) (index : ℕ) (n : State) (d : Done) → slice_get w.nodes index ≡ Some n → IsTrue n.runs → i ≡ index → d.node ≡ Some index → IsAlive settings.shards (IsActive n.sharding) d.actions x → WasKept w d
+  alive_back : (w : WorldState) (index : ℕ) (n : State) (d : Done) → slice_get w.nodes index ≡ Some n → IsTrue n.runs → i ≡ index → d.node ≡ Some index → IsAlive (division_of settings) (IsActive n.sharding) d.actions x → WasKept w d
   alive_back w index n d at runs here acted (inl was) = inl ((n, ap (slice_get w.nodes) here ∙ at, runs, was.0), λ place le by ends. was.1 place le ends)
   alive_back w index n d at runs here acted (inr s) = inr (record { place = s.place; acted = acted ∙ ap (λ (j : ℕ). Some j) (sym here); at = s.at; goes_on = λ place le by ends. s.goes_on place le ends })
 
-  kept_back : (w : WorldState) → ((index : ℕ) (n : State) → slice_get w.nodes index ≡ Some n → IsWell settings.shards n) → (done : Done) → Happened settings w done → Kept done.world → WasKept w done
+  kept_back : (w : WorldState) → ((index : ℕ) (n : State) → slice_get w.nodes index ≡ Some n → IsWell (division_of settings) n) → (done : Done) → Happened settings w done → Kept done.world → WasKept w done
   kept_back w all done h k = elim h as (λ d _. Kept d.world → WasKept w d) [
     | begins u unknown free listed few ↦ λ k. inl ((k.0, begun_back w u k.0 k.1 k.3, k.2, k.3), λ place le acted ends. nothing_in place ends)
     | steps e index n founded at runs was_sent ↦ λ k.
@@ -79,7 +79,7 @@ module _ (settings : SettingsModel) (events : List Event) (i : ℕ) (x : List �
           | inl here ↦
               let well = all index n at in
               let told = step_told x e n runs well.0 (subst (λ (m : State). IsTrue m.runs) here.1 k.2) (subst (λ (m : State). IsActive m.sharding x) here.1 k.3) in
-              alive_back w index n _ at runs here.0 refl (subst (λ shards. IsAlive shards (IsActive n.sharding) (step e n).1 x) well.1 told)
+              alive_back w index n _ at runs here.0 refl (subst (λ division. IsAlive division (IsActive n.sharding) (step e n).1 x) well.1 told)
           | inr there ↦ inl ((k.0, there.1, k.2, k.3), λ place le acted ends. there.0 (same_Some i index (sym acted)))
         ]
     | nobody ↦ λ k. inl (k, λ place le acted ends. nothing_in place ends)

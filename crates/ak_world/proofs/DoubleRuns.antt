@@ -2,10 +2,10 @@
 use Rattle.std.proofs.Common.{◌≡◌, ◌⊎◌, inl, inr, ℕ, zero, suc, ◌+◌, ◌<◌, ◌≤◌, List, [], ◌∷◌, ◌++◌, take, Some, None, Result, Ok, Err, slice_get, slice_set, Contains, IsTrue, add-one, refl, sym, ap, ◌∙◌, subst, arith}
 use Rattle.std.proofs.lemmas.Option.{same_Some}
 use Rattle.ak_address.proofs.Elements.{contains_nothing, contains_at, index_of}
-use Rattle.ak_settings.specs.Settings.{SettingsModel}
+use Rattle.ak_settings.specs.Settings.{SettingsModel, division_of, shard_by}
 use Rattle.ak_schedule.specs.declared.event.Event.{Event}
 use Rattle.ak_sharding.specs.Alive.{IsActive}
-use Rattle.ak_shard_id.specs.Shard.{shard_of}
+use Rattle.ak_shard_id.specs.Division.{shard_in}
 use Rattle.ak_wire.specs.declared.action.Action.{Action}
 use Rattle.ak_wire.specs.declared.action.Action.TheVariants as action
 use Rattle.ak_node.specs.declared.node.State.{State}
@@ -93,14 +93,14 @@ module _ (settings : SettingsModel) (events : List Event) (i : ℕ) (x : List �
   done_kept time e done s goes k =
       let w : WorldState = at_time time in
       subst IsKept (sym (world_then settings events time e done s))
-      (elim (what_happened settings events time e done s) as (λ d _. (d.node ≡ Some i → Contains d.actions (action.Gone (shard_of x settings.shards)) → ⊥) → (d.node ≡ Some i → Contains d.actions action.Stopped → ⊥) → IsKept d.world) [
+      (elim (what_happened settings events time e done s) as (λ d _. (d.node ≡ Some i → Contains d.actions (action.Gone (shard_by settings x)) → ⊥) → (d.node ≡ Some i → Contains d.actions action.Stopped → ⊥) → IsKept d.world) [
         | begins u unknown free listed few ↦ λ gone stopped. (k.0, prefix_at w.nodes (started u settings ∷ []) i k.0 k.1, k.2, k.3)
         | steps ev index n founded at runs was_sent ↦ λ gone stopped. elim (set_elsewhere w.nodes index i (step ev n).0 k.0 k.1) [
           | inl same ↦
               let acted : Some index ≡ Some i = ap (λ (j : ℕ). Some j) (sym same) in
               let is : k.0 ≡ n = same_Some k.0 n (sym k.1 ∙ ap (λ j. slice_get w.nodes j) same ∙ at) in
               let well = all_well settings (take time events) index n at in
-              let alive = step_alive x ev n runs (λ there. gone acted (subst (λ m. Contains (step ev n).1 (action.Gone (shard_of x m))) well.1 there)) (well.0, subst (λ (m : State). IsActive m.sharding x) is k.3) in
+              let alive = step_alive x ev n runs (λ there. gone acted (subst (λ m. Contains (step ev n).1 (action.Gone (shard_in m x))) well.1 there)) (well.0, subst (λ (m : State). IsActive m.sharding x) is k.3) in
               ((step ev n).0, ap (λ j. slice_get (slice_set w.nodes index (step ev n).0) j) same ∙ set_here w.nodes index n (step ev n).0 at, step_runs ev n runs (stopped acted), alive.1)
           | inr there ↦ (k.0, there, k.2, k.3)
         ]

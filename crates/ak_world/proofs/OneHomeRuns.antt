@@ -21,7 +21,9 @@ use Rattle.ak_world.specs.declared.world.Reason.{Reason}
 use Rattle.ak_world.proofs.IndexLemmas.{push_at, set_at}
 use Rattle.ak_world.proofs.WhatHappened.{begins, steps, nobody, IsAnswer, happened}
 use Rattle.ak_region.specs.Marks.{marks_of}
-use Rattle.ak_settings.specs.Settings.{SettingsModel}
+use Rattle.ak_settings.specs.Settings.{SettingsModel, division_of, shard_by}
+use Rattle.ak_shard_id.specs.Division.{shard_in}
+use Rattle.ak_region.specs.Region.{entity_shard}
 use Rattle.ak_schedule.specs.declared.event.Event.{Event}
 use Rattle.ak_sharding.specs.Alive.{IsActive, Hosts}
 use Rattle.ak_sharding.proofs.NewEntities.{new_hosted}
@@ -41,23 +43,19 @@ use Rattle.ak_world.proofs.Addressed.{uids_first}
 use Rattle.ak_world.proofs.Mirrored as mirrors
 use Rattle.ak_world.proofs.Mirrored.{IsMirrored}
 
--- ---- each node of a run keeps entities of hosted shards alone, and has a slot for each shard
-many_untold : (n : ℕ) → length (replicate n untold) ≡ n
-many_untold zero = refl
-many_untold (suc n) = ap suc (many_untold n)
-
+-- ---- each node of a run keeps entities of hosted shards alone, and divides entities as its settings do
 module _ (settings : SettingsModel) where
   abbrev AllWell : WorldState → Type 0
-  AllWell w = (index : ℕ) (n : State) → slice_get w.nodes index ≡ Some n → IsWell settings.shards n
+  AllWell w = (index : ℕ) (n : State) → slice_get w.nodes index ≡ Some n → IsWell (division_of settings) n
 
-  new_well : (u : UniqueModel) → IsWell settings.shards (started u settings)
-  new_well u = (new_hosted settings, many_untold settings.shards)
+  new_well : (u : UniqueModel) → IsWell (division_of settings) (started u settings)
+  new_well u = (new_hosted settings, refl)
 
   happened_well : (w : WorldState) → AllWell w → (r : Result Done Reason) → IsAnswer settings w r → AllWell (after w r)
   happened_well w all (Err why) is = all
   happened_well w all (Ok done) is = elim is as (λ d h. AllWell d.world) [
-    | begins u unknown free listed few ↦ push_at (λ j m. IsWell settings.shards m) w.nodes (started u settings) all (new_well u)
-    | steps ev index n founded at runs was_sent ↦ set_at (λ j m. IsWell settings.shards m) w.nodes index (step ev n).0 (λ j m is apart. all j m is) (step_well settings.shards ev n (all index n at))
+    | begins u unknown free listed few ↦ push_at (λ j m. IsWell (division_of settings) m) w.nodes (started u settings) all (new_well u)
+    | steps ev index n founded at runs was_sent ↦ set_at (λ j m. IsWell (division_of settings) m) w.nodes index (step ev n).0 (λ j m is apart. all j m is) (step_well (division_of settings) ev n (all index n at))
     | nobody ↦ all
   ]
 
@@ -67,6 +65,10 @@ module _ (settings : SettingsModel) where
 
   pub all_well : (events : List Event) → AllWell (run settings events)
   all_well events = run_well events empty_world (λ index n at. absurd (cc))
+
+  -- an entity has the same shard at each node of a run
+  pub one_shard : (events : List Event) (index : ℕ) (n : State) (entity : List ℕ) → slice_get (run settings events).nodes index ≡ Some n → entity_shard n.sharding.region entity ≡ shard_by settings entity
+  one_shard events index n entity at = ap (λ d. shard_in d entity) (all_well events index n at).1
 
 -- ---- each node of a run that asks or is active has a table
 module _ (settings : SettingsModel) where

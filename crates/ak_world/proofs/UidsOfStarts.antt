@@ -1,9 +1,9 @@
 -- Where each process that a schedule starts has a number, each process of the run has one.
-use Rattle.std.proofs.Common.{◌≡◌, ℕ, ◌+◌, ◌≤◌, leb, Bool, true, false, not, List, [], ◌∷◌, ◌++◌, length, Option, Some, None, Result, Err, slice_get, Contains, if◌then◌else◌, refl, sym, ap, subst}
+use Rattle.std.proofs.Common.{Ok, ◌≡◌, ℕ, ◌+◌, ◌≤◌, leb, Bool, true, false, not, List, [], ◌∷◌, ◌++◌, length, Option, Some, None, Result, Err, slice_get, Contains, if◌then◌else◌, refl, sym, ap, subst}
 use Rattle.std.specs.List.{list_any}
 use Rattle.ak_address.specs.Unique.{UniqueModel}
 use Rattle.ak_address.proofs.Elements.{contains_first, contains_rest}
-use Rattle.ak_settings.specs.Settings.{SettingsModel, is_listed}
+use Rattle.ak_settings.specs.Settings.{SettingsModel, is_listed, is_entity_in}
 use Rattle.ak_schedule.specs.declared.event.Event.{Event}
 use Rattle.ak_schedule.specs.declared.event.Event.TheVariants.{Start, Found, Join, Tick, Deliver, Leave, Down, Offer, Stop}
 use Rattle.ak_wire.specs.declared.envelope.Envelope.{Envelope}
@@ -15,7 +15,7 @@ use Rattle.ak_node.proofs.StepChanges.{step_changes}
 use Rattle.ak_world.specs.declared.world.Reason.{Reason}
 use Rattle.ak_world.specs.declared.world.Reason.TheVariants as reason
 use Rattle.ak_world.specs.Uids.{HaveUids}
-use Rattle.ak_world.specs.World.{WorldState, Done, empty_world, gives, acts_at, acts, arrives, delivers, starts, packet_at, is_process, is_in_use, is_full, node_of, receiver_of, most_starts, happens, after, run_from, run}
+use Rattle.ak_world.specs.World.{WorldState, Done, empty_world, gives, acts_at, acts, arrives, delivers, starts, packet_at, is_process, is_in_use, is_full, node_of, receiver_of, most_starts, happens, after, run_from, run, unless_bad}
 use Rattle.ak_world.proofs.IndexLemmas.{set_at, push_at}
 use Rattle.ak_world.proofs.WorldLemmas.{run-push}
 
@@ -55,6 +55,11 @@ module _ (settings : SettingsModel) where
     delivers_after (Some p) = unless_after (is_full w) reason.TooManyPackets _ (arrives_after p (receiver_of p w))
     delivers_after None = all
 
+    not_bad : (b : Bool) (answer : Result Done Reason) → After answer → After (unless_bad b answer)
+    not_bad true answer is = is
+    not_bad false (Ok done) is = all
+    not_bad false (Err why) is = all
+
     happens_after : (e : Event) → ((u : UniqueModel) → e ≡ Start u → 1 ≤ u.uid) → After (happens settings e w)
     happens_after (Start u) is =
         unless_after (not (is_listed settings.listed u.address)) reason.Unlisted _
@@ -69,7 +74,7 @@ module _ (settings : SettingsModel) where
     happens_after (Tick u word) is = acts_after (event.Tick word) (node_of u w) w.founded
     happens_after (Leave u who) is = acts_after (event.Leave who) (node_of u w) w.founded
     happens_after (Down u who) is = acts_after (event.Down who) (node_of u w) w.founded
-    happens_after (Offer u entity payload) is = acts_after (event.Offer entity payload) (node_of u w) w.founded
+    happens_after (Offer u entity payload) is = not_bad (is_entity_in settings entity) _ (acts_after (event.Offer entity payload) (node_of u w) w.founded)
     happens_after (Stop u) is = acts_after event.Stop (node_of u w) w.founded
 
   uids_from : (events : List Event) (w : WorldState) → HaveUids w → ((u : UniqueModel) → Contains events (Start u) → 1 ≤ u.uid) → HaveUids (run_from settings w events)

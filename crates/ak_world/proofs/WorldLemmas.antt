@@ -9,9 +9,9 @@ use Rattle.std.proofs.lemmas.List.{take_more, map-set}
 use Rattle.std.proofs.lemmas.List.Sums.{prefix_len-le-length}
 use Rattle.std.specs.List.{list_any, prefix_len, position_or_len}
 use Rattle.ak_address.specs.Unique.{AddressModel, UniqueModel}
-use Rattle.ak_settings.specs.Settings.{SettingsModel, is_listed}
+use Rattle.ak_settings.specs.Settings.{SettingsModel, is_entity_in, is_listed}
 use Rattle.ak_schedule.specs.declared.event.Event.{Event}
-use Rattle.ak_schedule.specs.declared.event.Event.TheVariants.{Start, Join}
+use Rattle.ak_schedule.specs.declared.event.Event.TheVariants.{Start, Join, Offer}
 use Rattle.ak_history.specs.declared.entry.Entry.{Entry}
 use Rattle.ak_member.specs.declared.effect.Effect.{Effect}
 use Rattle.ak_wire.specs.declared.envelope.Envelope.{Envelope}
@@ -28,7 +28,7 @@ use Rattle.ak_history.specs.History.{entries_of}
 use Rattle.ak_node.specs.Node.{me_of, started, step}
 use Rattle.ak_node.proofs.StepChanges.{step_changes}
 use Rattle.ak_node.specs.NodeContracts.{NodeModel}
-use Rattle.ak_world.specs.World.{WorldState, Done, recorded, with_update, gives, acts_at, acts, arrives, delivers, starts, stepped, is_process, runs_at, is_in_use, is_full, is_reached, happens, after, run_from, run, empty_world, node_of, receiver_of, packet_at}
+use Rattle.ak_world.specs.World.{WorldState, Done, recorded, with_update, gives, acts_at, acts, arrives, delivers, starts, stepped, is_process, runs_at, is_in_use, is_full, is_reached, unless_bad, happens, after, run_from, run, empty_world, node_of, receiver_of, packet_at}
 use Rattle.ak_address.proofs.Elements.{contains_first, contains_rest}
 use Rattle.ak_wire.specs.Wire.{sent, effects_of, envelope_of, put}
 use Rattle.ak_wire.proofs.Sending.{sent-append}
@@ -354,6 +354,16 @@ start-answer settings u w l a b f c pl pa pb pf pc =
 pub join-answer : (settings : SettingsModel) (u : UniqueModel) (target : AddressModel) (w : WorldState) (l : Bool) → is_listed settings.listed target ≡ l
     → happens settings (Join u target) w ≡ (if not l then Err reason.TheVariants.Unlisted else acts (event.TheVariants.Join target) (node_of u w) w)
 join-answer settings u target w l pl = ap (λ (x : Bool). if not x then Err reason.TheVariants.Unlisted else acts (event.TheVariants.Join target) (node_of u w) w) pl
+
+-- an offer of an entity, and of a text that is none
+pub offer-answer : (settings : SettingsModel) (u : UniqueModel) (entity : List ℕ) (payload : ℕ) (w : WorldState) → is_entity_in settings entity ≡ true
+    → happens settings (Offer u entity payload) w ≡ acts (event.TheVariants.Offer entity payload) (node_of u w) w
+offer-answer settings u entity payload w is = ap (λ (b : Bool). unless_bad b (acts (event.TheVariants.Offer entity payload) (node_of u w) w)) is
+
+pub bad-answer : (settings : SettingsModel) (u : UniqueModel) (entity : List ℕ) (payload : ℕ) (w : WorldState) → is_entity_in settings entity ≡ false
+    → IsAccepted (acts (event.TheVariants.Offer entity payload) (node_of u w) w) → happens settings (Offer u entity payload) w ≡ Err reason.TheVariants.BadEntity
+bad-answer settings u entity payload w is accepted =
+    ap (λ (b : Bool). unless_bad b (acts (event.TheVariants.Offer entity payload) (node_of u w) w)) is ∙ ap (unless_bad false) accepted.1
 
 -- the answer to an event of a process, by its tests
 abbrev act_by : NodeEvent → ℕ → Option State → WorldState → Bool → Bool → Result Done reason.Reason

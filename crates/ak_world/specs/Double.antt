@@ -3,9 +3,8 @@
 use Rattle.std.specs.Prelude.{◌≡◌, ◌≢◌, ◌⊎◌, ℕ, ◌+◌, ◌<◌, ◌≤◌, List, Option, None, Some, slice_get, take}
 use Rattle.std.specs.declared.cmp.Ordering.TheVariants.{Greater}
 use Rattle.ak_address.specs.Unique.{unique_cmp}
-use Rattle.ak_settings.specs.Settings.{SettingsModel}
+use Rattle.ak_settings.specs.Settings.{SettingsModel, shard_by}
 use Rattle.ak_schedule.specs.declared.event.Event.{Event}
-use Rattle.ak_shard_id.specs.Shard.{shard_of}
 use Rattle.ak_wire.specs.declared.action.Action.{Action}
 use Rattle.ak_wire.specs.declared.action.Action.TheVariants as action
 use Rattle.ak_node.specs.declared.node.State.{State}
@@ -25,7 +24,7 @@ abbrev pub Starts : SettingsModel → List Event → ℕ → ℕ → ℕ → Lis
 Starts settings events time place node entity = Acts settings events time place node (action.Entity entity)
 
 abbrev pub Ends : SettingsModel → List Event → ℕ → ℕ → ℕ → List ℕ → Type 0
-Ends settings events time place node entity = Acts settings events time place node (action.Gone (shard_of entity settings.shards)) ⊎ Acts settings events time place node action.Stopped
+Ends settings events time place node entity = Acts settings events time place node (action.Gone (shard_by settings entity)) ⊎ Acts settings events time place node action.Stopped
 
 -- one action comes before another
 abbrev pub IsBefore : ℕ → ℕ → ℕ → ℕ → Type 0

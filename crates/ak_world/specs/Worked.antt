@@ -26,7 +26,7 @@ abbrev pub c_1 : UniqueModel
 c_1 = record { address = at_c; uid = 1 }
 
 abbrev pub limited : List AddressModel → ℕ → SettingsModel
-limited listed quorum = record { listed = listed; strategy = StaticQuorum quorum; margin = 2; deadline = 9; stable = 9; shards = 10; buffer = 2; threshold = 1; limit = 1; weakly = 0; role = listed }
+limited listed quorum = record { listed = listed; strategy = StaticQuorum quorum; margin = 2; deadline = 9; stable = 9; shards = 10; buffer = 2; threshold = 1; limit = 1; weakly = 0; role = listed; types = [] }
 
 -- ---- one listed address
 abbrev pub alone : SettingsModel

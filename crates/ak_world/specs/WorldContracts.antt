@@ -22,7 +22,8 @@ use Rattle.ak_world.specs.Uids.{HaveUids}
 use Rattle.ak_wire.specs.declared.action.Action.{Action}
 use Rattle.ak_wire.specs.Wire.{sent}
 use Rattle.ak_wire.specs.declared.envelope.Envelope.{Envelope}
-use Rattle.ak_wire.specs.Datagram.{Spells}
+use Rattle.ak_field.specs.Spelling.{format}
+use Rattle.ak_wire.specs.Datagram.{SpellsIn}
 
 -- a world with its settings and the events that it accepted, in their order; a spent one has run out of memory
 pub record WorldModel : Type 0 where
@@ -89,6 +90,10 @@ abbrev pub Acts : UniqueModel → WorldState → Result ℕ Reason → Type 0
 Acts who w (Ok index) = (index < length w.nodes) × ((e : NodeEvent) → acts e (node_of who w) w ≡ gives e index (slice_get w.nodes index) w)
 Acts who w (Err why) = (e : NodeEvent) → acts e (node_of who w) w ≡ Err why
 
+-- each node has the settings of the world
+abbrev pub HaveSettings : SettingsModel → WorldState → Type 0
+HaveSettings settings w = (index : ℕ) (n : State) → slice_get w.nodes index ≡ Some n → n.membership.settings ≡ settings
+
 -- few nodes were started, each one once, and each was given few events; and at one address at most one runs
 pub record IsReady (w : WorldState) : Type 0 where
   pub few_nodes : length w.nodes ≤ 64
@@ -129,8 +134,8 @@ Applies event old (Err (refused.TheVariants.NoMemory _)) new = Spends event old 
 abbrev pub doubled_of : Double → Doubled
 doubled_of d = record { entity = d.entity; active = d.first; started = d.second; step = d.step }
 
--- what is true of what a world keeps: it is the run of its events, unless it is spent, and then it is empty; the marks are the margin and the first double
--- of its events; and each process that was started has a uid from 1 on, as the type of a process says
+-- what is true of what a world keeps: it is the run of its events, unless it is spent, and then it is empty; the marks are the
+-- margin and the first double of its events; and each process that was started has a uid from 1 on, as the type of a process says
 pub record IsWorld (settings : SettingsModel) (w : WorldState) (events : List Event) (margin : Margin) (double : Option Doubled) (spent : Bool) : Type 0 where
   pub is_run : spent ≡ false → w ≡ run settings events
   pub is_empty : spent ≡ true → w ≡ empty_world
@@ -138,8 +143,8 @@ pub record IsWorld (settings : SettingsModel) (w : WorldState) (events : List Ev
   pub is_double : IsFirstDouble settings events double
   pub uids : HaveUids (run settings events)
 
--- The bytes of a packet are there exactly where the packet is, and spell it.
+-- The bytes of a packet are there exactly where the packet is, and spell it in the version of the format that is written.
 abbrev pub AreSpelled : Option Envelope → Option (List ℕ) → Type 0
 AreSpelled None None = ⊤
-AreSpelled (Some e) (Some bytes) = Spells bytes e
+AreSpelled (Some e) (Some bytes) = SpellsIn format bytes e
 AreSpelled packet bytes = ⊥

@@ -5,7 +5,8 @@ ghost use Rattle.ak_clock.specs.Version.{Counts, count, Covers};
 ghost use Rattle.ak_member.specs.declared.effect.Effect.{Effect};
 ghost use Rattle.ak_wire.specs.declared.action.Action.TheVariants.{Update, MarginEnd};
 ghost use Rattle.ak_settings.specs.declared.settings.Strategy.TheVariants.{StaticQuorum};
-ghost use Rattle.ak_settings.specs.Settings.{SettingsModel, IsSettings, settling_size};
+ghost use Rattle.ak_settings.specs.Settings.{SettingsModel, IsSettings, settling_size, shard_by};
+ghost use Rattle.ak_region.specs.Region.{entity_shard};
 ghost use Rattle.ak_schedule.specs.declared.event.Event.{Event};
 ghost use Rattle.ak_node.specs.declared.node.State.{State};
 ghost use Rattle.ak_node.specs.Node.{known, me_of, settled_of, margin_of};
@@ -252,4 +253,10 @@ pub fn an_entity_is_at_one_node()
 pub fn each_run_has_one_first_double()
     ensures some { (settings : SettingsModel) (events : List Event) → (double : Option Doubled) × IsFirstDouble settings events double }
     ensures one { (settings : SettingsModel) (events : List Event) (one other : Option Doubled) → IsFirstDouble settings events one → IsFirstDouble settings events other → one ≡ other }
+{}
+
+/// After any events, an entity has the same shard at each node: that which the settings of the run give it.
+pub fn an_entity_has_one_shard()
+    ensures { (settings : SettingsModel) (events : List Event) (index : ℕ) (n : State) (entity : List ℕ) → slice_get (run settings events).nodes index ≡ Some n
+        → entity_shard n.sharding.region entity ≡ shard_by settings entity }
 {}

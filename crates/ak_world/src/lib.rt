@@ -13,9 +13,9 @@ mod world;
 pub use double::Double;
 pub use laws::{
     a_node_can_become_active, a_run_gives_a_line, a_shard_has_one_home, active_ones_tell_it,
-    an_activity_can_pass_to_another_node, an_entity_is_at_one_node, at_most_one_node_is_active,
-    confirmed_means_stopped, each_run_has_one_first_double, each_run_has_one_margin,
-    equal_versions_have_equal_members, later_versions_cover_earlier_ones,
+    an_activity_can_pass_to_another_node, an_entity_has_one_shard, an_entity_is_at_one_node,
+    at_most_one_node_is_active, confirmed_means_stopped, each_run_has_one_first_double,
+    each_run_has_one_margin, equal_versions_have_equal_members, later_versions_cover_earlier_ones,
     margins_break_where_members_run, more_than_half_of_the_listed_is_more_than_half_of_the_role,
     no_entity_starts_twice, nodes_count_their_own_updates, noted_views_show_who_has_aged,
     one_process_runs_at_an_address, running_nodes_serve, settled_versions_are_in_line,

@@ -18,13 +18,13 @@ ghost use Rattle.ak_settled.specs.SettledView.{NotedView};
 ghost use Rattle.ak_node.specs.declared.node.State.{State};
 ghost use Rattle.ak_world.specs.InRun.{WasStarted, HasStopped, AllServe, RunAlone, IsConfirmed, IsNamedIn, IsSettled, HasNoted};
 ghost use Rattle.ak_world.specs.SettledLine.{WasSettled, IsOverHalf, AreInLine};
-ghost use Rattle.ak_settings.specs.Settings.{settling_size};
+ghost use Rattle.ak_settings.specs.Settings.{SettingsModel, settling_size};
 ghost use Rattle.ak_node.specs.Node as rules_of_nodes;
-ghost use Rattle.ak_node.specs.Sends.{AreValid, ComesValid};
+ghost use Rattle.ak_node.specs.Sends.{AreValid, ComesValid, IsOffered};
 ghost use Rattle.ak_world.specs.Double.{IsFirstDouble};
 ghost use Rattle.ak_world.specs.Homes.{HasOneHome};
 ghost use Rattle.ak_world.specs.Places.{AreAtOneNode};
-ghost use Rattle.ak_world.specs.WorldContracts.{AreSpelled, Applies, Scenes, IsNoMemory, IsReady, Acts, Keeps, state_of, doubled_of};
+ghost use Rattle.ak_world.specs.WorldContracts.{AreSpelled, Applies, Scenes, IsNoMemory, IsReady, HaveSettings, Acts, Keeps, state_of, doubled_of};
 ghost use Rattle.ak_world.specs.DoubleMark.{NextDouble};
 ghost use Rattle.ak_world.specs.Stored.{AreToldApart, LeavesToldApart, different};
 
@@ -66,6 +66,8 @@ pub enum Reason {
     TooManyPackets,
     /// As many processes were started as may be: 64.
     TooManyStarts,
+    /// The text that is offered is no entity in the settings of the world.
+    BadEntity,
 }
 
 /// Why a world did not apply an event.
@@ -251,6 +253,7 @@ impl Scene {
         payload: u64,
     ) -> Result<Step, Refused>
         requires ready { IsReady (state_of self.old) }
+        requires same { HaveSettings self.old.settings (state_of self.old) }
         requires apart { LeavesToldApart (rules.happens self.old.settings (Event.Offer who.now entity.now payload) (state_of self.old)) }
         ensures arrived { IfOk result (λ step. step.arrived ≡ None) }
         ensures settings { self.new.settings ≡ self.old.settings }
@@ -260,6 +263,9 @@ impl Scene {
             Ok(index) => index,
             Err(why) => return Err(Refused::Invalid(why)),
         };
+        if !self.settings.entity_ok(entity.name().bytes()) {
+            return Err(Refused::Invalid(Reason::BadEntity));
+        }
         let entity = entity.copy(alloc)?;
         self.give(alloc, index, &NodeEvent::Offer(entity, payload))
     }
@@ -324,6 +330,7 @@ impl Scene {
         requires ready { IsReady (state_of self.old) }
         requires apart { LeavesToldApart (rules.acts event.now (rules.node_of who.now (state_of self.old)) (state_of self.old)) }
         requires comes { ComesValid event.now }
+        requires offered { (settings : SettingsModel) → IsOffered settings event.now }
         ensures arrived { IfOk result (λ step. step.arrived ≡ None) }
         ensures settings { self.new.settings ≡ self.old.settings }
         ensures scenes { Scenes (state_of self.old) (rules.acts event.now (rules.node_of who.now (state_of self.old)) (state_of self.old)) result (state_of self.new) }
@@ -340,6 +347,7 @@ impl Scene {
         requires apart { LeavesToldApart (rules.gives event.now index (slice_get (state_of self.old).nodes index) (state_of self.old)) }
         requires index { index < length self.old.nodes.items }
         requires comes { ComesValid event.now }
+        requires offered { (n : State) → slice_get (state_of self.old).nodes index ≡ Some n → IsOffered n.membership.settings event.now }
         ensures arrived { IfOk result (λ step. step.arrived ≡ None) }
         ensures settings { self.new.settings ≡ self.old.settings }
         ensures scenes { Scenes (state_of self.old) (rules.gives event.now index (slice_get (state_of self.old).nodes index) (state_of self.old)) result (state_of self.new) }
@@ -387,6 +395,7 @@ impl Scene {
     #[inline(always)]
     fn happens(&mut self, alloc: Global, event: &Event) -> Result<Step, Refused>
         requires ready { IsReady (state_of self.old) }
+        requires same { HaveSettings self.old.settings (state_of self.old) }
         requires apart { LeavesToldApart (rules.happens self.old.settings event.now (state_of self.old)) }
         ensures arrived { IfOk result (λ step. step.arrived ≡ rules.arrived_in event.now (state_of self.new)) }
         ensures settings { self.new.settings ≡ self.old.settings }
@@ -601,6 +610,13 @@ impl World {
         self.accepted.clear();
         self.marks = Marks::none();
         self.failed = None;
+    }
+
+    /// Its settings.
+    pub fn settings(&self) -> &Settings
+        ensures { result.now ≡ self.now.settings }
+    {
+        &self.scene.settings
     }
 
     /// Applies one event, or says why it is refused: the first reason of `Reason` that applies, whether or not memory

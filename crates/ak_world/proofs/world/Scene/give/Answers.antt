@@ -34,3 +34,7 @@ keep-requires-clause-apart c =
     apart_given (state_of c.args.self.now) c.args.index c.args.event.now c.index_mut.result.now.state c.in_ok-actions.actions
     (state-at c.args.self.now.nodes.items c.args.index c.index_mut.result.now c.requires.index c.index_mut.ensures.value)
     c.in_ok-actions.ensures.ok.actions_done c.requires.apart
+
+pub step_on-requires-clause-offered : goal.step_on-requires-clause-offered
+step_on-requires-clause-offered c =
+    c.requires.offered c.index_mut.result.now.state (state-at c.args.self.now.nodes.items c.args.index c.index_mut.result.now c.requires.index c.index_mut.ensures.value)

@@ -4,7 +4,7 @@ use Rattle.std.proofs.lemmas.Grind.{common_steps}
 use Rattle.ak_schedule.specs.declared.event.Event.{Event}
 use Rattle.ak_settings.specs.Settings.{SettingsModel}
 use Rattle.ak_world.specs.World.{WorldState, run}
-use Rattle.ak_world.specs.WorldContracts.{WorldModel, IsReady, state_of, doubled_of}
+use Rattle.ak_world.specs.WorldContracts.{WorldModel, IsReady, HaveSettings, state_of, doubled_of}
 use Rattle.ak_world.proofs.FoldRuns.{folds-of_run, views_at_times}
 use Rattle.ak_world.proofs.SeenHeld.{seen-of_run}
 use Rattle.ak_world.proofs.MadeFrom.{closed-of_run}
@@ -21,6 +21,7 @@ use Rattle.ak_world.proofs.DoubleMarks.{went_double}
 use Rattle.ak_world.proofs.DoubleRuns.{no_double-of_run}
 use Rattle.ak_world.proofs.UidsOfStarts.{next_uids}
 use Rattle.ak_world.proofs.AlikeRuns.{apart_next}
+use Rattle.ak_world.proofs.WaitedRuns.{run_settings}
 use Rattle.ak_world.proofs.WorldLemmas.{few_run, length-states, run-went, at-ok}
 use Rattle.ak_world.proofs.SeekLemmas.{ready_run}
 use Rattle.ak_world.proofs.world.World.apply.Goals as goal
@@ -32,6 +33,7 @@ happens-requires c =
     let is_run = c.self.invariant.is_run (ap is_some c.in_default.is) in
     record {
       ready = subst IsReady (sym is_run) (ready_run c.self.inside.scene.settings c.self.inside.accepted few);
+      same = subst (HaveSettings c.self.inside.scene.settings) (sym is_run) (run_settings c.self.inside.scene.settings c.self.inside.accepted);
       apart = apart_next c.self.inside.scene.settings c.self.inside.accepted (state_of c.self.inside.scene) c.args.event.now is_run;
     }
 
