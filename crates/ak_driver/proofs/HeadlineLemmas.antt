@@ -54,6 +54,7 @@ margin_set header.TheVariants.Limit ws old new least s = subst (λ (x : Settings
 margin_kept : (which : extra.Extra) (ws : List (List ℕ)) (old new : SettingsModel) → SetsExtra which ws old new → new.margin ≡ old.margin
 margin_kept extra.TheVariants.Weakly ws old new s = ap (λ (x : SettingsModel). x.margin) s.2
 margin_kept extra.TheVariants.Role ws old new s = ap (λ (x : SettingsModel). x.margin) s.2
+margin_kept extra.TheVariants.Types ws old new s = ap (λ (x : SettingsModel). x.margin) s.2
 
 -- ---- of a replay
 record Sound (p : Progress) : Type 0 where

@@ -1,9 +1,9 @@
 -- What one line does to a replay, from what its calls answer.
 use Rattle.std.proofs.Common.{◌≡◌, ℕ, ◌+◌, ◌<◌, ◌≤◌, Bool, true, false, List, [], ◌∷◌, ◌++◌, if◌then◌else◌, Result, Ok, Err, length, refl, sym, ap, subst, ◌∙◌, arith, append-nil, length-append, inl, inr}
-use Rattle.ak_schedule.specs.declared.draft.Extra.TheVariants.{Role}
+use Rattle.ak_schedule.specs.declared.draft.Extra.TheVariants.{Role, Types}
 use Rattle.ak_schedule.specs.Draft.{Drafted, ReadsExtra, ReadsHeader}
 use Rattle.ak_schedule.specs.Line.{words, most_bytes, IsPassedOver}
-use Rattle.ak_schedule.specs.Schedule.{NamesExtra, extras}
+use Rattle.ak_schedule.specs.Schedule.{NamesExtra, NamesList, extras}
 use Rattle.ak_schedule.proofs.OneWay.{begins_extra}
 use Rattle.ak_schedule.proofs.PassedOver.{no_event}
 use Rattle.ak_driver.specs.declared.replay.Code.TheVariants.{Malformed, BadHeader, PastLimit, Invalid}
@@ -72,6 +72,11 @@ heading_turn line before after old new n (inl h) few same =
 heading_turn line before after old new n (inr (wanted, inl h)) few same = ([], header_turn line old new n wanted h.0 h.1 few, same ∙ sym (append-nil before))
 heading_turn line before after old new n (inr (wanted, inr h)) few same = ([], extra_turn line old new n wanted h.0 h.1 few, same ∙ sym (append-nil before))
 
+-- what lists addresses or names begins with the word of an optional header
+names_list : (ws : List (List ℕ)) → NamesList ws → NamesExtra ws
+names_list ws (rest, inl is) = (Role, rest, is)
+names_list ws (rest, inr is) = (Types, rest, is)
+
 -- a line that is no header, or none that may come
 heading_refused : (e : Stop) (line before after : List ℕ) (old new : Drafted) (q : Progress) (n : ℕ) → HeadingAnswers (Err e) line old new → length line ≤ most_bytes
     → n ≤ most_lines → after ≡ before → TurnAnswers (Err e) line (progress (Heading old) n) q before after
@@ -97,7 +102,7 @@ heading_refused (Refused BadHeader) line before after old new q n (kept, wanted,
 heading_refused NoMemory line before after old new q n (kept, wanted, inl first) short few same =
     (inl (record { in_limit = few; not_passed = wanted; heading = omega (arith, first) }, first), same)
 heading_refused NoMemory line before after old new q n (kept, wanted, inr h) short few same =
-    (inr (inl (record { in_limit = few; not_passed = wanted; running = omega (arith, h.0); none_yet = refl; short = short; named = (Role, h.1.0, h.1.1) }, h.1)), same)
+    (inr (inl (record { in_limit = few; not_passed = wanted; running = omega (arith, h.0); none_yet = refl; short = short; named = names_list (words line) h.1 }, h.1)), same)
 
 -- ---- a line in the world
 -- the progress of a replay that has reached this world, by its next line and the first optional header that may still come

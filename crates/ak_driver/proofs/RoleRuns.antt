@@ -50,6 +50,7 @@ header_role header.Limit ws old new k (n, spells, is) = elim k [ inl has ↦ sub
 extra_role : (which : Extra) (ws : List (List ℕ)) (old new : SettingsModel) → HasRole old → SetsExtra which ws old new → HasRole new
 extra_role extra.Weakly ws old new has (n, spells, is) = subst HasRole (sym is) has
 extra_role extra.Role ws old new has (role, spells, is) = subst HasRole (sym is) spells.3
+extra_role extra.Types ws old new has (types, spells, is) = subst HasRole (sym is) has
 
 -- ---- a whole replay
 -- no header is read, or some have the role

@@ -4,7 +4,7 @@ use Rattle.std.specs.List.{concat}
 use Rattle.ak_settings.specs.Settings.{SettingsModel}
 use Rattle.ak_schedule.specs.Draft.{Drafted, ReadsExtra, ReadsHeader}
 use Rattle.ak_schedule.specs.Line.{words, most_bytes, IsPassedOver}
-use Rattle.ak_schedule.specs.Schedule.{SpellsEvent, NamesExtra, NamesRole, extras}
+use Rattle.ak_schedule.specs.Schedule.{SpellsEvent, NamesExtra, NamesList, extras}
 use Rattle.ak_schedule.specs.declared.event.Event.{Event}
 use Rattle.ak_schedule.specs.declared.fault.LineFault.{LineFault}
 use Rattle.ak_schedule.specs.declared.fault.LineFault as fault
@@ -88,17 +88,17 @@ IsNoHeading line old =
 abbrev pub IsAfterHeadings : List ℕ → Drafted → Drafted → Type 0
 IsAfterHeadings line old new = (old.read ≡ header_count) × (new ≡ old) × (NamesExtra (words line) → ⊥)
 
--- addresses are held while the line is read: it is for the first header, or begins with the word of a role
-abbrev pub HoldsAddresses : List ℕ → Drafted → Type 0
-HoldsAddresses line old = (old.read ≡ 0) ⊎ ((old.read ≡ header_count) × NamesRole (words line))
+-- addresses or names are held while the line is read: it is for the first header, or begins with the word of a role or of types
+abbrev pub HoldsList : List ℕ → Drafted → Type 0
+HoldsList line old = (old.read ≡ 0) ⊎ ((old.read ≡ header_count) × NamesList (words line))
 
--- what is read of a line while headers are; memory runs out where addresses are held alone
+-- what is read of a line while headers are; memory runs out where addresses or names are held alone
 abbrev pub HeaderLineAnswers : Result Bool LineFault → List ℕ → Drafted → Drafted → Type 0
 HeaderLineAnswers (Ok true) line old new = IsHeading line old new
 HeaderLineAnswers (Ok false) line old new = IsAfterHeadings line old new
 HeaderLineAnswers (Err fault.TheVariants.Malformed) line old new = ⊥
 HeaderLineAnswers (Err fault.TheVariants.BadHeader) line old new = (new ≡ old) × IsNoHeading line old
-HeaderLineAnswers (Err (fault.TheVariants.NoMemory _)) line old new = (new ≡ old) × HoldsAddresses line old
+HeaderLineAnswers (Err (fault.TheVariants.NoMemory _)) line old new = (new ≡ old) × HoldsList line old
 
 -- what one line does while headers are read: it is passed over, or it is a header; or it is for the world
 abbrev pub HeadingAnswers : Result Bool Stop → List ℕ → Drafted → Drafted → Type 0
@@ -108,7 +108,7 @@ HeadingAnswers (Err (Refused BadHeader)) line old new = (new ≡ old) × (IsPass
 HeadingAnswers (Err (Refused Malformed)) line old new = ⊥
 HeadingAnswers (Err (Refused PastLimit)) line old new = ⊥
 HeadingAnswers (Err (Refused (Invalid why))) line old new = ⊥
-HeadingAnswers (Err NoMemory) line old new = (new ≡ old) × (IsPassedOver line → ⊥) × HoldsAddresses line old
+HeadingAnswers (Err NoMemory) line old new = (new ≡ old) × (IsPassedOver line → ⊥) × HoldsList line old
 
 -- the line spells an event that the world accepts, and its step is printed
 pub record Runs (line : List ℕ) (number : ℕ) (old new : WorldModel) (before after : List ℕ) : Type 0 where
@@ -145,11 +145,11 @@ pub record Turns (p : Progress) (line : List ℕ) (q : Progress) (text : List �
   pub next : q ≡ (turn p judgement).0
   pub text_is : text ≡ concat (turn p judgement).1
 
--- memory runs out within the limits alone: where the first header or a role is wanted, which hold addresses, or at a line that
--- spells an event
+-- memory runs out within the limits alone: where the first header, a role or types are wanted, which hold addresses or names, or at
+-- a line that spells an event
 abbrev pub MayRunOut : Progress → List ℕ → Type 0
 MayRunOut p line =
-    (WantsHeader p line × (p.headers ≡ 0)) ⊎ ((WantsExtra p line × NamesRole (words line)) ⊎ (WantsEvent p line × HasRoom p × (event : Event) × SpellsEvent line event))
+    (WantsHeader p line × (p.headers ≡ 0)) ⊎ ((WantsExtra p line × NamesList (words line)) ⊎ (WantsEvent p line × HasRoom p × (event : Event) × SpellsEvent line event))
 
 -- what one line does: it is accepted and its text is printed, or refused and nothing is printed, or memory runs out
 abbrev pub TurnAnswers : Result (Unit {0}) Stop → List ℕ → Progress → Progress → List ℕ → List ℕ → Type 0

@@ -8,7 +8,7 @@ use Rattle.ak_schedule.specs.Schedule.{SpellsEvent, NamesExtra, extras}
 use Rattle.ak_schedule.specs.Draft.{first_draft, ReadsHeader, ReadsExtra}
 use Rattle.ak_schedule.specs.declared.event.Event.{Event}
 use Rattle.ak_world.specs.declared.world.Reason.{Reason}
-use Rattle.ak_world.specs.declared.world.Reason.TheVariants.{Unlisted, UniqueUsed, AddressInUse, SecondFound, UnknownNode, NodeStopped, NoPacket, TooManyPackets, TooManyStarts}
+use Rattle.ak_world.specs.declared.world.Reason.TheVariants.{Unlisted, UniqueUsed, AddressInUse, SecondFound, UnknownNode, NodeStopped, NoPacket, TooManyPackets, TooManyStarts, BadEntity}
 use Rattle.ak_driver.specs.declared.replay.Code.{Code}
 use Rattle.ak_driver.specs.declared.replay.Code.TheVariants.{Malformed, BadHeader, PastLimit, Invalid}
 use Rattle.ak_world.specs.declared.margin.Margin.{Margin}
@@ -53,6 +53,7 @@ reason_text NodeStopped = codes "S8"
 reason_text (NoPacket sent) = codes "S9"
 reason_text TooManyPackets = codes "S10"
 reason_text TooManyStarts = codes "S11"
+reason_text BadEntity = codes "S14"
 
 abbrev pub code_text : Code → List ℕ
 code_text Malformed = codes "S1"

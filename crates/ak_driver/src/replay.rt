@@ -14,7 +14,7 @@ ghost use Rattle.ak_driver.specs.StatusContracts.{ReplayCause};
 ghost use Rattle.ak_outside.specs.declared.status.Status.TheVariants.{Schedule, Memory};
 
 use crate::explain::explain;
-use ak_address::print_number;
+use ak_address::{Text, print_number};
 use ak_notes::{NoNotes, Notes, warn_of_quorum};
 use ak_outside::{LineReader, Next, Sink, Source, Status, out_of_memory, write_all, written};
 use ak_report::print_bytes;
@@ -75,6 +75,7 @@ fn reason_text(why: Reason) -> &'static [u8]
         Reason::NoPacket { sent: _ } => b"S9",
         Reason::TooManyPackets => b"S10",
         Reason::TooManyStarts => b"S11",
+        Reason::BadEntity => b"S14",
     }
 }
 
@@ -236,6 +237,14 @@ impl Replay {
         }
     }
 
+    // The types that were read, once there is a world.
+    fn types(&self) -> &[Text] {
+        match &self.stage {
+            Stage::Heading(_) => &[],
+            Stage::Running(world) => &world.settings().types,
+        }
+    }
+
     // After the last line: the summary is written, or a header is missing.
     fn ends<W: Sink, N: Notes>(
         &mut self,
@@ -252,7 +261,7 @@ impl Replay {
         self.open(alloc, notes);
         let end = self.finish(alloc, out);
         if let Err(stop) = &end {
-            explain(alloc, stop, self.headers_read(), self.line, &[], notes);
+            explain(alloc, stop, self.headers_read(), &[], self.line, &[], notes);
         }
         ended(alloc, end, self.line, out, output)
     }
@@ -271,7 +280,15 @@ impl Replay {
         ensures cause { ReplayCause result 0 0 (W.faults output.old) (W.faults output.new) }
         ensures stops { Ended (Err stop) self.now.line out.old.items result (W.faults output.old) (W.faults output.new) (W.written output.old) (W.written output.new) }
     {
-        explain(alloc, &stop, self.headers_read(), self.line, line, notes);
+        explain(
+            alloc,
+            &stop,
+            self.headers_read(),
+            self.types(),
+            self.line,
+            line,
+            notes,
+        );
         ended(alloc, Err(stop), self.line, out, output)
     }
 

@@ -23,7 +23,7 @@ use Rattle.ak_wire.specs.declared.envelope.Message.{Message}
 use Rattle.ak_wire.specs.declared.envelope.Message.TheVariants as message
 use Rattle.ak_node.specs.declared.node.State.{State}
 use Rattle.ak_node.specs.declared.node.NodeEvent.TheVariants as event
-use Rattle.ak_node.specs.Node.{Outcome, me_of, settled_of, margin_of, is_member, nothing, and_then, to_each, update_by, answer, does, does_for, unless_refused, around, shards_do, on_shards, promising, told_of, told_its_own, needed_others, answered, is_over_here, is_asked, answers_ask, takes_grant, has_handed_over, on_message, if_so, closes, forgets, told_active, becomes_active, activates, concludes, rule, is_for, running_step, step}
+use Rattle.ak_node.specs.Node.{Outcome, me_of, settled_of, margin_of, is_member, nothing, and_then, to_each, update_by, answer, does, does_for, unless_refused, around, shards_do, on_shards, promising, told_of, told_its_own, needed_others, answered, is_over_here, is_asked, answers_ask, takes_grant, has_handed_over, on_message, if_so, closes, forgets, told_active, becomes_active, activates, concludes, rule, is_for, running_step, step, is_entity_at}
 use Rattle.ak_node.specs.NodeContracts.{Does}
 use Rattle.ak_node.proofs.NodeLemmas.{stopped_is}
 use Rattle.ak_node.proofs.StepChanges.{step_is, step_changes}
@@ -112,8 +112,8 @@ alive_message from (message.BeginHandOff b shard number) n = alive_shards from (
 alive_message from (message.BeginHandOffAck b shard number) n = alive_shards from (message.BeginHandOffAck b shard number) n
 alive_message from (message.HandOff b shard number) n = alive_shards from (message.HandOff b shard number) n
 alive_message from (message.ShardStopped b shard number) n = alive_shards from (message.ShardStopped b shard number) n
-alive_message from (message.Forward entity payload) n = alive_shards from (message.Forward entity payload) n
-alive_message from (message.Offer entity payload) n = alive_work (me_of n) _ (offer_work (around n) entity payload n.sharding)
+alive_message from (message.Forward entity payload) n = alive_if (is_entity_at entity n) (on_shards from (message.Forward entity payload) n) (nothing n) (alive_shards from (message.Forward entity payload) n) refl
+alive_message from (message.Offer entity payload) n = alive_if (is_entity_at entity n) _ (nothing n) (alive_work (me_of n) _ (offer_work (around n) entity payload n.sharding)) refl
 
 -- ---- the closing
 alive_due : (a b c : Bool) → Alive (if_so a action.View ++ if_so b action.Stopped ++ if_so c action.Settled)

@@ -55,13 +55,16 @@ fn explain_fault<N: Notes>(alloc: Global, fault: &ConfigFault, notes: &mut N) {
                 b" is not among the listed ones",
             )
         }
-        ConfigFault::Repeated(key) => say_of(
-            alloc,
-            notes,
-            b"the value of ",
-            key,
-            b" has an address twice",
-        ),
+        ConfigFault::Repeated(key) => say_of(alloc, notes, b"the value of ", key, what_twice(key)),
         ConfigFault::NoMemory(_) => {}
+    }
+}
+
+// What stands twice at a key: an address, or the name of a type.
+fn what_twice(key: &Text) -> &'static [u8] {
+    if key.bytes() == b"types".as_slice() {
+        b" has a name twice"
+    } else {
+        b" has an address twice"
     }
 }

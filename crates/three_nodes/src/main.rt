@@ -6,7 +6,7 @@
 mod words;
 
 ghost use Rattle.std.specs.Prelude.{◌<◌, ◌^◌};
-ghost use Rattle.ak_node.specs.Sends.{ComesValid};
+ghost use Rattle.ak_node.specs.Sends.{ComesValid, IsOffered};
 ghost use Rattle.ak_wire.specs.Datagram.{IsValid};
 
 use ak_address::{Address, Unique, parse_unique};
@@ -116,6 +116,7 @@ fn step<W: Sink>(
 ) -> Result<(), Fault>
     requires few { node.old.state.steps < 2 ^ 62 }
     requires comes { ComesValid event }
+    requires offered { IsOffered node.old.state.membership.settings event }
 {
     let actions = node.step(alloc, event)?;
     take(alloc, node, &actions, post, output)

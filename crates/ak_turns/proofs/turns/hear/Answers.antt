@@ -1,6 +1,10 @@
 use Rattle.std.proofs.Common.{length, arith}
+use Rattle.ak_wire.proofs.DatagramFields.{spelled_valid}
 use Rattle.ak_turns.proofs.RunLemmas.{heard_packet, heard_bad}
 use Rattle.ak_turns.proofs.turns.hear.Goals as goal
+
+pub returns-in-Envelope-clause-come : goal.returns-in-Envelope-clause-come
+returns-in-Envelope-clause-come g c = let some = c.in-Envelope.ensures.some in spelled_valid some.0 c.in-Envelope.envelope some.1
 
 pub returns-in-Envelope-clause-hears : goal.returns-in-Envelope-clause-hears
 returns-in-Envelope-clause-hears g c =
