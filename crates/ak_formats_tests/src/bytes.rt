@@ -3,9 +3,9 @@ use crate::datagram;
 use ak_field::{Fields, WireFault};
 use std::alloc::{AllocError, Global};
 
-// A heartbeat from a:1#1 to b:1#1, in its 29 bytes.
+// A heartbeat from a:1#1 to b:1#1, in its 29 bytes, in the version that is written.
 pub(crate) static HEARTBEAT: [u8; 29] = [
-    65, 75, 67, 1, 4, 1, 97, 0, 1, 0, 0, 0, 0, 0, 0, 0, 1, 1, 98, 0, 1, 0, 0, 0, 0, 0, 0, 0, 1,
+    65, 75, 67, 2, 4, 1, 97, 0, 1, 0, 0, 0, 0, 0, 0, 0, 1, 1, 98, 0, 1, 0, 0, 0, 0, 0, 0, 0, 1,
 ];
 
 // What is read.
@@ -25,7 +25,7 @@ pub(crate) enum What {
 // Reads kind, sender and receiver.
 fn read_envelope(alloc: Global, bytes: &[u8], anybody: bool) -> Result<(), WireFault> {
     let mut fields = Fields::new(bytes);
-    let _kind = fields.header()?;
+    let _version_and_kind = fields.header()?;
     let _from = fields.unique(alloc)?;
     let _to = fields.receiver(alloc, anybody)?;
     Ok(())
@@ -47,7 +47,7 @@ pub(crate) fn outcome(alloc: Global, what: What, bytes: &[u8]) -> u8 {
         What::Version => number_of(&Fields::new(bytes).version(alloc)),
         What::Reports => number_of(&Fields::new(bytes).reports(alloc)),
         What::Parts => number_of(&Fields::new(bytes).parts(alloc)),
-        What::Entity => number_of(&Fields::new(bytes).entity(alloc)),
+        What::Entity => number_of(&Fields::new(bytes).entity(alloc, 2)),
     }
 }
 
@@ -79,10 +79,11 @@ pub(crate) fn changed(
 pub(crate) type Change = (usize, u8, u8);
 
 // Each bad field of a heartbeat, from its first byte to its last.
-pub(crate) static BAD_FIELDS: [Change; 17] = [
+pub(crate) static BAD_FIELDS: [Change; 18] = [
     (0, 66, 2),
     (2, 65, 2),
-    (3, 2, 3),
+    (3, 0, 3),
+    (3, 3, 3),
     (4, 0, 4),
     (4, 26, 4),
     (5, 0, 5),

@@ -1,4 +1,4 @@
-use crate::bytes::{BAD_FIELDS, HEARTBEAT, What, come_to, comes_to, has_short_beginnings};
+use crate::bytes::{BAD_FIELDS, HEARTBEAT, What, changed, come_to, comes_to, has_short_beginnings};
 use ak_address::{Address, Text, Unique, parse_address, parse_unique};
 use ak_wire::{Envelope, Message, decode, encode, valid};
 use std::alloc::{AllocError, Global};
@@ -29,7 +29,7 @@ const REPORT: [u8; 11] = [0, 7, 0, 0, 0, 0, 0, 0, 0, 1, 1];
 const ENTITY: [u8; 4] = [3, b'e', b'!', b'~'];
 
 // Whether it is valid, and is written as these bytes.
-fn is_written(alloc: Global, envelope: &Envelope, bytes: &[u8]) -> bool {
+pub(crate) fn is_written(alloc: Global, envelope: &Envelope, bytes: &[u8]) -> bool {
     if !valid(envelope) {
         return false;
     }
@@ -89,7 +89,7 @@ fn is_for_anybody(kind: u8) -> bool {
 
 // The header of a kind, a:1#1, and b:1#1 or anybody at b:1.
 fn push_head(kind: u8, out: &mut Vec<u8>) -> Result<(), AllocError> {
-    out.extend_from_slice(b"AKC\x01")?;
+    out.extend_from_slice(b"AKC\x02")?;
     out.push(kind)?;
     out.extend_from_slice(&A)?;
     if is_for_anybody(kind) {
@@ -198,6 +198,32 @@ fn each_kind_has_its_length(rt: HostRuntime) -> Result<(), Fail> {
     for kind in 1..26 {
         assert!(rt; kind_has_its_length(rt.alloc(), kind)?, "{kind}");
     }
+    Ok(())
+}
+
+// Whether the first version of these bytes is read, and written in the second.
+fn first_is_read(alloc: Global, bytes: &[u8]) -> Result<bool, AllocError> {
+    let first = changed(alloc, bytes, 3, 1)?;
+    match decode(alloc, &first) {
+        Ok(envelope) => Ok(answers(alloc, envelope, bytes).1),
+        Err(_) => Ok(false),
+    }
+}
+
+fn kind_is_read_in_the_first_version(alloc: Global, kind: u8) -> Result<bool, AllocError> {
+    let bytes = spelling(alloc, kind)?;
+    first_is_read(alloc, &bytes)
+}
+
+#[test]
+fn each_kind_of_the_first_version_is_read(rt: HostRuntime) -> Result<(), Fail> {
+    for kind in 1..26 {
+        assert!(rt;
+            kind_is_read_in_the_first_version(rt.alloc(), kind)?,
+            "{kind}"
+        );
+    }
+    assert!(rt; first_is_read(rt.alloc(), &HEARTBEAT)?);
     Ok(())
 }
 
@@ -342,9 +368,53 @@ fn named(alloc: Global, length: usize) -> Result<bool, Fail> {
 }
 
 #[test]
-fn an_entity_has_1_to_64_bytes(rt: HostRuntime) -> Result<(), Fail> {
+fn an_entity_has_1_to_97_bytes(rt: HostRuntime) -> Result<(), Fail> {
     assert!(rt; !named(rt.alloc(), 0)?);
     assert!(rt; named(rt.alloc(), 64)?);
-    assert!(rt; !named(rt.alloc(), 65)?);
+    assert!(rt; named(rt.alloc(), 97)?);
+    assert!(rt; !named(rt.alloc(), 98)?);
+    Ok(())
+}
+
+// The version of a message with a payload, its kind, how many bytes its entity has, and the fault.
+type Length = (u8, u8, u8, u8);
+
+static LENGTHS: [Length; 14] = [
+    (1, 25, 0, 5),
+    (1, 25, 1, 0),
+    (1, 25, 64, 0),
+    (1, 25, 65, 5),
+    (1, 25, 97, 5),
+    (1, 22, 64, 0),
+    (1, 22, 65, 5),
+    (2, 25, 0, 5),
+    (2, 25, 65, 0),
+    (2, 25, 97, 0),
+    (2, 25, 98, 5),
+    (2, 25, 255, 5),
+    (2, 22, 97, 0),
+    (2, 22, 98, 5),
+];
+
+fn push_length(length: &Length, out: &mut Vec<u8>) -> Result<(), AllocError> {
+    push_head(length.1, out)?;
+    out.push(length.2)?;
+    for _byte in 0..length.2 {
+        out.push(b'e')?;
+    }
+    out.extend_from_slice(&ZERO)
+}
+
+fn length_comes_to(alloc: Global, length: &Length) -> Result<bool, AllocError> {
+    let mut out = Vec::new(alloc);
+    push_length(length, &mut out)?;
+    comes_to(alloc, What::Datagram, &out, &(3, length.0, length.3))
+}
+
+#[test]
+fn each_version_has_its_longest_entity(rt: HostRuntime) -> Result<(), Fail> {
+    for (index, length) in LENGTHS.iter().enumerate() {
+        assert!(rt; length_comes_to(rt.alloc(), length)?, "{index}");
+    }
     Ok(())
 }

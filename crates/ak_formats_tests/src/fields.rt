@@ -49,14 +49,17 @@ fn a_message_for_anybody_has_no_uid(rt: HostRuntime) -> Result<(), Fail> {
 #[test]
 fn a_header_is_checked_alone(rt: HostRuntime) {
     assert!(rt; check_header(&HEARTBEAT).is_none());
-    let headers: [(&[u8], u8); 7] = [
+    let headers: [(&[u8], u8); 10] = [
         (b"AK", 1),
         (b"XX", 1),
         (b"AKX", 2),
         (b"AKC", 1),
-        (b"AKC\x02", 3),
+        (b"AKC\x00", 3),
+        (b"AKC\x03", 3),
         (b"AKC\x01", 1),
+        (b"AKC\x02", 1),
         (b"AKC\x01\x1a", 4),
+        (b"AKC\x02\x1a", 4),
     ];
     for (bytes, fault) in &headers {
         assert!(rt; check_header(bytes) == Some(*fault), "{fault}");
@@ -79,7 +82,7 @@ fn head(alloc: Global, unique: &Unique) -> Result<Vec<u8>, AllocError> {
 }
 
 fn begins_a_heartbeat(alloc: Global, unique: &Unique) -> Result<bool, AllocError> {
-    let written: &[u8] = b"AKC\x01\x04\x01a\0\x01\0\0\0\0\0\0\0\x01";
+    let written: &[u8] = b"AKC\x02\x04\x01a\0\x01\0\0\0\0\0\0\0\x01";
     Ok(head(alloc, unique)?.as_slice() == written && process_len(&unique.address) == 12)
 }
 
@@ -207,7 +210,7 @@ fn reports_have_a_first_fault(rt: HostRuntime) -> Result<(), Fail> {
 }
 
 fn reads_cart(alloc: Global, bytes: &[u8]) -> bool {
-    match Fields::new(bytes).entity(alloc) {
+    match Fields::new(bytes).entity(alloc, 2) {
         Ok(name) => name.bytes() == b"cart".as_slice(),
         Err(_) => false,
     }

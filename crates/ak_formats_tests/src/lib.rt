@@ -1,5 +1,6 @@
-//! What is read and written. Datagrams and their fields: each kind, whole, cut short and spoiled. The lines of a schedule; the
-//! events that a generator gives, beside events that were drawn by hand from the rules; and workers that go side by side.
+//! What is read and written. Datagrams and their fields: each kind, whole, cut short and spoiled, and as the release before this
+//! one wrote it. The lines of a schedule; the events that a generator gives, beside events that were drawn by hand from the rules;
+//! and workers that go side by side.
 #![tactic(auto)]
 
 #[cfg(test)]
@@ -14,5 +15,7 @@ mod generated;
 mod lines;
 #[cfg(test)]
 mod settings;
+#[cfg(test)]
+mod stored;
 #[cfg(test)]
 mod workers;

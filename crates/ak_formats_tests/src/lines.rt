@@ -1,4 +1,4 @@
-use ak_address::{Address, parse_address};
+use ak_address::{Address, Text, parse_address};
 use ak_schedule::{Draft, Event, LineFault, print_event, read_line};
 use ak_settings::{Settings, Strategy};
 use std::alloc::{AllocError, Global};
@@ -35,7 +35,7 @@ fn reads_as(alloc: Global, line: &str, wanted: &str) -> Result<bool, Fail> {
 }
 
 // A line, and what it reads as.
-static LINES: [(&str, &str); 26] = [
+static LINES: [(&str, &str); 27] = [
     ("start n1:1#1", "start n1:1#1"),
     ("  found  n1:01#0001 ", "found n1:1#1"),
     ("join n2:1#2 n1:00001", "join n2:1#2 n1:1"),
@@ -54,8 +54,13 @@ static LINES: [(&str, &str); 26] = [
         "offer n1:1#1 0123456789012345678901234567890123456789012345678901234567890123 0",
         "offer n1:1#1 0123456789012345678901234567890123456789012345678901234567890123 0",
     ),
+    // Which settings it is an entity of is not asked yet.
     (
-        "offer n1:1#1 01234567890123456789012345678901234567890123456789012345678901234 0",
+        "offer n1:1#1 0000000000000000000000000000000000000000000000000000000000000000000000000000000000000000000000000 0",
+        "offer n1:1#1 0000000000000000000000000000000000000000000000000000000000000000000000000000000000000000000000000 0",
+    ),
+    (
+        "offer n1:1#1 00000000000000000000000000000000000000000000000000000000000000000000000000000000000000000000000000 0",
         "S1",
     ),
     ("stop n1:1#1", "stop n1:1#1"),
@@ -355,6 +360,65 @@ static ROLES: [Later; 25] = [
     ),
 ];
 
+// Optional headers after the nine, what came of the last one, and the types then.
+type Typed = (&'static [&'static str], Read, &'static [&'static str]);
+
+static TYPES: [Typed; 23] = [
+    (&["types order"], Read::Header, &["order"]),
+    (
+        &["  types  user   order "],
+        Read::Header,
+        &["user", "order"],
+    ),
+    (&["types Az-_09"], Read::Header, &["Az-_09"]),
+    (
+        &["types a b c d e f g h"],
+        Read::Header,
+        &["a", "b", "c", "d", "e", "f", "g", "h"],
+    ),
+    (&["types a b c d e f g h i"], Read::Refused, &[]),
+    (
+        &["types 01234567890123456789012345678901"],
+        Read::Header,
+        &["01234567890123456789012345678901"],
+    ),
+    (
+        &["types 012345678901234567890123456789012"],
+        Read::Refused,
+        &[],
+    ),
+    (&["types"], Read::Refused, &[]),
+    (&["types order order"], Read::Refused, &[]),
+    (&["types order/1"], Read::Refused, &[]),
+    (&["types order.1"], Read::Refused, &[]),
+    (&["types order,user"], Read::Refused, &[]),
+    (&["types a:1"], Read::Refused, &[]),
+    (&["type order"], Read::None, &[]),
+    (&["Types order"], Read::None, &[]),
+    (&["types\torder"], Read::None, &[]),
+    // Twice, and out of order.
+    (&["types order", "types order"], Read::Refused, &["order"]),
+    (&["types order", "role n1:1"], Read::Refused, &["order"]),
+    (&["types order", "weakly 3"], Read::Refused, &["order"]),
+    (
+        &["weakly 3", "role n1:1", "types order"],
+        Read::Header,
+        &["order"],
+    ),
+    (
+        &["weakly 3", "types order", "weakly 3"],
+        Read::Refused,
+        &["order"],
+    ),
+    // What is refused leaves nothing behind.
+    (
+        &["types user user", "types order"],
+        Read::Header,
+        &["order"],
+    ),
+    (&["types user user", "role n1:1"], Read::Header, &[]),
+];
+
 // Nothing is asked of a draft without its nine headers, or of a line that is too long.
 fn read_later(alloc: Global, draft: &mut Draft, line: &str) -> Read {
     let line = line.as_bytes();
@@ -419,6 +483,43 @@ fn goes_on(alloc: Global, later: &Later) -> Result<bool, Fail> {
         Ok(settings) => Ok(last == later.1 && are_so(alloc, &settings, later)?),
         Err(_) => Ok(false),
     }
+}
+
+// Whether these are the types, in this order.
+fn are_types(types: &[Text], names: &[&str]) -> bool {
+    for (index, name) in names.iter().enumerate() {
+        let Some(each) = types.get(index) else {
+            return false;
+        };
+        if each.bytes() != name.as_bytes() {
+            return false;
+        }
+    }
+    types.len() == names.len()
+}
+
+// Whether a copy of the settings has these types, with ten shards for each.
+fn are_typed(alloc: Global, settings: &Settings, names: &[&str]) -> Result<bool, Fail> {
+    let copy = settings.copy(alloc)?;
+    let many = copy.number_of_shards() as usize;
+    Ok(are_types(&copy.types, names) && many / 10 == names.len().max(1))
+}
+
+fn has_types(alloc: Global, typed: &Typed) -> Result<bool, Fail> {
+    let mut draft = draft_with(alloc, HEADER_LINES[0])?;
+    let last = last_read(alloc, &mut draft, typed.0);
+    match draft.finish() {
+        Ok(settings) => Ok(last == typed.1 && are_typed(alloc, &settings, typed.2)?),
+        Err(_) => Ok(false),
+    }
+}
+
+#[test]
+fn types_come_last(rt: HostRuntime) -> Result<(), Fail> {
+    for (index, typed) in TYPES.iter().enumerate() {
+        assert!(rt; has_types(rt.alloc(), typed)?, "{index}");
+    }
+    Ok(())
 }
 
 #[test]

@@ -425,7 +425,7 @@ fn forwarded(alloc: Global, node: &mut Node) -> Result<Actions, Fail> {
 fn offered(alloc: Global, node: &mut Node) -> Result<Actions, Fail> {
     few_steps(node)?;
     let name = Text::from_bytes(alloc, b"e")?;
-    if is_entity(name.bytes()) {
+    if is_entity(name.bytes()) && node.entity_ok(name.bytes()) {
         let event = NodeEvent::Offer(EntityId::of(name), 5);
         return Ok(node.step(alloc, event)?);
     }

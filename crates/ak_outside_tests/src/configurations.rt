@@ -151,7 +151,7 @@ static WHOLE: [(&str, &str, &str); 41] = [
 ];
 
 // What follows the needed keys, and the first fault then.
-static FURTHER: [(&str, &str, &str); 79] = [
+static FURTHER: [(&str, &str, &str); 99] = [
     ("quorum = 0", "C5", "quorum"),
     ("quorum = 33", "C5", "quorum"),
     ("quorum = \"3\"", "C4", "quorum"),
@@ -228,6 +228,46 @@ static FURTHER: [(&str, &str, &str); 79] = [
     ("role = 1\nweakly = 1000001", "C5", "weakly"),
     ("role = 1\nroles = 1", "C3", "roles"),
     ("Role = [\"a:1\"]", "C3", "Role"),
+    ("types = [\"order\"]", "", ""),
+    ("types = [\"order\", \"user\"]", "C5", "types"),
+    ("shards = 500\ntypes = [\"order\", \"user\"]", "", ""),
+    ("shards = 501\ntypes = [\"order\", \"user\"]", "C5", "types"),
+    ("types = 1", "C4", "types"),
+    ("types = \"order\"", "C4", "types"),
+    ("types = []", "C5", "types"),
+    ("types = [1]", "C4", "types"),
+    ("types = [\"\", 1]", "C4", "types"),
+    ("types = [\"\"]", "C5", "types"),
+    ("types = [\"order/1\"]", "C5", "types"),
+    (
+        "shards = 1\ntypes = [\"a\", \"b\", \"c\", \"d\", \"e\", \"f\", \"g\", \"h\"]",
+        "",
+        "",
+    ),
+    (
+        "shards = 1\ntypes = [\"a\", \"b\", \"c\", \"d\", \"e\", \"f\", \"g\", \"h\", \"i\"]",
+        "C5",
+        "types",
+    ),
+    (
+        "shards = 1\ntypes = [\"Az-_09\", \"01234567890123456789012345678901\"]",
+        "",
+        "",
+    ),
+    (
+        "shards = 1\ntypes = [\"012345678901234567890123456789012\"]",
+        "C5",
+        "types",
+    ),
+    ("shards = 1\ntypes = [\"a\", \"b c\"]", "C5", "types"),
+    ("shards = 1\ntypes = [\"a\", \"a\"]", "C8", "types"),
+    ("types = [\"a\", \"a\"]", "C5", "types"),
+    (
+        "role = [\"a:1\", \"a:1\"]\nshards = 1\ntypes = [\"a\", \"a\"]",
+        "C8",
+        "role",
+    ),
+    ("types = 1\nrole = 1", "C4", "role"),
     ("limit = 0\nmargin = 0", "C5", "margin"),
     ("limit = true\nmargin = 0", "C5", "margin"),
     ("margin = 0\nlimits = 1", "C3", "limits"),
@@ -395,7 +435,7 @@ fn has_defaults(config: &Config) -> bool {
     let times = settings.margin == 20 && settings.deadline == 5 && settings.stable == 20;
     let sizes = settings.shards == 1000 && settings.buffer == 100_000;
     let moves = settings.threshold == 1 && settings.limit == 3 && settings.weakly == 0;
-    times && sizes && moves
+    times && sizes && moves && settings.types.is_empty()
 }
 
 fn runs_by_default(config: &Config) -> bool {
@@ -425,7 +465,7 @@ fn ports(addresses: &[Address]) -> [u16; 2] {
 }
 
 const ALL_SAID: &str =
-    "self = \"b:2\"\nuid = 7\nlisted = [\"a:1\", \"b:2\"]\nstrategy = \"static-quorum\"\nquorum = 2\nmargin = 11\ndeadline = 12\nstable = 13\nshards = 14\nbuffer = 15\nthreshold = 16\nlimit = 17\ntick-ms = 50\nseed = 0\nfound = true\njoin = \"a:1\"\nweakly = 18\nrole = [\"b:2\", \"a:1\"]\n";
+    "self = \"b:2\"\nuid = 7\nlisted = [\"a:1\", \"b:2\"]\nstrategy = \"static-quorum\"\nquorum = 2\nmargin = 11\ndeadline = 12\nstable = 13\nshards = 14\nbuffer = 15\nthreshold = 16\nlimit = 17\ntick-ms = 50\nseed = 0\nfound = true\njoin = \"a:1\"\nweakly = 18\nrole = [\"b:2\", \"a:1\"]\ntypes = [\"user\", \"order\"]\n";
 
 fn has_numbers(config: &Config) -> bool {
     let settings = &config.settings;
@@ -435,6 +475,17 @@ fn has_numbers(config: &Config) -> bool {
     times && sizes && moves
 }
 
+// The names stand in the order of the document, and each type has its shards.
+fn has_user_and_order(settings: &Settings) -> bool {
+    match (settings.types.get(0), settings.types.get(1)) {
+        (Some(first), Some(second)) => {
+            let named = is_key(first, "user") && is_key(second, "order");
+            named && settings.types.len() == 2 && settings.number_of_shards() == 28
+        }
+        _ => false,
+    }
+}
+
 #[test]
 fn what_is_said_is_read(rt: HostRuntime) -> Result<(), Fail> {
     let config = read_config(rt.alloc(), ALL_SAID.as_bytes())?;
@@ -442,6 +493,7 @@ fn what_is_said_is_read(rt: HostRuntime) -> Result<(), Fail> {
     assert!(rt; config.me.uid == 7 && config.me.address.port == 2);
     assert!(rt; ports(&config.settings.listed) == [1, 2]);
     assert!(rt; ports(&config.settings.role) == [2, 1]);
+    assert!(rt; has_user_and_order(&config.settings));
     assert!(rt; config.settings.strategy == Strategy::StaticQuorum(2));
     assert!(rt; config.tick_ms == 50 && config.seed == 0 && config.found);
     assert!(rt; config.join.is_some());

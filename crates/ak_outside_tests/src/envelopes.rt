@@ -7,7 +7,7 @@ use std::test::Fail;
 
 // A heartbeat from a:1#1 to b:1#2.
 const HEARTBEAT: [u8; 29] = [
-    65, 75, 67, 1, 4, 1, 97, 0, 1, 0, 0, 0, 0, 0, 0, 0, 1, 1, 98, 0, 1, 0, 0, 0, 0, 0, 0, 0, 2,
+    65, 75, 67, 2, 4, 1, 97, 0, 1, 0, 0, 0, 0, 0, 0, 0, 1, 1, 98, 0, 1, 0, 0, 0, 0, 0, 0, 0, 2,
 ];
 
 fn heartbeat(alloc: Global) -> Result<Envelope, Fail> {

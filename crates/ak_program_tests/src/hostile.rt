@@ -7,6 +7,9 @@ use std::test::Fail;
 const FOUNDER: &[u8] =
     b"self = \"a:1\"\nuid = 1\nlisted = [\"a:1\", \"b:1\"]\nstrategy = \"static-quorum\"\nquorum = 1\nfound = true\ntick-ms = 100\nmargin = 2\nshards = 10\n";
 
+const TYPED: &[u8] =
+    b"self = \"a:1\"\nuid = 1\nlisted = [\"a:1\", \"b:1\"]\nstrategy = \"static-quorum\"\nquorum = 1\nfound = true\ntick-ms = 100\nmargin = 2\nshards = 10\ntypes = [\"order\", \"user\"]\n";
+
 const NEWCOMER: &[u8] =
     b"self = \"a:1\"\nuid = 1\nlisted = [\"a:1\", \"b:1\"]\nstrategy = \"static-quorum\"\nquorum = 1\ntick-ms = 100\nmargin = 2\n";
 
@@ -37,6 +40,38 @@ const ASK: &[u8] =
 const OFFER: &[u8] =
     b"AKC\x01\x19\x01x\x00\x01\x00\x00\x00\x00\x00\x00\x00\x01\x01a\x00\x01\x00\x00\x00\x00\x00\x00\x00\x00\x01e\x00\x00\x00\x00\x00\x00\x00\x05";
 
+// The same, passed on.
+const FORWARD: &[u8] =
+    b"AKC\x01\x16\x01x\x00\x01\x00\x00\x00\x00\x00\x00\x00\x01\x01a\x00\x01\x00\x00\x00\x00\x00\x00\x00\x01\x01e\x00\x00\x00\x00\x00\x00\x00\x05";
+
+// In the second version: five for the type order, without an id.
+const OFFER_OF_NO_ID: &[u8] =
+    b"AKC\x02\x19\x01x\x00\x01\x00\x00\x00\x00\x00\x00\x00\x01\x01a\x00\x01\x00\x00\x00\x00\x00\x00\x00\x00\x06order/\x00\x00\x00\x00\x00\x00\x00\x05";
+
+// For order/e.
+const TYPED_OFFER: &[u8] =
+    b"AKC\x02\x19\x01x\x00\x01\x00\x00\x00\x00\x00\x00\x00\x01\x01a\x00\x01\x00\x00\x00\x00\x00\x00\x00\x00\x07order/e\x00\x00\x00\x00\x00\x00\x00\x05";
+
+// And in the first version, passed on, for user/e.
+const TYPED_FORWARD: &[u8] =
+    b"AKC\x01\x16\x01x\x00\x01\x00\x00\x00\x00\x00\x00\x00\x01\x01a\x00\x01\x00\x00\x00\x00\x00\x00\x00\x01\x06user/e\x00\x00\x00\x00\x00\x00\x00\x05";
+
+// Five for an id of 64 bytes.
+const LONGEST_ID: &[u8] =
+    b"AKC\x02\x19\x01x\x00\x01\x00\x00\x00\x00\x00\x00\x00\x01\x01a\x00\x01\x00\x00\x00\x00\x00\x00\x00\x00@eeeeeeeeeeeeeeeeeeeeeeeeeeeeeeeeeeeeeeeeeeeeeeeeeeeeeeeeeeeeeeee\x00\x00\x00\x00\x00\x00\x00\x05";
+
+// For 65 bytes.
+const LONG_OFFER: &[u8] =
+    b"AKC\x02\x19\x01x\x00\x01\x00\x00\x00\x00\x00\x00\x00\x01\x01a\x00\x01\x00\x00\x00\x00\x00\x00\x00\x00Aeeeeeeeeeeeeeeeeeeeeeeeeeeeeeeeeeeeeeeeeeeeeeeeeeeeeeeeeeeeeeeeee\x00\x00\x00\x00\x00\x00\x00\x05";
+
+// The same, passed on.
+const LONG_FORWARD: &[u8] =
+    b"AKC\x02\x16\x01x\x00\x01\x00\x00\x00\x00\x00\x00\x00\x01\x01a\x00\x01\x00\x00\x00\x00\x00\x00\x00\x01Aeeeeeeeeeeeeeeeeeeeeeeeeeeeeeeeeeeeeeeeeeeeeeeeeeeeeeeeeeeeeeeeee\x00\x00\x00\x00\x00\x00\x00\x05";
+
+// And in the first version, in which an entity has 64 bytes at most.
+const LONG_IN_FIRST: &[u8] =
+    b"AKC\x01\x19\x01x\x00\x01\x00\x00\x00\x00\x00\x00\x00\x01\x01a\x00\x01\x00\x00\x00\x00\x00\x00\x00\x00Aeeeeeeeeeeeeeeeeeeeeeeeeeeeeeeeeeeeeeeeeeeeeeeeeeeeeeeeeeeeeeeeee\x00\x00\x00\x00\x00\x00\x00\x05";
+
 // The heartbeat without its last byte.
 const CUT: &[u8] =
     b"AKC\x01\x04\x01x\x00\x01\x00\x00\x00\x00\x00\x00\x00\x01\x01a\x00\x01\x00\x00\x00\x00\x00\x00\x00";
@@ -45,9 +80,9 @@ const CUT: &[u8] =
 const OTHER_MAGIC: &[u8] =
     b"BKC\x01\x04\x01x\x00\x01\x00\x00\x00\x00\x00\x00\x00\x01\x01a\x00\x01\x00\x00\x00\x00\x00\x00\x00\x01";
 
-// Of the second version.
+// Of a version that there is not.
 const OTHER_VERSION: &[u8] =
-    b"AKC\x02\x04\x01x\x00\x01\x00\x00\x00\x00\x00\x00\x00\x01\x01a\x00\x01\x00\x00\x00\x00\x00\x00\x00\x01";
+    b"AKC\x03\x04\x01x\x00\x01\x00\x00\x00\x00\x00\x00\x00\x01\x01a\x00\x01\x00\x00\x00\x00\x00\x00\x00\x01";
 
 // Of a kind that there is not.
 const UNKNOWN_KIND: &[u8] =
@@ -124,7 +159,7 @@ struct Case {
     taken: usize,
 }
 
-static CASES: [Case; 9] = [
+static CASES: [Case; 11] = [
     Case {
         config: FOUNDER,
         ticks: 1,
@@ -274,6 +309,48 @@ static CASES: [Case; 9] = [
         text: b"1 found a:1#1\n  update 1 joined a:1#1\n  view a:1#1=1 | a:1#1 joining | -\n2 tick\n  update 2 up a:1#1 1\n  view a:1#1=2 | a:1#1 up 1 | -\n  settled a:1#1=2\n3 tick\n  active 1\n4 packet\n  at a:1#1 release from x:1#1\n5 tick\n6 packet\n  at a:1#1 ask from x:1#1\n  send 1 granted to x:1#1\n7 packet\n  at a:1#1 old from x:1#1\n8 tick\n9 packet\n  at a:1#1 host-shard from x:1#1\n  host 3 4611686018427387904\n  send 2 shard-started to x:1#1\n10 packet\n  at a:1#1 host-shard from x:1#1\n11 packet\n  at a:1#1 hand-off from x:1#1\n  gone 3\n  send 3 shard-stopped to x:1#1\n12 packet\n  at a:1#1 host-shard from x:1#1\n13 tick\nsteps 13\npackets 3\n",
         asked: 3,
         taken: 3,
+    },
+    // What is no entity is passed over: with types, and without.
+    Case {
+        config: TYPED,
+        ticks: 2,
+        packets: &[
+            b"",
+            OFFER,
+            FORWARD,
+            OFFER_OF_NO_ID,
+            TYPED_OFFER,
+            TYPED_FORWARD,
+            b"",
+        ],
+        readings: &[0, 100, 100, 100, 100, 100, 100, 200],
+        bind: &[],
+        send: &[],
+        receive: &[],
+        status: Status::Done,
+        text: b"1 found a:1#1\n  update 1 joined a:1#1\n  view a:1#1=1 | a:1#1 joining | -\n2 tick\n  update 2 up a:1#1 1\n  view a:1#1=2 | a:1#1 up 1 | -\n  settled a:1#1=2\n3 packet\n  at a:1#1 offer from x:1#1\n4 packet\n  at a:1#1 forward from x:1#1\n5 packet\n  at a:1#1 offer from x:1#1\n6 packet\n  at a:1#1 offer from x:1#1\n  buffer order/e 5\n7 packet\n  at a:1#1 forward from x:1#1\n  buffer user/e 5\n8 tick\n  send 1 get-home to a:1#1\n  send 2 get-home to a:1#1\n  active 1\nsteps 8\npackets 2\n",
+        asked: 2,
+        taken: 2,
+    },
+    Case {
+        config: FOUNDER,
+        ticks: 2,
+        packets: &[
+            b"",
+            LONG_OFFER,
+            LONG_FORWARD,
+            LONGEST_ID,
+            LONG_IN_FIRST,
+            b"",
+        ],
+        readings: &[0, 100, 100, 100, 100, 100, 200],
+        bind: &[],
+        send: &[],
+        receive: &[],
+        status: Status::Done,
+        text: b"1 found a:1#1\n  update 1 joined a:1#1\n  view a:1#1=1 | a:1#1 joining | -\n2 tick\n  update 2 up a:1#1 1\n  view a:1#1=2 | a:1#1 up 1 | -\n  settled a:1#1=2\n3 packet\n  at a:1#1 offer from x:1#1\n4 packet\n  at a:1#1 forward from x:1#1\n5 packet\n  at a:1#1 offer from x:1#1\n  buffer eeeeeeeeeeeeeeeeeeeeeeeeeeeeeeeeeeeeeeeeeeeeeeeeeeeeeeeeeeeeeeee 5\n6 bad W5\n7 tick\n  send 1 get-home to a:1#1\n  active 1\nsteps 7\npackets 1\n",
+        asked: 1,
+        taken: 1,
     },
 ];
 

@@ -1,3 +1,6 @@
+ghost use Rattle.std.specs.Prelude.{◌≤◌};
+
+use crate::coordinator::settings;
 use ak_address::{Text, Unique, parse_unique};
 use ak_member::{Members, Status};
 use ak_region::{Hosting, Offered, Region};
@@ -135,10 +138,20 @@ static LATE_ORDERS: [(Turn, u8); 9] = [
     (Turn::HandOff(7, 3), b'-'),
 ];
 
+// A region of 10 shards, in which so many messages may wait.
+fn region_of(alloc: Global, buffer: u32) -> Result<Region, Fail>
+    requires least { 1 ≤ buffer }
+    requires most { buffer ≤ 100000 }
+{
+    let mut settings = settings(alloc)?;
+    settings.buffer = buffer;
+    Ok(Region::new(alloc, &settings)?)
+}
+
 #[test]
 fn late_orders_are_ignored(rt: HostRuntime) -> Result<(), Fail> {
     let alloc = rt.alloc();
-    let mut region = Region::new(alloc, 10, 2)?;
+    let mut region = region_of(alloc, 2)?;
     assert!(rt; all_go(alloc, &mut region, &LATE_ORDERS)?);
     assert!(rt; reports(alloc, &region, &[(6, 1, false), (7, 4, true)])?);
     assert!(rt; region.hosts_any());
@@ -164,7 +177,7 @@ static HANDED_OFF: [(Turn, u8); 12] = [
 #[test]
 fn messages_wait_during_a_hand_off(rt: HostRuntime) -> Result<(), Fail> {
     let alloc = rt.alloc();
-    let mut region = Region::new(alloc, 10, 2)?;
+    let mut region = region_of(alloc, 2)?;
     assert!(rt; all_go(alloc, &mut region, &HANDED_OFF)?);
     assert!(rt; wants(alloc, &region, &[])?);
     Ok(())
@@ -203,7 +216,7 @@ fn all_go_and_want(
 #[test]
 fn messages_wait_until_the_home_is_known(rt: HostRuntime) -> Result<(), Fail> {
     let alloc = rt.alloc();
-    let mut region = Region::new(alloc, 10, 100)?;
+    let mut region = region_of(alloc, 100)?;
     assert!(rt; all_go_and_want(alloc, &mut region, &UNKNOWN_HOMES)?);
     Ok(())
 }
@@ -228,7 +241,7 @@ fn members_with(alloc: Global, who: &str) -> Result<Members, Fail> {
 fn homes_that_are_no_members_are_forgotten(rt: HostRuntime) -> Result<(), Fail> {
     let alloc = rt.alloc();
     let members = members_with(alloc, "b:1#1")?;
-    let mut region = Region::new(alloc, 10, 1)?;
+    let mut region = region_of(alloc, 1)?;
     assert!(rt; forgets(alloc, &mut region, &members)?);
     Ok(())
 }
@@ -236,7 +249,7 @@ fn homes_that_are_no_members_are_forgotten(rt: HostRuntime) -> Result<(), Fail> 
 #[test]
 fn a_buffer_grows_to_what_may_wait(rt: HostRuntime) -> Result<(), Fail> {
     let alloc = rt.alloc();
-    let mut region = Region::new(alloc, 10, 40)?;
+    let mut region = region_of(alloc, 40)?;
     for payload in 0..40 {
         assert_eq!(rt; offer(alloc, &mut region, "cart", payload)?, b'w');
     }
