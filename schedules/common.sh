@@ -3,7 +3,7 @@
 # The first words of the optional headers, in their order: lines that may stand after the nine headers and before the first
 # event. (shellcheck does not see that who sources this file reads it.)
 # shellcheck disable=SC2034
-optional_headers='weakly role'
+optional_headers='weakly role types'
 
 # complain TEXT: says on standard error what is wrong, in the name of the command, and ends with status 1.
 complain() {

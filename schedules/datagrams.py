@@ -21,8 +21,8 @@ def at_uid(one, uid):
     return one[:-8] + pack(">Q", uid)
 
 
-def datagram(kind, sender, receiver, body=b""):
-    return b"AKC\x01" + bytes([kind]) + sender + (at_uid(receiver, 0) if kind in TO_ADDRESS else receiver) + body
+def datagram(kind, sender, receiver, body=b"", version=2):
+    return b"AKC" + bytes([version, kind]) + sender + (at_uid(receiver, 0) if kind in TO_ADDRESS else receiver) + body
 
 
 def part(who, count, state=2, up_number=1, seen=1, row_number=0, subjects=b""):
